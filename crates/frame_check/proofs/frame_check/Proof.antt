@@ -1,0 +1,70 @@
+-- `frame_check::frame_check` meets its contract. The loop's invariant: what is left to divide, from the running remainder on,
+-- has the remainder of the whole body. Assumes nothing.
+use mathlib.Core.Path.{_≡_, refl, sym, ap, _∙_}
+use Prim.Native.Nat.{ℕ, _+_, _-_, _<_, _≤_}
+use lib.ListN.{length, drop}
+use denote.Ref.{now}
+use Rattle.binary_polynomial.specs.Bits.{bits}
+use Rattle.binary_polynomial.specs.Division.{divided}
+use Rattle.frame_check.specs.Check.{frameCheck}
+use Rattle.frame_check.proofs.Step.{octet-first, none-left}
+use borrow.Author.Needs.{needs}
+use Rattle.frame_check.proofs.frame_check.Statement.{statement}
+use Rattle.frame_check.proofs.frame_check.Tie as tie
+
+abbrev Inv-loop : tie.InvT-loop
+Inv-loop body table check₀ i₀ check i =
+    (i ≤ length body) × (check < 65536) × (divided check (bits (drop i body)) ≡ frameCheck body)
+
+abbrev μ-loop : tie.MeasureT-loop
+μ-loop body table check₀ i₀ check i = length body - i
+
+table-requires : tie.Need-table-requires Inv-loop μ-loop
+table-requires c κs = search needs
+
+loop-holds : tie.Need-loop-holds Inv-loop μ-loop
+unfolding frameCheck
+loop-holds c = (search needs, search needs, refl)
+
+shared-slice-read-next-check : tie.Need-shared-slice-read-next-check Inv-loop μ-loop
+shared-slice-read-next-check c = search needs
+
+next-check-requires : tie.Need-next-check-requires Inv-loop μ-loop
+next-check-requires c κs = search needs
+
+add-i : tie.Need-add-i Inv-loop μ-loop
+add-i c = search needs
+
+loop-less : tie.Need-loop-less Inv-loop μ-loop
+loop-less c = search needs
+
+loop-again : tie.Need-loop-again Inv-loop μ-loop
+loop-again c =
+    let l = c .before .before .before .before .loop in
+    let body = now (c .before .before .before .before .before .before .before .args .body) in (
+      search needs,
+      search needs,
+      ap (λ (r : ℕ). divided r (bits (drop (l .i + 1) body))) (c .next-check .ensures)
+          ∙ sym (octet-first (l .check) body (l .i) (c .before .before .before .loop-test .taken))
+          ∙ l .inv .2,
+    )
+
+returns : tie.Need-returns Inv-loop μ-loop
+returns c =
+    let l = c .before .loop in
+    sym (none-left (l .check) _ (l .i) (c .loop-test .left)) ∙ l .inv .2
+
+pub frame-check-spec : {M : Type 1} → statement M
+frame-check-spec =
+    tie.close
+    (tie.spec
+    Inv-loop
+    μ-loop
+    table-requires
+    loop-holds
+    shared-slice-read-next-check
+    next-check-requires
+    add-i
+    loop-less
+    loop-again
+    returns)

@@ -1,0 +1,30 @@
+-- `frame_check::next_check_pair` meets its contract, by the law of the two octets. Assumes nothing.
+use native.Mathlib.Omega.{arith}
+use Rattle.frame_check.proofs.Pair.{pair-step, quotient-lt, pair-lt}
+use borrow.Author.Needs.{needs}
+use Rattle.frame_check.proofs.next_check_pair.Statement.{statement}
+use Rattle.frame_check.proofs.next_check_pair.Tie as tie
+
+mul-left : tie.Need-mul-left
+mul-left c = omega (arith, quotient-lt (c .args .check) (c .fits .check .fits))
+
+mul-left-2 : tie.Need-mul-left-2
+mul-left-2 c = omega (arith, quotient-lt (c .args .check) (c .fits .check .fits))
+
+mul-result : tie.Need-mul-result
+mul-result c = search needs
+
+add-result : tie.Need-add-result
+add-result c = search needs
+
+cast-result : tie.Need-cast-result
+cast-result c =
+    record { fits = pair-lt (c .args .check) (c .args .first) (c .args .second) (c .fits .first .fits) (c .fits .second .fits) }
+
+returns : tie.Need-returns
+returns c =
+    pair-step (c .args .check) (c .args .first) (c .args .second) (c .fits .check .fits) (c .fits .first .fits) (c .fits .second .fits)
+
+pub next-check-pair-spec : {M : Type 1} → statement M
+next-check-pair-spec =
+    tie.close (tie.spec mul-left mul-left-2 mul-result add-result cast-result returns)

@@ -1,0 +1,15 @@
+-- `frame_check::table` meets its contract: antt computes the rule at all 256 entries, once. Assumes nothing.
+use mathlib.Core.Path.{refl}
+use Rattle.binary_polynomial.specs.Bits.{bitsOf}
+use Rattle.binary_polynomial.specs.Division.{divided, step, reduced}
+use Rattle.frame_check.specs.Check.{tableEntry}
+use Rattle.frame_check.proofs.Step.{carried}
+use Rattle.frame_check.proofs.table.Statement.{statement}
+use Rattle.frame_check.proofs.table.Tie as tie
+
+returns : tie.Need-returns
+unfolding tableEntry divided bitsOf step reduced
+returns c = carried _ refl
+
+pub table-spec : {M : Type 1} → statement M
+table-spec = tie.close (tie.spec returns)
