@@ -1,0 +1,4 @@
+pub mod Stuffing
+pub mod Frame
+pub mod Unstuffing
+pub mod Stretch

@@ -1,0 +1,1 @@
+// The frame's format on the line: definitions in specs/, their laws in proofs/. It holds no code.

@@ -1,0 +1,4 @@
+pub mod ToPut
+pub mod Rest
+pub mod Length
+pub mod Due

@@ -1,0 +1,1 @@
+// What whole lists of calls to the frame writer put on the line: stated in specs/, proved in proofs/. It holds no code.
