@@ -1,0 +1,3 @@
+pub mod BitNumbers
+pub mod Strength
+pub mod Limits
