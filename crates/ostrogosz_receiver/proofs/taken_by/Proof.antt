@@ -1,0 +1,29 @@
+-- `ostrogosz_receiver::taken_by` meets its contract: what fits before the call fits behind it. Assumes nothing.
+use Rattle.ostrogosz_receiver.proofs.Small.{fitting-slice}
+use borrow.Author.Needs.{needs}
+use Rattle.ostrogosz_receiver.proofs.taken_by.Statement.{statement}
+use Rattle.ostrogosz_receiver.proofs.taken_by.Tie as tie
+
+rest-in-requires : tie.Need-rest-in-requires
+rest-in-requires c κs = search needs
+
+counts-in-requires : tie.Need-counts-in-requires
+counts-in-requires c κs = search needs
+
+receive-slice-requires : tie.Need-receive-slice-requires
+receive-slice-requires c κs = search needs
+
+same-length : tie.Need-same-length
+same-length c = search needs
+
+returns : tie.Need-returns
+returns c =
+    let called = c .before .before in
+    let counts = called .before .before .before .counts-in .ensures in
+    let rest = called .before .before .before .before .rest-in .ensures in
+    fitting-slice _ _ _ _ _ _ _ (rw (rest .0) at (rest .1)) (rw (rest .0, counts) at (called .receive-slice .ensures))
+
+pub taken-by-spec : {M : Type 1} → statement M
+taken-by-spec =
+    tie.close
+    (tie.spec rest-in-requires counts-in-requires receive-slice-requires same-length returns)

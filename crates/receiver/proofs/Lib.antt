@@ -1,0 +1,4 @@
+pub mod Account
+pub mod Copy
+pub mod Flag
+pub mod Slice

@@ -1,0 +1,23 @@
+-- `receiver::put` meets its contract. Assumes nothing.
+use borrow.Author.Tests.{lt-ltb, le-ltb}
+use Rattle.receiver.specs.Step.{storing}
+use borrow.Author.Needs.{needs}
+use Rattle.receiver.proofs.put.Statement.{statement}
+use Rattle.receiver.proofs.put.Tie as tie
+
+element-write-store : tie.Need-element-write-store
+element-write-store c = search needs
+
+add-t10 : tie.Need-add-t10
+add-t10 c = search needs
+
+returns : tie.Need-returns
+unfolding storing
+returns c = simp (lt-ltb _ _ (c .if1 .taken))
+
+returns-2 : tie.Need-returns-2
+unfolding storing
+returns-2 c = simp (le-ltb _ _ (c .if1 .left))
+
+pub put-spec : {M : Type 1} → statement M
+put-spec = tie.close (tie.spec element-write-store add-t10 returns returns-2)

@@ -1,0 +1,32 @@
+-- `receiver::receive_flag` meets its contract: the answer by `close`, the account by `count_flag`. Assumes nothing.
+use mathlib.Core.Path.{refl, ap, _∙_}
+use denote.Ref.{now}
+use Rattle.frame_format.specs.Stretch.{Verdict}
+use Rattle.receiver.specs.Step.{stateAfter, countsAfter, answerDue, countedFlag}
+use borrow.Author.Needs.{needs}
+use Rattle.receiver.proofs.receive_flag.Statement.{statement}
+use Rattle.receiver.proofs.receive_flag.Tie as tie
+
+close-requires : tie.Need-close-requires
+close-requires c κs = search needs
+
+count-flag-requires : tie.Need-count-flag-requires
+count-flag-requires c κs = search needs
+
+same-length : tie.Need-same-length
+same-length c = search needs
+
+returns : tie.Need-returns
+unfolding stateAfter countsAfter answerDue
+returns c =
+    let a = c .before .before .before .before .before .before .before .before .args in
+    let e = c .before .before .before .before .close .ensures in
+    record {
+      state = refl;
+      account = c .count-flag .ensures (now (a .store)) ∙ ap (λ (v : Verdict). countedFlag v (a .counts)) (e .means);
+      answers = e .answers;
+      puts = e .puts;
+    }
+
+pub receive-flag-spec : {M : Type 1} → statement M
+receive-flag-spec = tie.close (tie.spec close-requires count-flag-requires same-length returns)
