@@ -1,0 +1,77 @@
+-- The demands, from what the crates below prove. Assumes nothing.
+use mathlib.Core.Path.{_≡_, refl, sym, ap, subst, _∙_}
+use mathlib.Core.List.{List}
+use Prim.Native.Nat.{ℕ, _≤_}
+use native.Mathlib.Omega.{arith}
+use lib.ListN.{length}
+use Rattle.frame_format.specs.Stretch.{Verdict, silent, refused, delivered}
+use Rattle.frame_format.proofs.Frame.{frame-length-longest}
+use Rattle.frame_writer.specs.Writes.{outputAfter}
+use Rattle.frame_writer.proofs.Due.{refused-so, refused-7, refused-8, due-accepted}
+use Rattle.receiver.specs.Step as Step
+use Rattle.receiver.specs.Step.{nothing, refusal, told, answerDue}
+use Rattle.check_strength.proofs.Caught.{strength}
+use Rattle.writer_history.proofs.Calls.{writer-lists}
+use Rattle.receiver_history.specs.Line.{Line}
+use Rattle.receiver_history.proofs.Promises.{answers, counts, every-octet-counted, store-clean, flag-clears, later-only}
+use Rattle.receiver_history.proofs.Slice.{line-of-slices, slice-is-call}
+use Rattle.receiver_history.proofs.Frames.{put-out-is-frame, frame-is-put-out, wrong-check-refused}
+use Rattle.demands.specs.Demands.{Demand1, Demand2, Demand3, ReceiverLists}
+use Rattle.demands.proofs.Refusals.{Tabled, quiet, numbered, whole, tabled}
+
+-- ---- one call of the receiver
+
+told-refusal : (v : Verdict) (n : ℕ) (output : List ℕ) → Tabled v → told v ≡ refusal n
+    → (1 ≤ n) × (n ≤ 6) × (Step.outputAfter v output ≡ output)
+told-refusal _ n output quiet e = let z : _≡_ {A = ℕ} 0 1 = cc in absurd (omega arith)
+told-refusal _ n output (numbered m least most) e =
+    let same : m ≡ n = cc in
+    (omega arith, omega arith, refl)
+told-refusal _ n output (whole octets) e = let z : _≡_ {A = ℕ} 0 1 = cc in absurd (omega arith)
+
+told-nothing : (v : Verdict) (output : List ℕ) → told v ≡ nothing → Step.outputAfter v output ≡ output
+told-nothing silent output e = refl
+told-nothing (refused n) output e = let z : _≡_ {A = ℕ} 0 1 = cc in absurd (omega arith)
+told-nothing (delivered octets) output e = let z : _≡_ {A = ℕ} 0 1 = cc in absurd (omega arith)
+
+pub demand1 : Demand1
+demand1 =
+    record {
+      writerRefuses7 = λ body output after r w. rw (w .answers) (refused-7 body output);
+      writerRefuses8 = λ body output after r w. rw (w .answers) (refused-8 body output);
+      writerRefuses = λ body output after r number w e.
+          (refused-so body output number (sym e ∙ w .answers), w .leaves ∙ ap (outputAfter body output) e);
+      receiverRefuses = λ rest counts store octet output given storeAfter outputThen number m e.
+          let p = told-refusal _ number output (tabled _ octet (length output)) (sym (m .answers) ∙ e) in
+          (p .0, p .1, m .puts ∙ p .2);
+      receiverIsSilent = λ rest counts store octet output given storeAfter outputThen m e.
+          m .puts ∙ told-nothing (answerDue (record { rest = rest; store = store }) octet (length output)) output (sym (m .answers) ∙ e);
+      flagClears = flag-clears;
+      storeClean = store-clean;
+      laterOnly = later-only;
+    }
+
+pub demand2 : Demand2
+demand2 =
+    record {
+      writes = λ body output after r w least most room.
+          let e = w .answers ∙ due-accepted body output least most room in
+          (e, w .leaves ∙ ap (outputAfter body output) e, frame-length-longest body most);
+      answersByHistory = answers;
+      deliveredIsFrame = put-out-is-frame;
+      frameIsDelivered = frame-is-put-out;
+      countsByHistory = counts;
+      everyOctetCounted = every-octet-counted;
+      slicesAreCalls = line-of-slices;
+      sliceEndsAsCall = slice-is-call;
+    }
+
+receiver-lists : ReceiverLists
+receiver-lists calls l = (
+  (λ before after o e. answers before after o (subst Line e l)),
+  λ before last e a b t least most so ends.
+      wrong-check-refused a b (record { least = least; most = most }) (strength a b t least most so) before last (subst Line e l) ends,
+)
+
+pub demand3 : Demand3
+demand3 = record { check = strength; receiver = receiver-lists; writer = writer-lists }

@@ -1,0 +1,89 @@
+-- The tender's demands 1 to 3, in one place. Each is a statement over `Writes` and `Receives`, which are all that the running
+-- functions `frame_writer::write_frame` and `receiver::receive` ensure of a call (and `Takes`, of `receive_slice`), so it holds
+-- of what runs. That every call on every input returns, with no undefined step, is what proving a Rattle function means, and no
+-- public function asks anything of its caller. Proved in proofs/Demands.antt. Assumes nothing.
+use mathlib.Core.Path.{_≡_}
+use mathlib.Core.List.{List, [], _∷_, _++_, map}
+use mathlib.Core.Logic.{_⊎_, _↔_}
+use Prim.Native.Nat.{ℕ, _≤_, _<_}
+use lib.ListN.{length, drop}
+use Rattle.frame_format.specs.Frame.{frame, longestBody, longestFrame}
+use Rattle.frame_writer.specs.declared.Written.{Written}
+use Rattle.frame_writer.specs.Writes.{refused, wrote, answerOf, Writes}
+use Rattle.receiver.specs.declared.Rest.{Rest}
+use Rattle.receiver.specs.declared.Counts.{Counts}
+use Rattle.receiver.specs.declared.Received.{Received}
+use Rattle.receiver.specs.Step as Step
+use Rattle.receiver.specs.Step.{nothing, refusal, Receives}
+use Rattle.line_history.specs.History.{answer}
+use Rattle.check_strength.specs.Strength.{TwoBodies, AtMostThreeBits, Within16Bits, Strength}
+use Rattle.writer_history.specs.Calls.{WriterLists}
+use Rattle.receiver_history.specs.Line.{Observed, callOf, upTo, Line}
+use Rattle.receiver_history.specs.Slice.{LineOfSlices, SliceIsCall}
+use Rattle.receiver_history.specs.Promises.{AnswersAs, AnswersByHistory, CountsByHistory, EveryOctetCounted, StoreClean, FlagClears, LaterOnly, PutOutIsFrame, FrameIsPutOut, EndsIn, carrying}
+
+-- Demand 1. Bad input gets a numbered refusal under the conditions of document 01 and no others (the receiver's conditions are
+-- `answersByHistory` of demand 2), and a refusal changes no octet of the lent output. At every flag, counts excepted, the store
+-- is all zero, the rest of the record is one fixed value, and what the line answers from there on depends only on later octets,
+-- for the same room lent.
+pub record Demand1 : Type 0 where
+  pub writerRefuses7 :
+      (body output after : List ℕ) (r : Written) → Writes body output r after
+      → (answerOf r ≡ refused 7) ↔ ((length body ≡ 0) ⊎ (longestBody < length body))
+  pub writerRefuses8 :
+      (body output after : List ℕ) (r : Written) → Writes body output r after
+      → (answerOf r ≡ refused 8)
+      ↔ ((1 ≤ length body) × (length body ≤ longestBody) × (length output < length (frame body)))
+  pub writerRefuses :
+      (body output after : List ℕ) (r : Written) (number : ℕ) → Writes body output r after → answerOf r ≡ refused number
+      → ((number ≡ 7) ⊎ (number ≡ 8)) × (after ≡ output)
+  pub receiverRefuses :
+      (rest : Rest) (counts : Counts) (store : List ℕ) (octet : ℕ) (output : List ℕ) (given : Received)
+      (storeAfter outputThen : List ℕ) (number : ℕ)
+      → Receives rest counts store octet output given storeAfter outputThen
+      → Step.answerOf (given .answer) ≡ refusal number → (1 ≤ number) × (number ≤ 6) × (outputThen ≡ output)
+  pub receiverIsSilent :
+      (rest : Rest) (counts : Counts) (store : List ℕ) (octet : ℕ) (output : List ℕ) (given : Received)
+      (storeAfter outputThen : List ℕ)
+      → Receives rest counts store octet output given storeAfter outputThen
+      → Step.answerOf (given .answer) ≡ nothing → outputThen ≡ output
+  pub flagClears : FlagClears
+  pub storeClean : StoreClean
+  pub laterOnly : LaterOnly
+
+-- Demand 2, of frames and checks. A body of 1 to 436 octets with room for its frame is written, and that exactly; every call of
+-- the receiver answers as the rules say of the history; each frame delivered writes back to the same octets, and each frame
+-- written is delivered; every octet received is counted once, under the class that its history gives. A line that is taken in
+-- slices is such a line of calls by the octet, with the same answers, outputs and records.
+pub record Demand2 : Type 0 where
+  pub writes :
+      (body output after : List ℕ) (r : Written) → Writes body output r after
+      → 1 ≤ length body → length body ≤ longestBody → length (frame body) ≤ length output
+      → (answerOf r ≡ wrote (length (frame body)))
+      × (after ≡ frame body ++ drop (length (frame body)) output)
+      × (length (frame body) ≤ longestFrame)
+  pub answersByHistory : AnswersByHistory
+  pub deliveredIsFrame : PutOutIsFrame
+  pub frameIsDelivered : FrameIsPutOut
+  pub countsByHistory : CountsByHistory
+  pub everyOctetCounted : EveryOctetCounted
+  pub slicesAreCalls : LineOfSlices
+  pub sliceEndsAsCall : SliceIsCall
+
+-- The receiver's part of demand 3, one claim about whole lists: from a fresh receiver every call answers as the rules say, and
+-- where the list ends in the frame carrying one of two such bodies with the other's check, the last call answers 5.
+abbrev pub ReceiverLists : Type 0
+ReceiverLists =
+    (calls : List Observed) → Line calls
+    → ((before after : List Observed) (o : Observed) → calls ≡ before ++ o ∷ after
+    → AnswersAs (answer (map callOf before) (callOf o)) o)
+    × ((before : List Observed) (last : Observed) → calls ≡ before ++ last ∷ []
+    → (a b : List ℕ) → TwoBodies a b → 1 ≤ length a → length a ≤ longestBody → AtMostThreeBits a b ⊎ Within16Bits a b
+    → EndsIn (carrying a b) (upTo before last)
+    → Step.answerOf (last .given .answer) ≡ refusal 5)
+
+-- Demand 3. The check's strength, and with it the receiver's lists and the writer's.
+pub record Demand3 : Type 0 where
+  pub check : Strength
+  pub receiver : ReceiverLists
+  pub writer : WriterLists

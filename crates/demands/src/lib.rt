@@ -1,0 +1,1 @@
+// The tender's demands: stated together in specs/Demands.antt, proved in proofs/. It holds no code.

@@ -1,0 +1,3 @@
+pub mod Line
+pub mod Promises
+pub mod Slice
