@@ -1,0 +1,118 @@
+-- The text of a listing (document 01, "Frames to try", the line lister), as lists of character codes. Assumes nothing.
+use mathlib.Core.Bool.{cond}
+use mathlib.Core.List.{List, [], _∷_, _++_}
+use Prim.Native.Nat.{ℕ, zero, suc, _+_, _-_, _/_, _%_, _^_}
+use lib.Dec.{ltb}
+use lib.ListN.{length}
+use Rattle.frame_format.specs.Stretch.{Verdict, silent, refused, delivered}
+use Rattle.receiver.specs.declared.Counts.{Counts}
+
+-- ---- numbers
+
+-- the code of a decimal digit: '0' is 48
+abbrev pub digit : ℕ → ℕ
+digit d = 48 + d
+
+-- a number in decimal, the most significant digit first, where `most` digits hold it
+unfoldable pub decimalWithin : ℕ → ℕ → List ℕ
+decimalWithin zero n = []
+decimalWithin (suc most) n =
+    let more = decimalWithin most (n / 10) ++ (digit (n % 10) ∷ []) in
+    cond (ltb n 10) (digit n ∷ []) more
+
+-- no digit more than needed; n + 1 digits hold n
+unfoldable pub decimal : ℕ → List ℕ
+decimal n = decimalWithin (suc n) n
+
+-- the code of a hexadecimal digit: '0' is 48, 'a' is 97
+unfoldable pub hexDigit : ℕ → ℕ
+hexDigit d = cond (ltb d 10) (48 + d) (97 + (d - 10))
+
+-- an octet in hexadecimal, with a space before it
+unfoldable pub hexOctet : ℕ → List ℕ
+hexOctet x = 32 ∷ hexDigit (x / 16) ∷ hexDigit (x % 16) ∷ []
+
+unfoldable pub hexOctets : List ℕ → List ℕ
+hexOctets [] = []
+hexOctets (x ∷ xs) = hexOctet x ++ hexOctets xs
+
+-- ---- lines
+
+abbrev pub newline : List ℕ
+newline = 10 ∷ []
+
+-- "ok "
+abbrev pub okWord : List ℕ
+okWord = 111 ∷ 107 ∷ 32 ∷ []
+
+-- "no "
+abbrev pub noWord : List ℕ
+noWord = 110 ∷ 111 ∷ 32 ∷ []
+
+-- a delivered body: its length, and each octet
+unfoldable pub okLine : List ℕ → List ℕ
+okLine body = okWord ++ (decimal (length body) ++ (hexOctets body ++ newline))
+
+-- a refusal, by its number
+unfoldable pub noLine : ℕ → List ℕ
+noLine number = noWord ++ (decimal number ++ newline)
+
+-- the line of an answer; where there is none, nothing
+abbrev pub lineOf : Verdict → List ℕ
+lineOf silent = []
+lineOf (refused number) = noLine number
+lineOf (delivered body) = okLine body
+
+-- a body has at most 436 octets, and its line "ok 436", 3 octets for each, and a newline
+abbrev pub bodyRoom : ℕ
+bodyRoom = 436
+
+abbrev pub longestLine : ℕ
+longestLine = 1317
+
+-- ---- the closing line
+
+-- "bytes "
+abbrev pub bytesWord : List ℕ
+bytesWord = 98 ∷ 121 ∷ 116 ∷ 101 ∷ 115 ∷ 32 ∷ []
+
+-- " flags "
+abbrev pub flagsWord : List ℕ
+flagsWord = 32 ∷ 102 ∷ 108 ∷ 97 ∷ 103 ∷ 115 ∷ 32 ∷ []
+
+-- " delivered "
+abbrev pub deliveredWord : List ℕ
+deliveredWord = 32 ∷ 100 ∷ 101 ∷ 108 ∷ 105 ∷ 118 ∷ 101 ∷ 114 ∷ 101 ∷ 100 ∷ 32 ∷ []
+
+-- " refused "
+abbrev pub refusedWord : List ℕ
+refusedWord = 32 ∷ 114 ∷ 101 ∷ 102 ∷ 117 ∷ 115 ∷ 101 ∷ 100 ∷ 32 ∷ []
+
+-- " skipped "
+abbrev pub skippedWord : List ℕ
+skippedWord = 32 ∷ 115 ∷ 107 ∷ 105 ∷ 112 ∷ 112 ∷ 101 ∷ 100 ∷ 32 ∷ []
+
+-- " open "
+abbrev pub openWord : List ℕ
+openWord = 32 ∷ 111 ∷ 112 ∷ 101 ∷ 110 ∷ 32 ∷ []
+
+-- a count with its word
+unfoldable pub counted : List ℕ → ℕ → List ℕ
+counted word n = word ++ decimal n
+
+-- the octets received, modulo 2^32
+abbrev pub bytesReceived : Counts → ℕ
+bytesReceived c = (c .flags + c .delivered + c .refused + c .skipped + c .unclosed) % 2 ^ 32
+
+unfoldable pub closingLine : Counts → List ℕ
+closingLine c =
+    counted bytesWord (bytesReceived c)
+    ++ (counted flagsWord (c .flags)
+    ++ (counted deliveredWord (c .delivered)
+    ++ (counted refusedWord (c .refused)
+    ++ (counted skippedWord (c .skipped)
+    ++ (counted openWord (c .unclosed) ++ newline)))))
+
+-- six words and a newline have 49 octets, and each number at most 10 digits
+abbrev pub longestClosing : ℕ
+longestClosing = 109
