@@ -1,0 +1,5 @@
+pub mod Digits
+pub mod RoundTrips
+pub mod Signed
+pub mod Spelled
+pub mod Negative

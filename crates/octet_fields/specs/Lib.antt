@@ -1,0 +1,5 @@
+pub mod Digits
+pub mod Layout
+pub mod Signed
+pub mod Numbers
+pub mod Texts

@@ -1,0 +1,4 @@
+pub mod Behind
+pub mod Fits
+pub mod Answers
+pub mod Judged

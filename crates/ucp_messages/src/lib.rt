@@ -1,0 +1,198 @@
+// The messages of the UCP line: each kind's fields from a body, and a body from the fields.
+mod message_0;
+mod message_10;
+mod message_11;
+mod message_117;
+mod message_44;
+mod message_45;
+mod message_7;
+mod output;
+mod refusal;
+mod texts;
+
+use octet_fields::Text;
+ghost use mathlib.Core.Path.{_≡_};
+ghost use Rattle.ucp_messages.specs.Kinds.{kindOf};
+ghost use Rattle.ucp_messages.specs.Reads.{Reads};
+ghost use Rattle.ucp_messages.specs.Bodies.{messageFits, messageBody};
+ghost use Rattle.ucp_messages.specs.Writes.{Writes};
+
+// Message 0, Heartbeat: all bits carried as they are.
+pub struct Heartbeat {
+    pub status_1: u8,
+    pub status_2: u8,
+    // Seconds since midnight, bits 0 to 15; status_2 has bit 16.
+    pub time_stamp: u16,
+    pub counts: u16,
+}
+
+// Messages 10 and 20, Ownship and Traffic report. Every number is raw; the crate message_meanings says what it means.
+pub struct Report {
+    // 4 bits each.
+    pub alert: u8,
+    pub address_type: u8,
+    // 24 bits each.
+    pub address: u32,
+    pub latitude: i32,
+    pub longitude: i32,
+    // 12 bits, and 4.
+    pub altitude: u16,
+    pub miscellaneous: u8,
+    // 4 bits each.
+    pub nic: u8,
+    pub nacp: u8,
+    // 12 bits each.
+    pub speed: u16,
+    pub vertical_rate: i16,
+    pub track: u8,
+    pub emitter: u8,
+    pub callsign: Text,
+    // 4 bits each.
+    pub emergency: u8,
+    pub spare: u8,
+}
+
+// Message 11, Ownship geometric altitude: in steps of 5 feet, and its metrics.
+pub struct GeometricAltitude {
+    pub altitude: i16,
+    pub metrics: u16,
+}
+
+// Message 44, Message Request.
+pub struct Request {
+    pub requested_id: u8,
+}
+
+// Message 45, Control.
+pub struct Control {
+    // 1090ES transmission enabled; replies enabled for modes S, C and A; the ident button.
+    pub es_enabled: bool,
+    pub mode_s: bool,
+    pub mode_c: bool,
+    pub mode_a: bool,
+    pub ident: bool,
+    // 2 bits.
+    pub air_ground: u8,
+    pub baro_checked: bool,
+    // Pressure altitude in millimetres.
+    pub altitude: i32,
+    pub squawk: u16,
+    pub emergency: u8,
+    pub identity: Text,
+}
+
+// Message 117, Initialization.
+pub struct Initialization {
+    pub version: u8,
+    // 24 bits.
+    pub address: u32,
+    pub emitter: u8,
+    pub callsign: Text,
+    pub stall_speed: u8,
+    pub size: u8,
+    // The antenna's offsets: 3 bits, and 5.
+    pub lateral: u8,
+    pub longitudinal: u8,
+}
+
+// The kinds of message. An ID that is none of theirs is of an unknown kind.
+pub enum Kind {
+    Heartbeat,
+    Uplink,
+    Ownship,
+    GeometricAltitude,
+    Traffic,
+    Request,
+    Control,
+    Initialization,
+    Unknown,
+}
+
+// A message with its fields. An uplink's payload stays in a slice beside it.
+pub enum Message {
+    Heartbeat(Heartbeat),
+    Uplink,
+    Ownship(Report),
+    GeometricAltitude(GeometricAltitude),
+    Traffic(Report),
+    Request(Request),
+    Control(Control),
+    Initialization(Initialization),
+}
+
+// A message reader's answer. `answerOf` of specs/Reads.antt gives the paper's number and values of each case.
+pub enum Read {
+    // The body is this message. Of an uplink, the payload is the body without its first octet.
+    Message(Message),
+    // Refused, by its number: 10, an unknown ID or no octet; 11, another length than the kind's; 12, a wrong version,
+    // signature or subtype; 13, a field outside its range.
+    Refused(u8),
+}
+
+// A message writer's answer. `answerOf` of specs/Writes.antt gives the paper's number and values of each case.
+pub enum Written {
+    // Accepted: how many octets the body has.
+    Body(usize),
+    // Refused, by its number: 13, a field outside its range or too wide for its bits; 8, an output shorter than the body.
+    Refused(u8),
+}
+
+// The kind of a message, by its ID.
+pub fn kind_of(id: u8) -> Kind
+    ensures { λ r. ⌜ r ≡ kindOf id ⌝ }
+{
+    match id {
+        0 => Kind::Heartbeat,
+        7 => Kind::Uplink,
+        10 => Kind::Ownship,
+        11 => Kind::GeometricAltitude,
+        20 => Kind::Traffic,
+        44 => Kind::Request,
+        45 => Kind::Control,
+        117 => Kind::Initialization,
+        _ => Kind::Unknown,
+    }
+}
+
+// What a body means.
+pub fn read_message(body: &[u8]) -> Read
+    ensures { λ r. ⌜ Reads (now (body .entry)) r ⌝ }
+{
+    if body.len() == 0 {
+        return Read::Refused(10);
+    }
+    let kind = kind_of(body[0]);
+    let refusal = refusal::of(kind, body);
+    if refusal != 0 {
+        return Read::Refused(refusal);
+    }
+    match kind {
+        Kind::Heartbeat => Read::Message(Message::Heartbeat(message_0::read(body))),
+        Kind::Uplink => Read::Message(Message::Uplink),
+        Kind::Ownship => Read::Message(Message::Ownship(message_10::read(body))),
+        Kind::GeometricAltitude => Read::Message(Message::GeometricAltitude(message_11::read(
+            body,
+        ))),
+        Kind::Traffic => Read::Message(Message::Traffic(message_10::read(body))),
+        Kind::Request => Read::Message(Message::Request(message_44::read(body))),
+        Kind::Control => Read::Message(Message::Control(message_45::read(body))),
+        Kind::Initialization => Read::Message(Message::Initialization(message_117::read(body))),
+        Kind::Unknown => Read::Refused(10),
+    }
+}
+
+// Writes a message's body at the start of output. On a refusal nothing is written. Only an uplink takes the payload.
+pub fn write_message(message: Message, payload: &[u8], output: &mut [u8]) -> Written
+    ensures { λ r. ⌜ Writes (messageFits message (now (payload .entry))) (messageBody message (now (payload .entry))) (now (output .entry)) r (now (output .exit)) ⌝ }
+{
+    match message {
+        Message::Heartbeat(heartbeat) => message_0::write(heartbeat, output),
+        Message::Uplink => message_7::write(payload, output),
+        Message::Ownship(report) => message_10::write(10, report, output),
+        Message::GeometricAltitude(geometric) => message_11::write(geometric, output),
+        Message::Traffic(report) => message_10::write(20, report, output),
+        Message::Request(request) => message_44::write(request, output),
+        Message::Control(control) => message_45::write(control, output),
+        Message::Initialization(initialization) => message_117::write(initialization, output),
+    }
+}

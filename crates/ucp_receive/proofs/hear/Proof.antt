@@ -1,0 +1,111 @@
+-- `ucp_receive::hear` meets its contract, by the receiver's three answers. Assumes nothing.
+use mathlib.Core.Path.{sym, ap, _∙_}
+use denote.Ref.{now}
+use lib.ListN.{length}
+use lib.Seq.{length-take-le}
+use Rattle.receiver.specs.Step.{answerOf, answerDue}
+use Rattle.ucp_receive.specs.Hears.{outcomeOfRead}
+use Rattle.ucp_receive.proofs.Delivered.{none-due, refusal-due, body-due}
+use borrow.Author.Needs.{needs}
+use Rattle.ucp_receive.proofs.hear.Statement.{statement}
+use Rattle.ucp_receive.proofs.hear.Tie as tie
+
+receive-requires : tie.Need-receive-requires
+receive-requires c κs = search needs
+
+enum-told : tie.Need-enum-told
+enum-told c = search needs
+
+enum-known-answer : tie.Need-enum-known-answer
+enum-known-answer c = search needs
+
+slice-reshare-prefix-read-message : tie.Need-slice-reshare-prefix-read-message
+slice-reshare-prefix-read-message c =
+    let a = c .before .before .before .before .before .before .before .before .before .before .before .args in
+    let v = answerDue (record { rest = a .rest; store = now (a .store) }) (a .octet) (length (now (a .output))) in
+    let r = c .before .before .before .before .before .before .before .receive .ensures in
+    body-due (now (a .output)) v (ap answerOf (sym (c .before .answer .given .1)) ∙ r .answers) (r .puts) .0
+
+slice-aggregate-read-message : tie.Need-slice-aggregate-read-message
+slice-aggregate-read-message c =
+    let a = c .before .before .before .before .before .before .before .before .before .before .before .before .args in
+    let v = answerDue (record { rest = a .rest; store = now (a .store) }) (a .octet) (length (now (a .output))) in
+    let r = c .before .before .before .before .before .before .before .before .receive .ensures in
+    let b = body-due (now (a .output)) v (ap answerOf (sym (c .before .before .answer .given .1)) ∙ r .answers) (r .puts) in
+    sym (length-take-le _ _ (b .0))
+
+read-message-requires : tie.Need-read-message-requires
+read-message-requires c κs = search needs
+
+event-of-requires : tie.Need-event-of-requires
+event-of-requires c κs = search needs
+
+enum-known-answer-2 : tie.Need-enum-known-answer-2
+enum-known-answer-2 c = search needs
+
+same-length : tie.Need-same-length
+same-length c = search needs
+
+returns : tie.Need-returns
+returns c =
+    let a = c .before .before .before .before .before .before .before .before .before .before .args in
+    let v = answerDue (record { rest = a .rest; store = now (a .store) }) (a .octet) (length (now (a .output))) in
+    let r = c .before .before .before .before .before .before .receive .ensures in
+    record {
+      state = r .state;
+      account = r .account;
+      answers = none-due v (ap answerOf (sym (c .enum-told .given .1)) ∙ r .answers);
+      puts = r .puts;
+    }
+
+same-length-2 : tie.Need-same-length-2
+same-length-2 c = search needs
+
+returns-2 : tie.Need-returns-2
+returns-2 c =
+    let a = c .before .before .before .before .before .before .before .before .before .before .before .before .before .before .args in
+    let v = answerDue (record { rest = a .rest; store = now (a .store) }) (a .octet) (length (now (a .output))) in
+    let r = c .before .before .before .before .before .before .before .before .before .before .receive .ensures in
+    let b =
+    body-due (now (a .output)) v (ap answerOf (sym (c .before .before .before .before .answer .given .1)) ∙ r .answers) (r .puts)
+    in
+    record {
+      state = r .state;
+      account = r .account;
+      answers = c .event-of .ensures ∙ ap outcomeOfRead (c .before .read-message .ensures) ∙ b .1;
+      puts = r .puts;
+    }
+
+same-length-3 : tie.Need-same-length-3
+same-length-3 c = search needs
+
+returns-3 : tie.Need-returns-3
+returns-3 c =
+    let a = c .before .before .before .before .before .before .before .before .before .before .before .args in
+    let v = answerDue (record { rest = a .rest; store = now (a .store) }) (a .octet) (length (now (a .output))) in
+    let r = c .before .before .before .before .before .before .before .receive .ensures in
+    record {
+      state = r .state;
+      account = r .account;
+      answers = refusal-due v (ap answerOf (sym (c .before .answer2 .given .1)) ∙ r .answers);
+      puts = r .puts;
+    }
+
+pub hear-spec : {M : Type 1} → statement M
+hear-spec =
+    tie.close
+    (tie.spec
+    receive-requires
+    enum-told
+    enum-known-answer
+    slice-reshare-prefix-read-message
+    slice-aggregate-read-message
+    read-message-requires
+    event-of-requires
+    enum-known-answer-2
+    same-length
+    returns
+    same-length-2
+    returns-2
+    same-length-3
+    returns-3)

@@ -1,0 +1,62 @@
+-- `ucp_send::send_message` meets its contract, by its two ways. Assumes nothing.
+use mathlib.Core.Path.{refl, sym}
+use denote.Ref.{now}
+use lib.Seq.{length-take-le}
+use Rattle.ucp_send.specs.Sends.{answerDue}
+use Rattle.ucp_send.proofs.Body.{body-length, body-written, body-refused}
+use borrow.Author.Needs.{needs}
+use Rattle.ucp_send.proofs.send_message.Statement.{statement}
+use Rattle.ucp_send.proofs.send_message.Tie as tie
+
+slice-aggregate-write-message : tie.Need-slice-aggregate-write-message
+slice-aggregate-write-message c = search needs
+
+write-message-requires : tie.Need-write-message-requires
+write-message-requires c κs = search needs
+
+enum-known-written : tie.Need-enum-known-written
+enum-known-written c = search needs
+
+array-share-prefix-body : tie.Need-array-share-prefix-body
+array-share-prefix-body c =
+    body-written (rw (c .before .written .given .1) at (c .before .before .before .before .write-message .ensures)) .room
+
+slice-aggregate-write-frame : tie.Need-slice-aggregate-write-frame
+slice-aggregate-write-frame c =
+    let w = body-written (rw (c .before .before .written .given .1) at (c .before .before .before .before .before .write-message .ensures)) in
+    sym (length-take-le _ _ (w .room))
+
+write-frame-requires : tie.Need-write-frame-requires
+write-frame-requires c κs = search needs
+
+enum-known-written-2 : tie.Need-enum-known-written-2
+enum-known-written-2 c = search needs
+
+returns : tie.Need-returns
+unfolding answerDue
+returns c =
+    let w = body-written (rw (c .before .before .before .before .written .given .1) at (c .before .before .before .before .before .before .before .write-message .ensures)) in
+    let f = rw (w .whole) at (c .write-frame .ensures) in
+    record { answers = rw (w .all-fit) (f .answers); leaves = f .leaves }
+
+returns-2 : tie.Need-returns-2
+unfolding answerDue
+returns-2 c =
+    let a = c .before .before .before .before .before .before .before .args in
+    let w = rw (c .before .written2 .given .1) at (c .before .before .before .before .write-message .ensures) in
+    let r = body-refused w (body-length (a .message) (now (a .payload))) in
+    record { answers = rw (r .0, r .1); leaves = refl }
+
+pub send-message-spec : {M : Type 1} → statement M
+send-message-spec =
+    tie.close
+    (tie.spec
+    slice-aggregate-write-message
+    write-message-requires
+    enum-known-written
+    array-share-prefix-body
+    slice-aggregate-write-frame
+    write-frame-requires
+    enum-known-written-2
+    returns
+    returns-2)
