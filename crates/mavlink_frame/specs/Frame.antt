@@ -1,0 +1,22 @@
+-- A MAVLink version 1 frame (document 001, "MAVLink Protocol Frame Format"). Assumes nothing.
+use mathlib.Core.List.{List, [], _∷_, _++_}
+use Prim.Native.Nat.{ℕ}
+use Rattle.x25_check.specs.Check.{x25Octets}
+use Rattle.mavlink_frame.specs.declared.Kind.{Kind}
+use Rattle.mavlink_frame.specs.declared.Header.{Header}
+
+-- the start octet
+abbrev pub start : ℕ
+start = 0xFE
+
+-- octets 0 to 5: start, length, sequence, system, component, message ID
+abbrev pub headerOctets : Kind → Header → List ℕ
+headerOctets k h = start ∷ k .length ∷ h .sequence ∷ h .system ∷ h .component ∷ k .id ∷ []
+
+-- what the check is over: the octets from the length to the payload's last, and then the kind's extra
+abbrev pub covered : Kind → Header → List ℕ → List ℕ
+covered k h payload = k .length ∷ h .sequence ∷ h .system ∷ h .component ∷ k .id ∷ (payload ++ k .extra ∷ [])
+
+-- octets 6 to n + 5: the payload; n + 6 and n + 7: the check, low octet first
+unfoldable pub frame : Kind → Header → List ℕ → List ℕ
+frame k h payload = headerOctets k h ++ (payload ++ x25Octets (covered k h payload))

@@ -1,0 +1,4 @@
+pub mod Kinds
+pub mod Frame
+pub mod Reads
+pub mod Writes

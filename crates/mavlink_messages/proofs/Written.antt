@@ -1,0 +1,45 @@
+-- A writer's two ways: a field is outside its range, or the frame's writer is called. Assumes nothing.
+use mathlib.Core.Path.{_≡_, refl}
+use mathlib.Core.Bool.{Bool, true, false, _&&_}
+use mathlib.Core.List.{List}
+use Prim.Native.Nat.{ℕ, _+_, _<_}
+use borrow.Author.Tests.{ltb-true}
+use lib.ListN.{length}
+use Rattle.mavlink_frame.specs.declared.Header.{Header}
+use Rattle.mavlink_frame.specs.declared.Written.{Written}
+use Rattle.mavlink_frame.specs.declared.Written.the-variants.{Refused}
+use Rattle.mavlink_frame.specs.Kinds.{kindOf}
+use Rattle.mavlink_frame.specs.Writes.{Writes, roomFor, writeOf, frameOf}
+use Rattle.mavlink_frame.specs.Writes as frame-writes
+use Rattle.mavlink_messages.specs.declared.Static as static-as
+use Rattle.mavlink_messages.specs.declared.Message.{Message}
+use Rattle.mavlink_messages.specs.declared.Message.the-variants.{DataStream, Static, Dynamic, Status, Traffic}
+use Rattle.mavlink_messages.specs.Ranges.{staticInRange}
+use Rattle.mavlink_messages.specs.Messages.{idOf, octetsOf, inRange, writeDue, messageFrame}
+
+pub refused : (m : Message) (h : Header) (output : List ℕ) → inRange m ≡ false
+    → Writes (writeDue m output) (messageFrame m h) output (Refused 25) output
+refused m h output e = rw e (record { answers = refl; leaves = refl })
+
+-- each kind's octets are as many as the table says
+due : (m : Message) (output : List ℕ) → frame-writes.writeDue (idOf m) (octetsOf m) output ≡ roomFor (length (octetsOf m) + 8) output
+unfolding kindOf writeOf
+due (DataStream d) output = refl
+due (Static s) output = refl
+due (Dynamic d) output = refl
+due (Status s) output = refl
+due (Traffic t) output = refl
+
+pub written : (m : Message) (h : Header) {payload output : List ℕ} {r : Written} {after : List ℕ} → inRange m ≡ true
+    → payload ≡ octetsOf m → Writes (frame-writes.writeDue (idOf m) payload output) (frameOf (idOf m) h payload) output r after
+    → Writes (writeDue m output) (messageFrame m h) output r after
+written m h {payload} {output} e p w = rw e (rw (p, due m output) at w)
+
+left : (a b : Bool) → (a && b) ≡ true → a ≡ true
+left true b e = refl
+left false b e = e
+
+-- an address that is in range has 24 bits
+pub address-fits : (s : static-as.Static) → staticInRange s ≡ true → s .address < 0x1000000
+unfolding staticInRange
+address-fits s e = ltb-true _ _ (left _ _ (left _ _ (left _ _ (left _ _ (left _ _ (left _ _ e))))))

@@ -1,0 +1,90 @@
+-- The five kinds together: what a reader answers, and what a writer answers and leaves (document 01, the table's rows 8 and 20
+-- to 25 and the paragraph below it). Assumes nothing.
+use mathlib.Core.Bool.{Bool, true, cond}
+use mathlib.Core.List.{List}
+use Prim.Native.Nat.{ℕ, _+_, _-_}
+use lib.Dec.{eqb}
+use lib.ListN.{length}
+use Rattle.mavlink_frame.specs.declared.Header.{Header}
+use Rattle.mavlink_frame.specs.declared.Lookup.{Lookup}
+use Rattle.mavlink_frame.specs.declared.Lookup.the-variants.{Known, Unknown}
+use Rattle.mavlink_frame.specs.declared.Found.{Found}
+use Rattle.mavlink_frame.specs.declared.Found.the-variants as found-as
+use Rattle.mavlink_frame.specs.declared.Written.{Written}
+use Rattle.mavlink_frame.specs.declared.Written.the-variants as written-as
+use Rattle.mavlink_frame.specs.Kinds.{kindOf}
+use Rattle.mavlink_frame.specs.Reads.{payloadAt, found}
+use Rattle.mavlink_frame.specs.Writes.{roomFor, frameOf}
+use Rattle.mavlink_messages.specs.declared.Message.{Message}
+use Rattle.mavlink_messages.specs.declared.Message.the-variants.{DataStream, Static, Dynamic, Status, Traffic}
+use Rattle.mavlink_messages.specs.declared.Failures.{Failures}
+use Rattle.mavlink_messages.specs.declared.Read.{Read}
+use Rattle.mavlink_messages.specs.declared.Read.the-variants as read-as
+use Rattle.mavlink_messages.specs.Layouts.{dataStreamOf, dataStreamOctets, staticOf, staticOctets, dynamicOf, dynamicOctets, statusOf, statusOctets, trafficOf, trafficOctets}
+use Rattle.mavlink_messages.specs.Ranges.{staticInRange, dynamicInRange, trafficInRange}
+use Rattle.mavlink_messages.specs.Failures.{failuresIn, noFailures}
+
+abbrev pub idOf : Message → ℕ
+idOf (DataStream d) = 66
+idOf (Static s) = 201
+idOf (Dynamic d) = 202
+idOf (Status s) = 203
+idOf (Traffic t) = 246
+
+abbrev pub octetsOf : Message → List ℕ
+octetsOf (DataStream d) = dataStreamOctets d
+octetsOf (Static s) = staticOctets s
+octetsOf (Dynamic d) = dynamicOctets d
+octetsOf (Status s) = statusOctets s
+octetsOf (Traffic t) = trafficOctets t
+
+abbrev pub inRange : Message → Bool
+inRange (DataStream d) = true
+inRange (Static s) = staticInRange s
+inRange (Dynamic d) = dynamicInRange d
+inRange (Status s) = true
+inRange (Traffic t) = trafficInRange t
+
+-- the failures that a message reports
+abbrev pub failuresOf : Message → Failures
+failuresOf (DataStream d) = noFailures
+failuresOf (Static s) = noFailures
+failuresOf (Dynamic d) = noFailures
+failuresOf (Status s) = failuresIn (s .status)
+failuresOf (Traffic t) = noFailures
+
+-- ---- reading: 20 to 24 as the frame says, then 25
+abbrev pub judged : Header → ℕ → Message → Read
+judged h used m = cond (inRange m) (read-as.Message h used m (failuresOf m)) (read-as.Refused 25)
+
+-- a payload by its message ID; the frame has refused an ID that no kind has
+abbrev pub payloadRead : ℕ → Header → ℕ → List ℕ → Read
+payloadRead id h used p =
+    cond (eqb id 66) (judged h used (DataStream (dataStreamOf p)))
+    (cond (eqb id 201) (judged h used (Static (staticOf p)))
+    (cond (eqb id 202) (judged h used (Dynamic (dynamicOf p)))
+    (cond (eqb id 203) (judged h used (Status (statusOf p)))
+    (cond (eqb id 246) (judged h used (Traffic (trafficOf p)))
+    (read-as.Refused 22)))))
+
+abbrev pub readBy : Found → List ℕ → Read
+readBy (found-as.Refused number) s = read-as.Refused number
+readBy (found-as.Frame id h used) s = payloadRead id h used (payloadAt (used - 8) s)
+
+abbrev pub readDue : List ℕ → Read
+readDue s = readBy (found s) s
+
+-- so many octets are as many as the ID's kind has in a payload
+abbrev pub ofLength : Lookup → ℕ → Bool
+ofLength (Known k) n = eqb n (k .length)
+ofLength Unknown n = eqb n 256
+
+abbrev pub ofItsKind : ℕ → ℕ → Bool
+ofItsKind id = ofLength (kindOf id)
+
+-- ---- writing: 25, then 8
+abbrev pub writeDue : Message → List ℕ → Written
+writeDue m output = cond (inRange m) (roomFor (length (octetsOf m) + 8) output) (written-as.Refused 25)
+
+abbrev pub messageFrame : Message → Header → List ℕ
+messageFrame m h = frameOf (idOf m) h (octetsOf m)

@@ -1,0 +1,22 @@
+-- The packets, by computation. Assumes nothing.
+use mathlib.Core.Path.{refl}
+use Rattle.binary_polynomial.specs.Division.{step, reduced, polynomial}
+use Rattle.field_rules.specs.Codes.{isSquawk, isEmitter, isSizeCode}
+use Rattle.field_rules.specs.Text.{isSpaced}
+use Rattle.x25_check.specs.Check.{bitsUp, wireBits, next, register, mirrored, x25}
+use Rattle.mavlink_frame.specs.Kinds.{kindOf}
+use Rattle.mavlink_frame.specs.Frame.{frame}
+use Rattle.mavlink_frame.specs.Reads.{foundOf, found}
+use Rattle.mavlink_messages.specs.Ranges.{staticInRange, dynamicInRange}
+use Rattle.mavlink_round_trips.specs.Examples.{Examples}
+
+pub examples : Examples
+unfolding step reduced polynomial isSquawk isEmitter isSizeCode isSpaced bitsUp wireBits next register mirrored x25 kindOf frame foundOf found staticInRange dynamicInRange
+examples =
+    record {
+      nine-digits = refl;
+      dynamic-read = refl;
+      dynamic-written = refl;
+      static-read = refl;
+      static-written = refl;
+    }

@@ -1,0 +1,5 @@
+pub mod Examples
+pub mod Packed
+pub mod Frames
+pub mod Layouts
+pub mod RoundTrips

@@ -1,0 +1,68 @@
+-- Both round trips, of the definitions that the contracts of the reader and the writers cite. Assumes nothing.
+use mathlib.Core.Path.{_≡_}
+use mathlib.Core.List.{List, [], _∷_, _++_}
+use Prim.Native.Nat.{ℕ, _^_, _<_, _≤_}
+use lib.ListN.{length, take, drop}
+use mir.Syntax.{w16, w32}
+use mir.Val.{SFits}
+use Rattle.binary_polynomial.specs.Bits.{Octets}
+use Rattle.mavlink_frame.specs.declared.Header.{Header}
+use Rattle.mavlink_frame.specs.declared.Written.{Written}
+use Rattle.mavlink_frame.specs.declared.Written.the-variants as written-as
+use Rattle.mavlink_frame.specs.Writes.{Writes}
+use Rattle.mavlink_messages.specs.declared.Dynamic as dynamic-as
+use Rattle.mavlink_messages.specs.declared.Traffic as traffic-as
+use Rattle.mavlink_messages.specs.declared.Failures.{Failures}
+use Rattle.mavlink_messages.specs.declared.Message.{Message}
+use Rattle.mavlink_messages.specs.declared.Message.the-variants.{DataStream, Static, Dynamic, Status, Traffic}
+use Rattle.mavlink_messages.specs.declared.Read.the-variants as read-as
+use Rattle.mavlink_messages.specs.Layouts.{dataStreamWidths, dataStreamNumbers, staticWidths, staticNumbers, dynamicWidths, dynamicNumbers, statusWidths, statusNumbers, trafficWidths, trafficNumbers}
+use Rattle.mavlink_messages.specs.Messages.{failuresOf, readDue, writeDue, messageFrame}
+
+-- ---- the fields are values of their types: as a running program's are, and antt's numbers need not be
+
+-- as many numbers as widths, and each within its octets
+abbrev pub Within : List ℕ → List ℕ → Type 0
+Within [] [] = Unit {0}
+Within [] (n ∷ ns) = ⊥
+Within (w ∷ ws) [] = ⊥
+Within (w ∷ ws) (n ∷ ns) = (n < 256 ^ w) × Within ws ns
+
+pub record DynamicTyped (d : dynamic-as.Dynamic) : Type 0 where
+  pub within : Within dynamicWidths (dynamicNumbers d)
+  pub latitude : SFits w32 (d .latitude)
+  pub longitude : SFits w32 (d .longitude)
+  pub pressure : SFits w32 (d .pressure)
+  pub gnss : SFits w32 (d .gnss)
+  pub climb : SFits w16 (d .climb)
+  pub north : SFits w16 (d .north)
+  pub east : SFits w16 (d .east)
+
+pub record TrafficTyped (t : traffic-as.Traffic) : Type 0 where
+  pub within : Within trafficWidths (trafficNumbers t)
+  pub latitude : SFits w32 (t .latitude)
+  pub longitude : SFits w32 (t .longitude)
+  pub altitude : SFits w32 (t .altitude)
+  pub climb : SFits w16 (t .climb)
+
+abbrev pub Typed : Message → Type 0
+Typed (DataStream d) = Within dataStreamWidths (dataStreamNumbers d)
+Typed (Static s) = Within staticWidths (staticNumbers s)
+Typed (Dynamic d) = DynamicTyped d
+Typed (Status s) = Within statusWidths (statusNumbers s)
+Typed (Traffic t) = TrafficTyped t
+
+-- ---- a written frame reads back equal, with anything behind it: the same kind, fields and header, and its own length
+abbrev pub WrittenReadsBack : Type 0
+WrittenReadsBack =
+    (m : Message) (h : Header) (output after : List ℕ) (n : ℕ) → Typed m
+    → Writes (writeDue m output) (messageFrame m h) output (written-as.Frame n) after
+    → readDue after ≡ read-as.Message h n m (failuresOf m)
+
+-- ---- an accepted frame writes back to the same octets, wherever there is room for them
+abbrev pub AcceptedWritesBack : Type 0
+AcceptedWritesBack =
+    (s : List ℕ) (h : Header) (used : ℕ) (m : Message) (f : Failures) → Octets s → readDue s ≡ read-as.Message h used m f
+    → (output after : List ℕ) (r : Written) → used ≤ length output
+    → Writes (writeDue m output) (messageFrame m h) output r after
+    → (r ≡ written-as.Frame used) × (after ≡ take used s ++ drop used output)

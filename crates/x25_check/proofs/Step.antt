@@ -1,0 +1,190 @@
+-- The step by shifts is eight places of the division: both are linear, so that antt computes them at each octet and at each
+-- octet eight places above. Assumes nothing.
+use mathlib.Core.Path.{_≡_, refl, sym, ap, ap₂, _∙_}
+use mathlib.Core.Bool.{Bool, true, false, xor}
+use mathlib.Core.List.{List, [], _∷_, _++_, append-nil}
+use Prim.Native.Nat.{ℕ, zero, suc, _+_, _*_, _/_, _%_, _<_}
+use native.Mathlib.Omega.{arith}
+use native.Mathlib.Numerals.{add-one}
+use lib.Dec.{eqb}
+use lib.ListN.{length, getD, drop, replicate, length-append, List·getD-append}
+use lib.Seq.{drop-cons, drop-at}
+use lib.Bits.{bitXor, differ, xor-shr, xor-mod, xor-lt, xor-zero-r}
+use Rattle.binary_polynomial.specs.Bits.{odd}
+use Rattle.binary_polynomial.specs.Division.{coefficient, degree16, step, reduced, polynomial}
+use Rattle.binary_polynomial.proofs.Xor.{digit-cases, xor-swap, below-two, half, last}
+use Rattle.binary_polynomial.proofs.Laws.{coefficient-xor, coefficient-lt, step-xor, step-lt, sum, sum-zeros, polynomial-xor, polynomial-lt}
+use Rattle.binary_polynomial.proofs.Linear.{everywhere, Linear, Linear16, both, times, agree}
+use Rattle.x25_check.specs.Check.{bitsUp, wireBits, next, register, mirrored, x25, x25From}
+
+-- ---- the definition is linear
+odd-xor : (a b : ℕ) → odd (bitXor a b) ≡ xor (odd a) (odd b)
+unfolding xor
+odd-xor a b =
+    ap (λ (d : ℕ). eqb d 1) (last a b)
+    ∙ digit-cases (λ (x : ℕ). eqb (differ x (b % 2)) 1 ≡ xor (eqb x 1) (eqb (b % 2) 1))
+    (digit-cases (λ (y : ℕ). eqb (differ 0 y) 1 ≡ xor false (eqb y 1)) refl refl (b % 2) (below-two b))
+    (digit-cases (λ (y : ℕ). eqb (differ 1 y) 1 ≡ xor true (eqb y 1)) refl refl (b % 2) (below-two b))
+    (a % 2) (below-two a)
+
+bitsUp-xor : (w a b : ℕ) → bitsUp w (bitXor a b) ≡ sum (bitsUp w a) (bitsUp w b)
+unfolding bitsUp sum
+bitsUp-xor zero a b = refl
+bitsUp-xor (suc w) a b =
+    ap₂ (λ (c : Bool) (l : List Bool). c ∷ l) (odd-xor a b) (ap (bitsUp w) (half a b) ∙ bitsUp-xor w (a / 2) (b / 2))
+
+bitsUp-length : (w n : ℕ) → length (bitsUp w n) ≡ w
+unfolding bitsUp
+bitsUp-length zero n = refl
+bitsUp-length (suc w) n = ap suc (bitsUp-length w (n / 2))
+
+mirrored-linear : Linear mirrored
+unfolding mirrored
+mirrored-linear a b =
+    ap (polynomial 0) (bitsUp-xor 16 a b)
+    ∙ polynomial-xor 0 0 (bitsUp 16 a) (bitsUp 16 b) (bitsUp-length 16 a ∙ sym (bitsUp-length 16 b))
+
+-- a bit at x^15
+top-xor : (b c : Bool) → coefficient (xor b c) * 0x8000 ≡ bitXor (coefficient b * 0x8000) (coefficient c * 0x8000)
+top-xor b c = ap (λ (d : ℕ). d * 0x8000) (coefficient-xor b c) ∙ times 15 (coefficient b) (coefficient c)
+
+met-lt : (r : ℕ) (b : Bool) → r < degree16 → bitXor r (coefficient b * 0x8000) < degree16
+met-lt r b h = xor-lt 16 r (coefficient b * 0x8000) h (omega (arith, coefficient-lt b))
+
+next-lt : (r : ℕ) (b : Bool) → r < degree16 → next r b < degree16
+unfolding next
+next-lt r b h = step-lt _ false (met-lt r b h)
+
+next-xor : (r s : ℕ) (b c : Bool) → r < degree16 → s < degree16 → next (bitXor r s) (xor b c) ≡ bitXor (next r b) (next s c)
+unfolding next xor
+next-xor r s b c hr hs =
+    ap (λ (n : ℕ). step n false) (ap (bitXor (bitXor r s)) (top-xor b c) ∙ xor-swap r s _ _)
+    ∙ step-xor _ _ false false (met-lt r b hr) (met-lt s c hs)
+
+pub register-lt : (r : ℕ) (bs : List Bool) → r < degree16 → register r bs < degree16
+unfolding register
+register-lt r [] h = h
+register-lt r (b ∷ bs) h = register-lt (next r b) bs (next-lt r b h)
+
+pub register-xor : (r s : ℕ) (xs ys : List Bool) → r < degree16 → s < degree16 → length xs ≡ length ys
+    → register (bitXor r s) (sum xs ys) ≡ bitXor (register r xs) (register s ys)
+unfolding register sum
+register-xor r s [] [] hr hs e = refl
+register-xor r s [] (y ∷ ys) hr hs e = absurd (omega arith)
+register-xor r s (x ∷ xs) [] hr hs e = absurd (omega arith)
+register-xor r s (x ∷ xs) (y ∷ ys) hr hs e =
+    ap (λ (t : ℕ). register t (sum xs ys)) (next-xor r s x y hr hs)
+    ∙ register-xor (next r x) (next s y) xs ys (next-lt r x hr) (next-lt s y hs) (omega arith)
+
+pub register-append : (r : ℕ) (xs ys : List Bool) → register r (xs ++ ys) ≡ register (register r xs) ys
+unfolding register
+register-append r [] ys = refl
+register-append r (x ∷ xs) ys = register-append (next r x) xs ys
+
+-- ---- a number in the other order, and back
+mirrored-lt : (n : ℕ) → mirrored n < degree16
+unfolding mirrored
+mirrored-lt n = rw (bitsUp-length 16 n) at (polynomial-lt 0 1 (bitsUp 16 n) (omega arith))
+
+pub mirrored-back : (n : ℕ) → n < degree16 → mirrored (mirrored n) ≡ n
+unfolding mirrored bitsUp polynomial
+mirrored-back =
+    agree (λ n. mirrored (mirrored n)) (λ n. n)
+    (λ a b p q. ap mirrored (mirrored-linear a b) ∙ mirrored-linear (mirrored a) (mirrored b)) (λ a b p q. refl)
+    (everywhere (λ n. mirrored (mirrored n)) (λ n. n) 256 refl)
+    (everywhere (λ n. mirrored (mirrored (n * 256))) (λ n. n * 256) 256 refl)
+
+-- ---- the step by shifts
+abbrev pub fold : ℕ → ℕ
+fold low = bitXor low (low * 16) % 256
+
+abbrev pub shifted : ℕ → ℕ
+shifted met = bitXor (bitXor (bitXor (met / 256) (fold (met % 256) * 256)) (fold (met % 256) * 8)) (fold (met % 256) / 16)
+
+fold-linear : Linear fold
+fold-linear a b =
+    ap (λ (n : ℕ). n % 256) (both (λ n. n) (λ n. n * 16) (λ c d. refl) (times 4) a b)
+    ∙ xor-mod (bitXor a (a * 16)) (bitXor b (b * 16)) 8
+
+low-fold-linear : Linear (λ n. fold (n % 256))
+low-fold-linear a b = ap fold (xor-mod a b 8) ∙ fold-linear (a % 256) (b % 256)
+
+shifted-linear : Linear shifted
+shifted-linear =
+    both (λ n. bitXor (bitXor (n / 256) (fold (n % 256) * 256)) (fold (n % 256) * 8)) (λ n. fold (n % 256) / 16)
+    (both (λ n. bitXor (n / 256) (fold (n % 256) * 256)) (λ n. fold (n % 256) * 8)
+    (both (λ n. n / 256) (λ n. fold (n % 256) * 256)
+    (λ a b. xor-shr a b 8)
+    (λ a b. ap (λ (n : ℕ). n * 256) (low-fold-linear a b) ∙ times 8 (fold (a % 256)) (fold (b % 256))))
+    (λ a b. ap (λ (n : ℕ). n * 8) (low-fold-linear a b) ∙ times 3 (fold (a % 256)) (fold (b % 256))))
+    (λ a b. ap (λ (n : ℕ). n / 16) (low-fold-linear a b) ∙ xor-shr (fold (a % 256)) (fold (b % 256)) 4)
+
+eight : List Bool
+eight = replicate 8 false
+
+-- no bit is taken in, over eight places
+passed : ℕ → ℕ
+passed n = mirrored (register (mirrored n) eight)
+
+passed-linear : Linear16 passed
+unfolding passed eight sum xor
+passed-linear a b p q =
+    ap (λ (n : ℕ). mirrored (register n eight)) (mirrored-linear a b)
+    ∙ ap mirrored (register-xor (mirrored a) (mirrored b) eight eight (mirrored-lt a) (mirrored-lt b) refl)
+    ∙ mirrored-linear (register (mirrored a) eight) (register (mirrored b) eight)
+
+passed-shifted : (n : ℕ) → n < degree16 → passed n ≡ shifted n
+unfolding passed eight mirrored bitsUp polynomial register next step reduced
+passed-shifted =
+    agree passed shifted passed-linear (λ a b p q. shifted-linear a b)
+    (everywhere passed shifted 256 refl)
+    (everywhere (λ n. passed (n * 256)) (λ n. shifted (n * 256)) 256 refl)
+
+-- an octet taken in by a register of 0
+octet-shifted : (x : ℕ) → x < 256 → mirrored (register 0 (bitsUp 8 x)) ≡ shifted x
+unfolding mirrored bitsUp polynomial register next step reduced
+octet-shifted = everywhere (λ x. mirrored (register 0 (bitsUp 8 x))) shifted 256 refl
+
+sum-eight : (x : ℕ) → sum eight (bitsUp 8 x) ≡ bitsUp 8 x
+unfolding eight
+sum-eight x = rw (bitsUp-length 8 x) at (sum-zeros (bitsUp 8 x))
+
+pub octet-step : (check x : ℕ) → check < degree16 → x < 256 → shifted (bitXor check x) ≡ x25From check (x ∷ [])
+unfolding x25From wireBits eight passed
+octet-step check x hc hx =
+    shifted-linear check x
+    ∙ ap₂ bitXor (sym (passed-shifted check hc)) (sym (octet-shifted x hx))
+    ∙ sym (mirrored-linear (register (mirrored check) eight) (register 0 (bitsUp 8 x)))
+    ∙ ap mirrored
+    (sym (register-xor (mirrored check) 0 eight (bitsUp 8 x) (mirrored-lt check) (omega arith) (sym (bitsUp-length 8 x))))
+    ∙ ap₂ (λ (r : ℕ) (bs : List Bool). mirrored (register r bs)) (xor-zero-r (mirrored check))
+    (sum-eight x ∙ sym (append-nil (bitsUp 8 x)))
+
+-- ---- the octet at i, and then the others
+octet-first : (check : ℕ) (octets : List ℕ) (i : ℕ) → i < length octets
+    → x25From check (drop i octets) ≡ x25From (x25From check (getD octets i 0 ∷ [])) (drop (i + 1) octets)
+unfolding x25From wireBits
+octet-first check octets i h =
+    rw (add-one, drop-cons octets i 0, append-nil)
+    (ap mirrored (register-append (mirrored check) (bitsUp 8 (getD octets i 0)) (wireBits (drop (suc i) octets)))
+    ∙ ap (λ (r : ℕ). mirrored (register r (wireBits (drop (suc i) octets))))
+    (sym (mirrored-back _ (register-lt (mirrored check) (bitsUp 8 (getD octets i 0)) (mirrored-lt check)))))
+
+-- a running check of FFFF is the start
+pub starts : (octets : List ℕ) → x25From 0xFFFF octets ≡ x25 octets
+unfolding x25From x25 mirrored bitsUp polynomial
+starts octets = refl
+
+-- octets and then one more: the octet at i, and then the others
+pub octet-next : (check : ℕ) (octets : List ℕ) (extra i : ℕ) → i < length octets
+    → x25From check (drop i (octets ++ extra ∷ []))
+    ≡ x25From (x25From check (getD octets i 0 ∷ [])) (drop (i + 1) (octets ++ extra ∷ []))
+octet-next check octets extra i h =
+    octet-first check (octets ++ extra ∷ []) i (simp length-append (omega arith))
+    ∙ ap (λ (x : ℕ). x25From (x25From check (x ∷ [])) (drop (i + 1) (octets ++ extra ∷ [])))
+    (List·getD-append octets (extra ∷ []) 0 i h)
+
+-- and at last that one
+pub octet-last : (check : ℕ) (octets : List ℕ) (extra i : ℕ) → i ≡ length octets
+    → x25From check (drop i (octets ++ extra ∷ [])) ≡ x25From check (extra ∷ [])
+octet-last check octets extra i e = ap (x25From check) (drop-at octets (extra ∷ []) i (sym e))

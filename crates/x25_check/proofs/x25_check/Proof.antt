@@ -1,0 +1,71 @@
+-- `x25_check::x25_check` meets its contract. The loop's invariant: the octets that are left, from the running check on, have the
+-- check of all. Assumes nothing.
+use mathlib.Core.Path.{_≡_, sym, ap, _∙_}
+use mathlib.Core.List.{[], _∷_, _++_}
+use Prim.Native.Nat.{ℕ, _+_, _-_, _<_, _≤_}
+use native.Mathlib.Omega.{arith}
+use denote.Ref.{now}
+use lib.ListN.{length, drop}
+use Rattle.x25_check.specs.Check.{x25, x25From}
+use Rattle.x25_check.proofs.Step.{starts, octet-next, octet-last}
+use borrow.Author.Needs.{needs}
+use Rattle.x25_check.proofs.x25_check.Statement.{statement}
+use Rattle.x25_check.proofs.x25_check.Tie as tie
+
+abbrev Inv-loop : tie.InvT-loop
+Inv-loop octets extra check₀ i₀ check i =
+    (i ≤ length octets) × (check < 65536) × (x25From check (drop i (octets ++ extra ∷ [])) ≡ x25 (octets ++ extra ∷ []))
+
+abbrev μ-loop : tie.MeasureT-loop
+μ-loop octets extra check₀ i₀ check i = length octets - i
+
+loop-holds : tie.Need-loop-holds Inv-loop μ-loop
+loop-holds c = (search needs, search needs, starts _)
+
+shared-slice-read-next-octet : tie.Need-shared-slice-read-next-octet Inv-loop μ-loop
+shared-slice-read-next-octet c = search needs
+
+next-octet-requires : tie.Need-next-octet-requires Inv-loop μ-loop
+next-octet-requires c κs = search needs
+
+add-i : tie.Need-add-i Inv-loop μ-loop
+add-i c = search needs
+
+loop-less : tie.Need-loop-less Inv-loop μ-loop
+loop-less c = search needs
+
+loop-again : tie.Need-loop-again Inv-loop μ-loop
+loop-again c =
+    let l = c .before .before .before .loop in
+    let a = c .before .before .before .before .before .args in (
+      search needs,
+      search needs,
+      ap (λ (n : ℕ). x25From n (drop (l .i + 1) (now (a .octets) ++ a .extra ∷ []))) (c .next-octet .ensures)
+          ∙ sym (octet-next (l .check) (now (a .octets)) (a .extra) (l .i) (c .before .before .loop-test .taken))
+          ∙ l .inv .2,
+    )
+
+next-octet-requires-2 : tie.Need-next-octet-requires-2 Inv-loop μ-loop
+next-octet-requires-2 c κs = search needs
+
+returns : tie.Need-returns Inv-loop μ-loop
+returns c =
+    let l = c .before .before .loop in
+    let a = c .before .before .before .before .args in
+    let e : l .i ≡ length (now (a .octets)) = omega arith in
+    c .next-octet2 .ensures ∙ sym (octet-last (l .check) (now (a .octets)) (a .extra) (l .i) e) ∙ l .inv .2
+
+pub x25-check-spec : {M : Type 1} → statement M
+x25-check-spec =
+    tie.close
+    (tie.spec
+    Inv-loop
+    μ-loop
+    loop-holds
+    shared-slice-read-next-octet
+    next-octet-requires
+    add-i
+    loop-less
+    loop-again
+    next-octet-requires-2
+    returns)
