@@ -1,0 +1,240 @@
+/*
+ * Ostrogosz: the UCP/GDL90 serial line, for C99 and C++.
+ *
+ * Two archives, for x86-64 Linux; link the one you call, or both:
+ *   libostrogosz.a           check and frame writer: rt staticlib ostrogosz
+ *   libostrogosz_receiver.a  receiver: rt staticlib ostrogosz_receiver
+ * `rt` writes them to target/staticlib. The calls allocate nothing and keep
+ * nothing but what the caller lends, so threads may call them at once as long
+ * as no octet that one of them writes is lent to another. Of the C library they
+ * call memcpy and memset at most.
+ *
+ * Every call answers on every input. A refusal is a number of the table in
+ * document 01 and never a length.
+ *
+ * Pointers: a pointer goes with the length behind it and points to that many
+ * octets. Where the length is 0 it may be anything, NULL too.
+ */
+#ifndef OSTROGOSZ_H
+#define OSTROGOSZ_H
+
+#include <stddef.h>
+#include <stdint.h>
+
+#ifdef __cplusplus
+extern "C" {
+#endif
+
+/* Octets of the longest body that a frame carries. */
+#define OSTROGOSZ_LONGEST_BODY 436
+
+/* Octets of the longest frame: two flags around 436 octets of body and 2 of
+ * check, all of them escaped. */
+#define OSTROGOSZ_LONGEST_FRAME 878
+
+/* Refusals of the frame writer. */
+#define OSTROGOSZ_REFUSAL_BODY_LENGTH 7   /* body of 0 or over 436 octets */
+#define OSTROGOSZ_REFUSAL_OUTPUT_LENGTH 8 /* output shorter than the frame */
+
+/*
+ * The frame check sequence of a body: its remainder by x^16 + x^12 + x^5 + 1,
+ * started at 0, not inverted, with no zero bits behind the body. A frame
+ * carries the low octet first.
+ *
+ * Bad input: none. A body may have any length, 0 (the check is 0) and more
+ * than 436 too.
+ */
+uint16_t ostrogosz_frame_check(const uint8_t *body, size_t body_length);
+
+/* The frame writer's answer. */
+struct ostrogosz_written {
+    uint32_t refusal; /* 0: accepted; else 7 or 8 */
+    uint32_t length;  /* accepted: octets of the frame; refused: 0 */
+};
+
+/*
+ * Writes the frame of body at the start of output: flag, body and check
+ * stuffed together, flag.
+ *
+ * Bad input, tested in this order:
+ *   7  a body of 0 or more than OSTROGOSZ_LONGEST_BODY octets
+ *   8  output shorter than this very frame
+ *
+ * Room that always suffices: OSTROGOSZ_LONGEST_FRAME octets; for a body of n
+ * octets also 2 * n + 6.
+ *
+ * A refusal writes nothing. An accepted call writes exactly the frame, and the
+ * octets of output behind it keep what they held. body and output must not
+ * overlap, and nobody else may write either during the call.
+ */
+struct ostrogosz_written ostrogosz_write_frame(const uint8_t *body,
+                                               size_t body_length,
+                                               uint8_t *output,
+                                               size_t output_length);
+
+/* ---- The receiver ---- */
+
+/* Octets of the receive store: the longest body and its check. */
+#define OSTROGOSZ_STORE 438
+
+/* Numbers of the line. */
+#define OSTROGOSZ_LINE 7
+
+/* Places in the line. */
+#define OSTROGOSZ_LINE_PHASE 0     /* one of the phases below */
+#define OSTROGOSZ_LINE_STORED 1    /* unstuffed octets in the store */
+#define OSTROGOSZ_LINE_FLAGS 2     /* count: flags */
+#define OSTROGOSZ_LINE_DELIVERED 3 /* count: octets of delivered stretches */
+#define OSTROGOSZ_LINE_REFUSED 4   /* count: octets of refused stretches */
+#define OSTROGOSZ_LINE_SKIPPED 5   /* count: octets before the first flag */
+#define OSTROGOSZ_LINE_OPEN 6      /* count: octets since the last flag */
+
+/* Phases; a greater number is taken for 4. */
+#define OSTROGOSZ_PHASE_HUNTING 0    /* no flag yet: nothing is stored */
+#define OSTROGOSZ_PHASE_READING 1    /* in a stretch without a fault so far */
+#define OSTROGOSZ_PHASE_ESCAPE 2     /* the last octet was an escape */
+#define OSTROGOSZ_PHASE_BAD_ESCAPE 3 /* refusal 1 is due at the flag */
+#define OSTROGOSZ_PHASE_TOO_LONG 4   /* refusal 3 is due at the flag */
+
+/* Kinds of answer. */
+#define OSTROGOSZ_ANSWER_NOTHING 0   /* no answer is due; value: 0 */
+#define OSTROGOSZ_ANSWER_DELIVERED 1 /* value: octets of the body in output */
+#define OSTROGOSZ_ANSWER_REFUSED 2   /* value: the refusal, 1 to 6 */
+
+/* Refusals of the receiver. */
+#define OSTROGOSZ_REFUSAL_BAD_ESCAPE 1 /* 7D before neither 5D, 5E nor 7E */
+#define OSTROGOSZ_REFUSAL_ESCAPE_BEFORE_FLAG 2 /* 7D right before the flag */
+#define OSTROGOSZ_REFUSAL_TOO_LONG 3    /* more than 438 unstuffed octets */
+#define OSTROGOSZ_REFUSAL_TOO_SHORT 4   /* fewer than 3 unstuffed octets */
+#define OSTROGOSZ_REFUSAL_WRONG_CHECK 5 /* the check is wrong */
+#define OSTROGOSZ_REFUSAL_ROOM 6        /* output shorter than the body */
+
+/*
+ * The receiver of one line, in the caller's memory. Its byte map, numbers
+ * little-endian, so that a dump can be read:
+ *
+ *     0 to 437  store: unstuffed octets of the open stretch, zero behind them
+ *   438 to 439  padding, never written
+ *   440 to 443  phase
+ *   444 to 447  octets in the store
+ *   448 to 451  flags
+ *   452 to 455  delivered: octets between two flags, delivered
+ *   456 to 459  refused: octets between two flags, refused
+ *   460 to 463  skipped: octets before the first flag
+ *   464 to 467  open: octets since the last flag
+ *
+ * Each count is in line octets and runs round at 2^32; their sum is the
+ * octets received, modulo 2^32. After the call that took a flag the store is
+ * all zero, the phase is 1 and no octet is stored.
+ */
+struct ostrogosz_receiver {
+    uint8_t store[OSTROGOSZ_STORE];
+    uint32_t line[OSTROGOSZ_LINE];
+};
+
+/* The answer to one octet. */
+struct ostrogosz_answer {
+    uint32_t kind;
+    uint32_t value;
+};
+
+/* The answer to a slice of the line, and how much of it was taken. */
+struct ostrogosz_taken {
+    uint32_t kind;
+    uint32_t value;
+    size_t taken;
+};
+
+/*
+ * Makes the receiver fresh, whatever it held: it hunts, the store is zero and
+ * so is every count. Call it before the first octet, and whenever the line
+ * changes hands: it clears an open stretch without waiting for a flag.
+ *
+ * Bad input: none.
+ */
+void ostrogosz_receiver_start(uint8_t store[OSTROGOSZ_STORE],
+                              uint32_t line[OSTROGOSZ_LINE]);
+
+/*
+ * Takes one octet of the line. A flag closes a stretch and opens the next. A
+ * stretch with an octet in it gets one answer, at the call that brings its
+ * closing flag; every other call answers OSTROGOSZ_ANSWER_NOTHING.
+ *
+ * Bad input is a stretch that is no frame, and the answer is its refusal. The
+ * first fault from the left is kept:
+ *   1  7D followed by an octet other than 5D, 5E, 7E
+ *   3  more than 438 unstuffed octets
+ * else, at the flag and in this order:
+ *   2  7D directly before the flag
+ *   4  fewer than 3 unstuffed octets
+ *   5  check wrong
+ *   6  output shorter than the body; the frame is lost
+ *
+ * Room that always suffices: OSTROGOSZ_LONGEST_BODY octets; then 6 never
+ * comes. Only the output lent at the flag counts.
+ *
+ * A delivery writes exactly the body at the start of output, and the octets
+ * behind it keep what they held; every other answer writes nothing there.
+ * Clearing a delivered body is the caller's part. Any values of store and line
+ * are taken, also those that no line leads to. store, line and output must not
+ * overlap, and nobody else may touch them during the call.
+ */
+struct ostrogosz_answer ostrogosz_receive(uint8_t store[OSTROGOSZ_STORE],
+                                          uint32_t line[OSTROGOSZ_LINE],
+                                          uint8_t octet, uint8_t *output,
+                                          size_t output_length);
+
+/*
+ * Takes octets up to and with the first that gets an answer, or all of them,
+ * each as ostrogosz_receive does with this output. taken says how many; the
+ * caller goes on behind them. No octets get OSTROGOSZ_ANSWER_NOTHING.
+ *
+ * Bad input, room and what is written: as for ostrogosz_receive. octets must
+ * not overlap the others either.
+ */
+struct ostrogosz_taken ostrogosz_receive_slice(uint8_t store[OSTROGOSZ_STORE],
+                                               uint32_t line[OSTROGOSZ_LINE],
+                                               const uint8_t *octets,
+                                               size_t octets_length,
+                                               uint8_t *output,
+                                               size_t output_length);
+
+/* The same calls on the struct. */
+
+static inline void ostrogosz_line_start(struct ostrogosz_receiver *receiver)
+{
+    ostrogosz_receiver_start(receiver->store, receiver->line);
+}
+
+static inline struct ostrogosz_answer
+ostrogosz_line_receive(struct ostrogosz_receiver *receiver, uint8_t octet,
+                       uint8_t *output, size_t output_length)
+{
+    return ostrogosz_receive(receiver->store, receiver->line, octet, output,
+                             output_length);
+}
+
+static inline struct ostrogosz_taken
+ostrogosz_line_receive_slice(struct ostrogosz_receiver *receiver,
+                             const uint8_t *octets, size_t octets_length,
+                             uint8_t *output, size_t output_length)
+{
+    return ostrogosz_receive_slice(receiver->store, receiver->line, octets,
+                                   octets_length, output, output_length);
+}
+
+/* The octets received, modulo 2^32: the sum of the five counts. */
+static inline uint32_t
+ostrogosz_line_octets(const struct ostrogosz_receiver *receiver)
+{
+    const uint32_t *line = receiver->line;
+    return line[OSTROGOSZ_LINE_FLAGS] + line[OSTROGOSZ_LINE_DELIVERED] +
+           line[OSTROGOSZ_LINE_REFUSED] + line[OSTROGOSZ_LINE_SKIPPED] +
+           line[OSTROGOSZ_LINE_OPEN];
+}
+
+#ifdef __cplusplus
+}
+#endif
+
+#endif

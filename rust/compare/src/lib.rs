@@ -1,0 +1,15 @@
+//! What the comparisons of the proved library with the second program share.
+//!
+//! The comparisons are the tests of this crate. Each prints how many inputs of
+//! each kind it tried and how many differed; to see that, run
+//! `cargo test --release -p compare -- --show-output`.
+
+#![forbid(unsafe_code)]
+#![deny(missing_docs)]
+
+pub mod bodies;
+pub mod generator;
+pub mod lines;
+pub mod lockstep;
+pub mod rooms;
+pub mod tally;

@@ -1,0 +1,49 @@
+//! The ranges of fields, one rule for all kinds that share it (document 01,
+//! Message kinds on the UCP line and MAVLink kinds).
+
+/// Whether an unsigned number fits in this many bits, fewer than 32.
+pub(crate) fn fits(number: impl Into<u32>, width: u32) -> bool {
+    number.into() < 1 << width
+}
+
+/// Whether a number in two's complement fits in this many bits, fewer than 32.
+pub(crate) fn fits_signed(number: impl Into<i32>, width: u32) -> bool {
+    let end = 1 << (width - 1);
+    (-end..end).contains(&number.into())
+}
+
+/// Squawks of 45, 202 and 246.
+pub(crate) fn squawk(number: u16) -> bool {
+    number <= 7777
+}
+
+/// Emitters of 117 and 201.
+pub(crate) fn emitter(number: u8) -> bool {
+    number <= 19
+}
+
+/// Size codes of 117 and 201.
+pub(crate) fn size(code: u8) -> bool {
+    code <= 15
+}
+
+/// Callsigns of 117 and 201: A-Z, 0-9 and spaces, anywhere.
+pub(crate) fn callsign(text: &[u8]) -> bool {
+    text.iter()
+        .all(|&octet| letter_or_digit(octet) || octet == b' ')
+}
+
+/// Flight identities of 45: 0-9 and A-Z with spaces only at the end; all
+/// spaces allowed.
+pub(crate) fn flight_identity(text: &[u8]) -> bool {
+    let end = text
+        .iter()
+        .rposition(|&octet| octet != b' ')
+        .map_or(0, |last| last + 1);
+    text[..end].iter().all(|&octet| letter_or_digit(octet))
+}
+
+/// A-Z and 0-9.
+fn letter_or_digit(octet: u8) -> bool {
+    octet.is_ascii_uppercase() || octet.is_ascii_digit()
+}
