@@ -7,7 +7,8 @@
 ghost use Prim.Native.Nat.{_≤_};
 ghost use lib.ListN.{length};
 ghost use Rattle.listing.specs.Listing.{longestLine};
-ghost use Rattle.listing.specs.Lists.{stateOf, behindAll};
+ghost use Rattle.receiver.specs.Step.{stateOf};
+ghost use Rattle.listing.specs.Lists.{behindAll};
 ghost use Rattle.line_lister.specs.Blocks.{Leaves, Zeroed};
 use libc::STDIN_FILENO;
 use libc::STDOUT_FILENO;

@@ -16,10 +16,10 @@ use Rattle.receiver.specs.declared.Counts.{Counts}
 use Rattle.receiver.specs.declared.Answer.{Answer}
 use Rattle.receiver.specs.declared.Answer.the-variants.{Nothing, Delivered, Refused}
 use Rattle.receiver.specs.declared.Taken.{Taken}
-use Rattle.receiver.specs.Step.{State, Run, run, later, endAt, stateAfter, answerDue, countsAfter, outputAfter, Told, answerOf, told, Takes}
+use Rattle.receiver.specs.Step.{State, Run, run, later, endAt, stateAfter, answerDue, countsAfter, outputAfter, Told, answerOf, told, Takes, stateOf}
 use Rattle.listing.specs.declared.Listed.{Listed}
 use Rattle.listing.specs.Listing.{lineOf, okLine, bodyRoom, longestLine}
-use Rattle.listing.specs.Lists.{Lines, behind, noLines, lines, stateOf, Lists}
+use Rattle.listing.specs.Lists.{Lines, behind, noLines, lines, Lists}
 use Rattle.listing.specs.Parts.{lineTold, Fitting, PutsLine}
 use Rattle.listing.proofs.Whole.{same-long}
 

@@ -11,10 +11,10 @@ use lib.ListN.{length, drop}
 use borrow.Author.Tests.{le-ltb}
 use Rattle.receiver.specs.declared.Rest.{Rest}
 use Rattle.receiver.specs.declared.Counts.{Counts}
-use Rattle.receiver.specs.Step.{State, stateAfter, countsAfter, answerDue, outputAfter}
+use Rattle.receiver.specs.Step.{State, stateAfter, countsAfter, answerDue, outputAfter, stateOf}
 use Rattle.listing.specs.declared.Listed.{Listed}
 use Rattle.listing.specs.Listing.{lineOf, bodyRoom, longestLine}
-use Rattle.listing.specs.Lists.{Lines, behind, noLines, lines, stateOf, Lists, behindAll, everyLine}
+use Rattle.listing.specs.Lists.{Lines, behind, noLines, lines, Lists, behindAll, everyLine}
 
 record Onward (s : State) (c : Counts) (xs : List ℕ) (l : Lines) : Type 0 where
   within : l .taken ≤ length xs

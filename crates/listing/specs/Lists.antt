@@ -8,7 +8,7 @@ use lib.ListN.{length}
 use Rattle.frame_writer.specs.Puts.{Puts}
 use Rattle.receiver.specs.declared.Rest.{Rest}
 use Rattle.receiver.specs.declared.Counts.{Counts}
-use Rattle.receiver.specs.Step.{State, stateAfter, answerDue, countsAfter, outputAfter}
+use Rattle.receiver.specs.Step.{State, stateOf, stateAfter, answerDue, countsAfter, outputAfter}
 use Rattle.listing.specs.Parts.{PutsLine}
 use Rattle.listing.specs.declared.Listed.{Listed}
 use Rattle.listing.specs.Listing.{lineOf, bodyRoom, longestLine, closingLine, longestClosing}
@@ -49,9 +49,6 @@ lines s c room (x ∷ xs) free =
     let rest = lines (stateAfter s x) (countsAfter c s x bodyRoom) (outputAfter due room) xs (free - length (lineOf due)) in
     let more = behind (lineOf due) rest in
     cond (ltb free longestLine) (noLines s c room) more
-
-abbrev pub stateOf : Rest → List ℕ → State
-stateOf rest store = record { rest = rest; store = store }
 
 -- one call, whole: the record, the room, the slice and the text as at entry; what is given back, and what was lent as at return
 pub record Lists (rest : Rest) (counts : Counts) (store room line text : List ℕ)

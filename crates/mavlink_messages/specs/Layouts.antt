@@ -106,7 +106,7 @@ dynamicNumbers d = d .utc ∷ ofZ w32 (d .latitude) ∷ ofZ w32 (d .longitude) �
 abbrev pub dynamicOctets : Dynamic → List ℕ
 dynamicOctets d = packed dynamicWidths (dynamicNumbers d)
 
--- ---- 203: the status of a transponder, 1 octets
+-- ---- 203: the status of a transponder, 1 octet
 abbrev pub statusOf : List ℕ → Status
 statusOf p =
     record {

@@ -1,6 +1,6 @@
 -- The five kinds together: what a reader answers, and what a writer answers and leaves (document 01, the table's rows 8 and 20
 -- to 25 and the paragraph below it). Assumes nothing.
-use mathlib.Core.Bool.{Bool, true, cond}
+use mathlib.Core.Bool.{Bool, true, false, cond}
 use mathlib.Core.List.{List}
 use Prim.Native.Nat.{ℕ, _+_, _-_}
 use lib.Dec.{eqb}
@@ -77,7 +77,7 @@ readDue s = readBy (found s) s
 -- so many octets are as many as the ID's kind has in a payload
 abbrev pub ofLength : Lookup → ℕ → Bool
 ofLength (Known k) n = eqb n (k .length)
-ofLength Unknown n = eqb n 256
+ofLength Unknown n = false
 
 abbrev pub ofItsKind : ℕ → ℕ → Bool
 ofItsKind id = ofLength (kindOf id)

@@ -24,7 +24,3 @@ rateMeans z = cond (isNoRate z) NoRate (FeetPerMinute (z *ℤ pos 64))
 -- steps of 5 feet
 unfoldable pub geometricMeans : ℤ → ℤ
 geometricMeans z = z *ℤ pos 5
-
--- a latitude or a longitude is `degreesNumerator z` over 2^23 degrees
-abbrev pub degreesNumerator : ℤ → ℤ
-degreesNumerator z = z *ℤ pos 180

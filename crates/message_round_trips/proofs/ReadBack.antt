@@ -31,6 +31,7 @@ use Rattle.ucp_messages.specs.Reads.{means, refusalBy, refusalIn, answerAs, ans
 use Rattle.ucp_messages.specs.Bodies.{messageFits, messageBody}
 use Rattle.ucp_messages.proofs.Fits.{both}
 use Rattle.message_round_trips.specs.Typed.{Typed, TypedReport, U16}
+use Rattle.message_round_trips.specs.RoundTrips.{WrittenReadsBack}
 use Rattle.message_round_trips.proofs.Within.{bit-back, holds-all, report-within, geometric-within, control-within, initialization-within}
 
 -- a report's signed fields are held by their bits
@@ -123,15 +124,14 @@ unfolding requestIn requestBody
 request-back q t = ap requestOf (fields-octets requestLayout (requestFields q) (omega arith) (omega arith))
 
 -- ---- each written message reads back equal; an uplink's payload is the body without its first octet
-pub read-back : (m : Message) (payload : List ℕ) → Typed m → messageFits m payload ≡ true
-    → answerDue (messageBody m payload) ≡ means m
+pub written-reads-back : WrittenReadsBack
 unfolding messageFits messageBody kindOf answerAs refusalIn refusalBy heartbeatBody reportBody geometricBody requestBody controlBody initializationBody uplinkFits
-read-back (Heartbeat h) payload t f = ap (λ (x : heartbeat.Heartbeat). means (Heartbeat x)) (heartbeat-back h t)
-read-back Uplink payload t f = let e = eqb-true (length payload) 435 f in rw e
-read-back (Ownship r) payload t f = ap (λ (x : report.Report). means (Ownship x)) (report-back 10 r (omega arith) t f)
-read-back (GeometricAltitude g) payload t f =
+written-reads-back (Heartbeat h) payload t f = ap (λ (x : heartbeat.Heartbeat). means (Heartbeat x)) (heartbeat-back h t)
+written-reads-back Uplink payload t f = let e = eqb-true (length payload) 435 f in rw e
+written-reads-back (Ownship r) payload t f = ap (λ (x : report.Report). means (Ownship x)) (report-back 10 r (omega arith) t f)
+written-reads-back (GeometricAltitude g) payload t f =
     ap (λ (x : geometric.GeometricAltitude). means (GeometricAltitude x)) (geometric-back g (t .0) (t .1))
-read-back (Traffic r) payload t f = ap (λ (x : report.Report). means (Traffic x)) (report-back 20 r (omega arith) t f)
-read-back (Request q) payload t f = ap (λ (x : request.Request). means (Request x)) (request-back q t)
-read-back (Control c) payload t f = rw (control-back c t f, f)
-read-back (Initialization n) payload t f = rw (initialization-back n t f, f)
+written-reads-back (Traffic r) payload t f = ap (λ (x : report.Report). means (Traffic x)) (report-back 20 r (omega arith) t f)
+written-reads-back (Request q) payload t f = ap (λ (x : request.Request). means (Request x)) (request-back q t)
+written-reads-back (Control c) payload t f = rw (control-back c t f, f)
+written-reads-back (Initialization n) payload t f = rw (initialization-back n t f, f)

@@ -29,6 +29,7 @@ use Rattle.ucp_messages.specs.Kinds.{kindOf, kindIn}
 use Rattle.ucp_messages.specs.Reads.{means, refused, given, refusalBy, refusalIn, answerAs, answerDue}
 use Rattle.ucp_messages.specs.Bodies.{messageFits, messageBody}
 use Rattle.ucp_messages.proofs.Fits.{both}
+use Rattle.message_round_trips.specs.RoundTrips.{AcceptedWritesBack}
 
 -- ---- the ID of a kind
 abbrev idOf : Kind → ℕ
@@ -230,7 +231,7 @@ module _ (body : List ℕ) (h : Octets body) where
       go (x ∷ xs) n e = ap (λ (y : ℕ). y ∷ xs) (sym e)
 
 -- the message writes back
-abbrev pub Back : List ℕ → Message → Type 0
+abbrev Back : List ℕ → Message → Type 0
 Back body m = (messageFits m (drop 1 body) ≡ true) × (messageBody m (drop 1 body) ≡ body)
 
 -- ---- each accepted body writes back to the same octets; an uplink's payload is the body without its first octet
@@ -280,5 +281,5 @@ module _ (body : List ℕ) (m : Message) (h : Octets body) where
       )
   by-kind Unknown e a = let z : _≡_ {A = ℕ} 0 1 = cc in absurd (omega arith)
 
-  pub write-back : answerDue body ≡ means m → Back body m
-  write-back = by-kind (kindIn body) refl
+pub accepted-writes-back : AcceptedWritesBack
+accepted-writes-back body m h = by-kind body m h (kindIn body) refl

@@ -16,8 +16,8 @@ use Rattle.receiver.specs.declared.Counts.{Counts}
 use Rattle.receiver.specs.declared.Answer.the-variants.{Nothing, Delivered, Refused}
 use Rattle.receiver.specs.declared.Answer.{Answer}
 use Rattle.receiver.specs.declared.Taken.{Taken}
-use Rattle.receiver.specs.Step.{State, Run, run, later, endAt, stateAfter, answerDue, countsAfter, advancedIn, storing, countedOctet, answerOf, nothing, refusal, body, told, outputAfter, Takes}
-use Rattle.receiver.specs.Parts.{stateOf, reading, laterBy, countedBy, Ignores, Turns}
+use Rattle.receiver.specs.Step.{State, Run, run, later, endAt, stateAfter, answerDue, countsAfter, advancedIn, storing, countedOctet, answerOf, nothing, refusal, body, told, outputAfter, Takes, stateOf}
+use Rattle.receiver.specs.Parts.{reading, laterBy, countedBy, Ignores, Turns}
 
 abbrev takenBy : Run → ℕ → Run
 takenBy r n = record { state = r .state; counts = r .counts; taken = n; verdict = r .verdict }

@@ -13,10 +13,7 @@ use Rattle.receiver.specs.declared.Passed.{Passed}
 use Rattle.receiver.specs.declared.Taken.{Taken}
 use Rattle.receiver.specs.declared.Answer.{Answer}
 use Rattle.receiver.specs.declared.Answer.the-variants.{Nothing, Delivered, Refused}
-use Rattle.receiver.specs.Step.{State, advancedIn, countedOctet, answerOf, told, outputAfter, Run, run, endAt}
-
-abbrev pub stateOf : Rest → List ℕ → State
-stateOf rest store = record { rest = rest; store = store }
+use Rattle.receiver.specs.Step.{State, stateOf, advancedIn, countedOctet, answerOf, told, outputAfter, Run, run, endAt}
 
 -- the verdict that an answer stands for, while the store holds the body
 abbrev pub verdictOf : Answer → List ℕ → Verdict

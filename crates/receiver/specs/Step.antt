@@ -22,6 +22,9 @@ pub record State : Type 0 where
   pub rest : Rest
   pub store : List ℕ
 
+abbrev pub stateOf : Rest → List ℕ → State
+stateOf rest store = record { rest = rest; store = store }
+
 abbrev pub noOctets : List ℕ
 noOctets = replicate storeOctets 0
 
@@ -137,10 +140,10 @@ outputAfter (delivered octets) output = octets ++ drop (length octets) output
 -- one call, whole: the record, the octet and the output as at entry; what is given back, the store and the output as at return
 pub record Receives (rest : Rest) (counts : Counts) (store : List ℕ) (octet : ℕ) (output : List ℕ)
     (given : Received) (storeAfter outputThen : List ℕ) : Type 0 where
-  pub state : record { rest = given .rest; store = storeAfter } ≡ stateAfter (record { rest = rest; store = store }) octet
-  pub account : given .counts ≡ countsAfter counts (record { rest = rest; store = store }) octet (length output)
-  pub answers : answerOf (given .answer) ≡ told (answerDue (record { rest = rest; store = store }) octet (length output))
-  pub puts : outputThen ≡ outputAfter (answerDue (record { rest = rest; store = store }) octet (length output)) output
+  pub state : stateOf (given .rest) storeAfter ≡ stateAfter (stateOf rest store) octet
+  pub account : given .counts ≡ countsAfter counts (stateOf rest store) octet (length output)
+  pub answers : answerOf (given .answer) ≡ told (answerDue (stateOf rest store) octet (length output))
+  pub puts : outputThen ≡ outputAfter (answerDue (stateOf rest store) octet (length output)) output
 
 -- ---- a slice of line octets, taken up to and including the octet that brings the next answer
 
@@ -170,8 +173,8 @@ run s c (x ∷ xs) room =
 -- one call with a slice, whole, as `Receives` is of one octet
 pub record Takes (rest : Rest) (counts : Counts) (store line output : List ℕ)
     (given : Taken) (storeAfter outputThen : List ℕ) : Type 0 where
-  pub state : record { rest = given .rest; store = storeAfter } ≡ run (record { rest = rest; store = store }) counts line (length output) .state
-  pub account : given .counts ≡ run (record { rest = rest; store = store }) counts line (length output) .counts
-  pub taken : given .taken ≡ run (record { rest = rest; store = store }) counts line (length output) .taken
-  pub answers : answerOf (given .answer) ≡ told (run (record { rest = rest; store = store }) counts line (length output) .verdict)
-  pub puts : outputThen ≡ outputAfter (run (record { rest = rest; store = store }) counts line (length output) .verdict) output
+  pub state : stateOf (given .rest) storeAfter ≡ run (stateOf rest store) counts line (length output) .state
+  pub account : given .counts ≡ run (stateOf rest store) counts line (length output) .counts
+  pub taken : given .taken ≡ run (stateOf rest store) counts line (length output) .taken
+  pub answers : answerOf (given .answer) ≡ told (run (stateOf rest store) counts line (length output) .verdict)
+  pub puts : outputThen ≡ outputAfter (run (stateOf rest store) counts line (length output) .verdict) output

@@ -5,8 +5,8 @@ ghost use mathlib.Core.List.{List, _++_};
 ghost use Prim.Native.Nat.{ℕ, _+_, _*_, _<_, _≤_};
 ghost use lib.ListN.{length, getD, take, drop};
 ghost use Rattle.frame_format.specs.Stretch.{atFlag};
-ghost use Rattle.receiver.specs.Step.{Receives, Takes, storing, advancedIn, closedIn, plus, countedFlag, freshRest, zeroCounts};
-ghost use Rattle.receiver.specs.Parts.{stateOf, verdictOf, withUnclosed, countedBy, Judges, Closes, PutsPlain, NoFlag, Ignores, Passes, Turns};
+ghost use Rattle.receiver.specs.Step.{Receives, Takes, storing, advancedIn, closedIn, plus, countedFlag, freshRest, zeroCounts, stateOf};
+ghost use Rattle.receiver.specs.Parts.{verdictOf, withUnclosed, countedBy, Judges, Closes, PutsPlain, NoFlag, Ignores, Passes, Turns};
 
 // Where the line stands.
 pub enum Phase {

@@ -6,7 +6,7 @@ use lib.ListN.{length}
 use Rattle.frame_format.specs.Stretch.{Verdict, silent, refused, delivered}
 use Rattle.receiver.specs.declared.Rest.{Rest}
 use Rattle.receiver.specs.declared.Counts.{Counts}
-use Rattle.receiver.specs.Step.{stateAfter, countsAfter, answerDue, outputAfter}
+use Rattle.receiver.specs.Step.{stateOf, stateAfter, countsAfter, answerDue, outputAfter}
 use Rattle.ucp_messages.specs.declared.Message.{Message}
 use Rattle.ucp_messages.specs.Reads.{Answer, refused as unread, means, answerDue as messageDue}
 use Rattle.ucp_receive.specs.declared.Event.{Event}
@@ -38,7 +38,7 @@ outcomeDue (delivered body) = outcomeOfRead (messageDue body)
 -- one call, whole: the record, the octet and the output as at entry; what is given back, the store and the output as at return
 pub record Hears (rest : Rest) (counts : Counts) (store : List ℕ) (octet : ℕ) (output : List ℕ)
     (given : Heard) (storeAfter outputThen : List ℕ) : Type 0 where
-  pub state : record { rest = given .rest; store = storeAfter } ≡ stateAfter (record { rest = rest; store = store }) octet
-  pub account : given .counts ≡ countsAfter counts (record { rest = rest; store = store }) octet (length output)
-  pub answers : outcomeOf (given .event) ≡ outcomeDue (answerDue (record { rest = rest; store = store }) octet (length output))
-  pub puts : outputThen ≡ outputAfter (answerDue (record { rest = rest; store = store }) octet (length output)) output
+  pub state : stateOf (given .rest) storeAfter ≡ stateAfter (stateOf rest store) octet
+  pub account : given .counts ≡ countsAfter counts (stateOf rest store) octet (length output)
+  pub answers : outcomeOf (given .event) ≡ outcomeDue (answerDue (stateOf rest store) octet (length output))
+  pub puts : outputThen ≡ outputAfter (answerDue (stateOf rest store) octet (length output)) output

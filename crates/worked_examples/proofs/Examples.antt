@@ -25,8 +25,7 @@ examples =
       escape-last = refl;
       too-short = refl;
       no-answer = refl;
-      shared-check =
-          (four-bits-unseen .checks .0, four-bits-unseen .checks .1, four-bits-unseen .bits, four-bits-unseen .places, four-bits-unseen .notFewer);
+      shared-check = four-bits-unseen;
       two-flips = refl;
     }
 

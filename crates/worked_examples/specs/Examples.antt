@@ -2,12 +2,11 @@
 use mathlib.Core.Path.{_≡_}
 use mathlib.Core.List.{List, [], _∷_, _++_}
 use Prim.Native.Nat.{ℕ}
-use Rattle.frame_check.specs.Check.{frameCheck}
 use Rattle.frame_format.specs.Frame.{frame}
 use Rattle.frame_format.specs.Stretch.{Verdict, silent, refused, delivered}
 use Rattle.line_history.specs.History.{Call, answer}
 use Rattle.receiver.specs.Step.{fresh, zeroCounts, run}
-use Rattle.check_strength.specs.BitNumbers.{differBelow, DifferWithin}
+use Rattle.check_strength.specs.Limits.{FourBitsUnseen}
 
 -- the answers of a line, those that are given, with 436 octets of room lent to each call
 abbrev pub given : Verdict → List Verdict
@@ -38,12 +37,7 @@ pub record Examples : Type 0 where
   pub too-short : answers (0x7E ∷ 0x01 ∷ 0x01 ∷ 0x7E ∷ []) ≡ refused 4 ∷ []
   pub no-answer : answers (0x7E ∷ 0x7E ∷ []) ≡ []
   -- bodies 2C 02 2B and 2D 12 0A share check E7C5: four bits over 17 places, just past demand 3
-  pub shared-check :
-      (frameCheck (0x2C ∷ 0x02 ∷ 0x2B ∷ []) ≡ 0xE7C5)
-      × (frameCheck (0x2D ∷ 0x12 ∷ 0x0A ∷ []) ≡ 0xE7C5)
-      × (differBelow (0x2C ∷ 0x02 ∷ 0x2B ∷ []) (0x2D ∷ 0x12 ∷ 0x0A ∷ []) 24 ≡ 4)
-      × DifferWithin 16 (0x2C ∷ 0x02 ∷ 0x2B ∷ []) (0x2D ∷ 0x12 ∷ 0x0A ∷ [])
-      × (DifferWithin 15 (0x2C ∷ 0x02 ∷ 0x2B ∷ []) (0x2D ∷ 0x12 ∷ 0x0A ∷ []) → ⊥)
+  pub shared-check : FourBitsUnseen
   -- one bit of the body and one of the check are flipped, and the frame is delivered
   pub two-flips :
       answers (0x7E ∷ 0x2C ∷ 0x02 ∷ 0x2A ∷ 0xC4 ∷ 0xE7 ∷ 0x7E ∷ []) ≡ delivered (0x2C ∷ 0x02 ∷ 0x2A ∷ []) ∷ []

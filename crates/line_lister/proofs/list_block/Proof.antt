@@ -6,7 +6,8 @@ use native.Mathlib.Omega.{arith}
 use denote.Ref.{now}
 use lib.ListN.{length, take, drop, length-drop, drop-of-length-le}
 use lib.Seq.{take-all, length-take-le, drop-drop}
-use Rattle.listing.specs.Lists.{stateOf, Lists, Behind, behindAll}
+use Rattle.receiver.specs.Step.{stateOf}
+use Rattle.listing.specs.Lists.{Lists, Behind, behindAll}
 use Rattle.listing.proofs.Whole.{same-long}
 use Rattle.listing.proofs.Slices.{lists-within, lists-moves, lists-onward}
 use borrow.Author.Needs.{needs}

@@ -4,8 +4,8 @@ use Prim.Native.Nat.{_+_}
 use lib.ListN.{drop}
 use denote.Ref.{now}
 use Rattle.receiver.specs.declared.Counts.{Counts}
-use Rattle.receiver.specs.Step.{run}
-use Rattle.receiver.specs.Parts.{stateOf, laterBy}
+use Rattle.receiver.specs.Step.{run, stateOf}
+use Rattle.receiver.specs.Parts.{laterBy}
 use Rattle.receiver.proofs.Slice.{ignored}
 use borrow.Author.Needs.{needs}
 use Rattle.receiver.proofs.pass_ignored.Statement.{statement}

@@ -5,8 +5,8 @@ use lib.ListN.{drop}
 use denote.Ref.{now}
 use Rattle.receiver.specs.declared.Phase.{Phase}
 use Rattle.receiver.specs.declared.Counts.{Counts}
-use Rattle.receiver.specs.Step.{Run, run}
-use Rattle.receiver.specs.Parts.{stateOf, reading, laterBy}
+use Rattle.receiver.specs.Step.{Run, run, stateOf}
+use Rattle.receiver.specs.Parts.{reading, laterBy}
 use Rattle.receiver.proofs.Slice.{none-taken}
 use borrow.Author.Needs.{needs}
 use Rattle.receiver.proofs.pass_plain.Statement.{statement}

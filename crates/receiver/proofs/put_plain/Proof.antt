@@ -7,8 +7,8 @@ use lib.ListN.{getD, drop}
 use denote.Ref.{now}
 use Rattle.receiver.specs.declared.Phase.the-variants.{Reading}
 use Rattle.receiver.specs.declared.Counts.{Counts}
-use Rattle.receiver.specs.Step.{run}
-use Rattle.receiver.specs.Parts.{stateOf, reading, laterBy, countedBy}
+use Rattle.receiver.specs.Step.{run, stateOf}
+use Rattle.receiver.specs.Parts.{reading, laterBy, countedBy}
 use Rattle.receiver.proofs.Slice.{none-taken, other-more, stores}
 use borrow.Author.Needs.{needs}
 use Rattle.receiver.proofs.put_plain.Statement.{statement}

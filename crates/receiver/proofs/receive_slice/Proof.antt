@@ -6,8 +6,8 @@ use native.Mathlib.Omega.{arith}
 use lib.ListN.{length, drop}
 use denote.Ref.{now}
 use Rattle.frame_format.specs.Stretch.{silent}
-use Rattle.receiver.specs.Step.{run, nothing, answerOf, Takes}
-use Rattle.receiver.specs.Parts.{stateOf, laterBy, Turns}
+use Rattle.receiver.specs.Step.{run, nothing, answerOf, Takes, stateOf}
+use Rattle.receiver.specs.Parts.{laterBy, Turns}
 use Rattle.receiver.proofs.Slice.{none-taken, turned-on, turned-out, used-up, takes, body-told, refusal-told}
 use borrow.Author.Needs.{needs}
 use Rattle.receiver.proofs.receive_slice.Statement.{statement}

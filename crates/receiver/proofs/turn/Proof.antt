@@ -4,8 +4,7 @@ use Prim.Native.Nat.{_+_}
 use native.Mathlib.Omega.{arith}
 use lib.ListN.{length, getD}
 use denote.Ref.{now}
-use Rattle.receiver.specs.Step.{answerDue}
-use Rattle.receiver.specs.Parts.{stateOf}
+use Rattle.receiver.specs.Step.{answerDue, stateOf}
 use Rattle.frame_format.specs.Stretch.{silent}
 use Rattle.receiver.proofs.Slice.{stepped}
 use borrow.Author.Needs.{needs}

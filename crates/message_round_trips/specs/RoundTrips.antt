@@ -1,0 +1,22 @@
+-- Both round trips, of the definitions that the contracts of the reader and the writer cite. Assumes nothing.
+use mathlib.Core.Path.{_≡_}
+use mathlib.Core.Bool.{true}
+use mathlib.Core.List.{List}
+use Prim.Native.Nat.{ℕ}
+use lib.ListN.{drop}
+use Rattle.binary_polynomial.specs.Bits.{Octets}
+use Rattle.ucp_messages.specs.declared.Message.{Message}
+use Rattle.ucp_messages.specs.Reads.{means, answerDue}
+use Rattle.ucp_messages.specs.Bodies.{messageFits, messageBody}
+use Rattle.message_round_trips.specs.Typed.{Typed}
+
+-- the body of a message whose fields fit reads back as that message
+abbrev pub WrittenReadsBack : Type 0
+WrittenReadsBack =
+    (m : Message) (payload : List ℕ) → Typed m → messageFits m payload ≡ true → answerDue (messageBody m payload) ≡ means m
+
+-- an accepted body writes back to the same octets; an uplink's payload is the body without its first octet
+abbrev pub AcceptedWritesBack : Type 0
+AcceptedWritesBack =
+    (body : List ℕ) (m : Message) → Octets body → answerDue body ≡ means m
+    → (messageFits m (drop 1 body) ≡ true) × (messageBody m (drop 1 body) ≡ body)
