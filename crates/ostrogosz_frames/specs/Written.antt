@@ -2,13 +2,13 @@
 use mathlib.Core.Path.{_≡_}
 use mathlib.Core.List.{List}
 use Prim.Native.Nat.{ℕ}
+use Rattle.c_answers.specs.declared.OstrogoszWritten.{OstrogoszWritten}
+use Rattle.c_answers.specs.Written.{accepted, refused as refusal}
 use Rattle.frame_writer.specs.Writes.{Answer, refused, wrote, answerDue, outputAfter}
-use Rattle.ostrogosz.specs.declared.OstrogoszWritten.{OstrogoszWritten}
 
--- a refusal's number and no length; or no refusal, and how many octets the frame has
 abbrev pub numbers : Answer → OstrogoszWritten
-numbers (refused number) = record { refusal = number; length = 0 }
-numbers (wrote octets) = record { refusal = 0; length = octets }
+numbers (refused number) = refusal number
+numbers (wrote octets) = accepted octets
 
 -- one call, whole: the body and the output as at entry, what is given back, and the output as at return
 pub record WritesFrame (body output : List ℕ) (given : OstrogoszWritten) (after : List ℕ) : Type 0 where
