@@ -18,6 +18,7 @@ ghost use Rattle.ucp_messages.specs.Bodies.{messageFits, messageBody};
 ghost use Rattle.ucp_messages.specs.Writes.{Writes};
 
 // Message 0, Heartbeat: all bits carried as they are.
+#[repr(C)]
 pub struct Heartbeat {
     pub status_1: u8,
     pub status_2: u8,
@@ -27,6 +28,7 @@ pub struct Heartbeat {
 }
 
 // Messages 10 and 20, Ownship and Traffic report. Every number is raw; the crate message_meanings says what it means.
+#[repr(C)]
 pub struct Report {
     // 4 bits each.
     pub alert: u8,
@@ -53,17 +55,20 @@ pub struct Report {
 }
 
 // Message 11, Ownship geometric altitude: in steps of 5 feet, and its metrics.
+#[repr(C)]
 pub struct GeometricAltitude {
     pub altitude: i16,
     pub metrics: u16,
 }
 
 // Message 44, Message Request.
+#[repr(C)]
 pub struct Request {
     pub requested_id: u8,
 }
 
 // Message 45, Control.
+#[repr(C)]
 pub struct Control {
     // 1090ES transmission enabled; replies enabled for modes S, C and A; the ident button.
     pub es_enabled: bool,
@@ -82,6 +87,7 @@ pub struct Control {
 }
 
 // Message 117, Initialization.
+#[repr(C)]
 pub struct Initialization {
     pub version: u8,
     // 24 bits.
