@@ -8,8 +8,11 @@ use ucp_messages::Message;
 use ucp_messages::Read;
 use ucp_messages::Report;
 use ucp_messages::Request;
+use writer_answers::OstrogoszWritten;
 ghost use mathlib.Core.Path.{_≡_};
+ghost use mathlib.Core.List.{[]};
 ghost use Rattle.ucp_messages.specs.Reads.{answerDue, answerOf};
+ghost use Rattle.ostrogosz_messages.specs.Writers.{WritesBody, SendsFrame};
 ghost use Rattle.ostrogosz_messages.specs.Messages.{noText, noHeartbeat, noReport, noGeometric, noRequest, noControl, noInitialization, blank, parts, meant, messageNumbers};
 
 // The message reader's answer. The fields of the kind that `id` names are filled, all others are 0.
@@ -199,4 +202,158 @@ pub extern "C" fn ostrogosz_read_message(body: &[u8]) -> OstrogoszMessage
         Read::Message(message) => of_message(message),
         Read::Refused(number) => blank(number, 0),
     }
+}
+
+// ---- writing a body: 13 for a field outside its range or too wide for its bits, then 8 for room
+
+fn write(message: Message, payload: &[u8], output: &mut [u8]) -> OstrogoszWritten
+    ensures { λ r. ⌜ WritesBody message (now (payload .entry)) (now (output .entry)) r (now (output .exit)) ⌝ }
+{
+    writer_answers::in_numbers(ucp_messages::write_message(message, payload, output))
+}
+
+#[no_mangle]
+pub extern "C" fn ostrogosz_write_heartbeat(
+    heartbeat: Heartbeat,
+    output: &mut [u8],
+) -> OstrogoszWritten
+    ensures { λ r. ⌜ WritesBody (Message.Heartbeat heartbeat) [] (now (output .entry)) r (now (output .exit)) ⌝ }
+{
+    write(Message::Heartbeat(heartbeat), &[], output)
+}
+
+// An uplink's payload has 435 octets, else 13.
+#[no_mangle]
+pub extern "C" fn ostrogosz_write_uplink(payload: &[u8], output: &mut [u8]) -> OstrogoszWritten
+    ensures { λ r. ⌜ WritesBody Message.Uplink (now (payload .entry)) (now (output .entry)) r (now (output .exit)) ⌝ }
+{
+    write(Message::Uplink, payload, output)
+}
+
+#[no_mangle]
+pub extern "C" fn ostrogosz_write_ownship(report: Report, output: &mut [u8]) -> OstrogoszWritten
+    ensures { λ r. ⌜ WritesBody (Message.Ownship report) [] (now (output .entry)) r (now (output .exit)) ⌝ }
+{
+    write(Message::Ownship(report), &[], output)
+}
+
+#[no_mangle]
+pub extern "C" fn ostrogosz_write_geometric_altitude(
+    altitude: GeometricAltitude,
+    output: &mut [u8],
+) -> OstrogoszWritten
+    ensures { λ r. ⌜ WritesBody (Message.GeometricAltitude altitude) [] (now (output .entry)) r (now (output .exit)) ⌝ }
+{
+    write(Message::GeometricAltitude(altitude), &[], output)
+}
+
+#[no_mangle]
+pub extern "C" fn ostrogosz_write_traffic(report: Report, output: &mut [u8]) -> OstrogoszWritten
+    ensures { λ r. ⌜ WritesBody (Message.Traffic report) [] (now (output .entry)) r (now (output .exit)) ⌝ }
+{
+    write(Message::Traffic(report), &[], output)
+}
+
+#[no_mangle]
+pub extern "C" fn ostrogosz_write_request(request: Request, output: &mut [u8]) -> OstrogoszWritten
+    ensures { λ r. ⌜ WritesBody (Message.Request request) [] (now (output .entry)) r (now (output .exit)) ⌝ }
+{
+    write(Message::Request(request), &[], output)
+}
+
+#[no_mangle]
+pub extern "C" fn ostrogosz_write_control(control: Control, output: &mut [u8]) -> OstrogoszWritten
+    ensures { λ r. ⌜ WritesBody (Message.Control control) [] (now (output .entry)) r (now (output .exit)) ⌝ }
+{
+    write(Message::Control(control), &[], output)
+}
+
+#[no_mangle]
+pub extern "C" fn ostrogosz_write_initialization(
+    initialization: Initialization,
+    output: &mut [u8],
+) -> OstrogoszWritten
+    ensures { λ r. ⌜ WritesBody (Message.Initialization initialization) [] (now (output .entry)) r (now (output .exit)) ⌝ }
+{
+    write(Message::Initialization(initialization), &[], output)
+}
+
+// ---- sending a frame: 13, then 7 and 8 as the frame writer gives them
+
+fn send(message: Message, payload: &[u8], buffer: &mut [u8; 878]) -> OstrogoszWritten
+    ensures { λ r. ⌜ SendsFrame message (now (payload .entry)) (now (buffer .entry)) r (now (buffer .exit)) ⌝ }
+{
+    writer_answers::in_numbers(ucp_send::send_message(message, payload, buffer))
+}
+
+#[no_mangle]
+pub extern "C" fn ostrogosz_send_heartbeat(
+    heartbeat: Heartbeat,
+    buffer: &mut [u8; 878],
+) -> OstrogoszWritten
+    ensures { λ r. ⌜ SendsFrame (Message.Heartbeat heartbeat) [] (now (buffer .entry)) r (now (buffer .exit)) ⌝ }
+{
+    send(Message::Heartbeat(heartbeat), &[], buffer)
+}
+
+// An uplink's payload has 435 octets, else 13.
+#[no_mangle]
+pub extern "C" fn ostrogosz_send_uplink(payload: &[u8], buffer: &mut [u8; 878]) -> OstrogoszWritten
+    ensures { λ r. ⌜ SendsFrame Message.Uplink (now (payload .entry)) (now (buffer .entry)) r (now (buffer .exit)) ⌝ }
+{
+    send(Message::Uplink, payload, buffer)
+}
+
+#[no_mangle]
+pub extern "C" fn ostrogosz_send_ownship(report: Report, buffer: &mut [u8; 878]) -> OstrogoszWritten
+    ensures { λ r. ⌜ SendsFrame (Message.Ownship report) [] (now (buffer .entry)) r (now (buffer .exit)) ⌝ }
+{
+    send(Message::Ownship(report), &[], buffer)
+}
+
+#[no_mangle]
+pub extern "C" fn ostrogosz_send_geometric_altitude(
+    altitude: GeometricAltitude,
+    buffer: &mut [u8; 878],
+) -> OstrogoszWritten
+    ensures { λ r. ⌜ SendsFrame (Message.GeometricAltitude altitude) [] (now (buffer .entry)) r (now (buffer .exit)) ⌝ }
+{
+    send(Message::GeometricAltitude(altitude), &[], buffer)
+}
+
+#[no_mangle]
+pub extern "C" fn ostrogosz_send_traffic(report: Report, buffer: &mut [u8; 878]) -> OstrogoszWritten
+    ensures { λ r. ⌜ SendsFrame (Message.Traffic report) [] (now (buffer .entry)) r (now (buffer .exit)) ⌝ }
+{
+    send(Message::Traffic(report), &[], buffer)
+}
+
+#[no_mangle]
+pub extern "C" fn ostrogosz_send_request(
+    request: Request,
+    buffer: &mut [u8; 878],
+) -> OstrogoszWritten
+    ensures { λ r. ⌜ SendsFrame (Message.Request request) [] (now (buffer .entry)) r (now (buffer .exit)) ⌝ }
+{
+    send(Message::Request(request), &[], buffer)
+}
+
+#[no_mangle]
+pub extern "C" fn ostrogosz_send_control(
+    control: Control,
+    buffer: &mut [u8; 878],
+) -> OstrogoszWritten
+    ensures { λ r. ⌜ SendsFrame (Message.Control control) [] (now (buffer .entry)) r (now (buffer .exit)) ⌝ }
+{
+    send(Message::Control(control), &[], buffer)
+}
+
+#[no_mangle]
+pub extern "C" fn ostrogosz_send_initialization(
+    initialization: Initialization,
+    buffer: &mut [u8; 878],
+) -> OstrogoszWritten
+    ensures { λ r. ⌜ SendsFrame (Message.Initialization initialization) [] (now (buffer .entry)) r (now (buffer .exit)) ⌝ }
+{
+    send(Message::Initialization(initialization), &[], buffer)
 }

@@ -11,6 +11,7 @@ mod refusal;
 mod texts;
 
 use octet_fields::Text;
+use writer_answers::Written;
 ghost use mathlib.Core.Path.{_≡_};
 ghost use Rattle.ucp_messages.specs.Kinds.{kindOf};
 ghost use Rattle.ucp_messages.specs.Reads.{Reads};
@@ -135,14 +136,6 @@ pub enum Read {
     Refused(u8),
 }
 
-// A message writer's answer. `answerOf` of specs/Writes.antt gives the paper's number and values of each case.
-pub enum Written {
-    // Accepted: how many octets the body has.
-    Body(usize),
-    // Refused, by its number: 13, a field outside its range or too wide for its bits; 8, an output shorter than the body.
-    Refused(u8),
-}
-
 // The kind of a message, by its ID.
 pub fn kind_of(id: u8) -> Kind
     ensures { λ r. ⌜ r ≡ kindOf id ⌝ }
@@ -187,7 +180,8 @@ pub fn read_message(body: &[u8]) -> Read
     }
 }
 
-// Writes a message's body at the start of output. On a refusal nothing is written. Only an uplink takes the payload.
+// Writes a message's body at the start of output. Only an uplink takes the payload. Refusals: 13, a field outside its range or
+// too wide for its bits; 8, an output shorter than the body. On a refusal nothing is written.
 pub fn write_message(message: Message, payload: &[u8], output: &mut [u8]) -> Written
     ensures { λ r. ⌜ Writes (messageFits message (now (payload .entry))) (messageBody message (now (payload .entry))) (now (output .entry)) r (now (output .exit)) ⌝ }
 {
