@@ -1,49 +1,51 @@
--- A body's kind and its refusal, and the answer that follows. Assumes nothing.
-use mathlib.Core.Path.{_≡_, refl, ap}
-use mathlib.Core.Bool.{Bool, true, false}
+-- A body's kind, and the answer to it by the tests of its kind. Assumes nothing.
+use mathlib.Core.Path.{_≡_, refl, sym, _∙_}
+use mathlib.Core.Bool.{Bool, true, false, cond}
 use mathlib.Core.List.{List, [], _∷_}
 use Prim.Native.Nat.{ℕ, _<_}
 use native.Mathlib.Omega.{arith}
-use borrow.Author.Tests.{ne-eqb, eqb-true}
-use lib.Dec.{eqb}
 use lib.ListN.{length, getD}
 use Rattle.ucp_messages.specs.declared.Kind.{Kind}
-use Rattle.ucp_messages.specs.declared.Kind.the-variants.{Heartbeat, Uplink, Ownship, GeometricAltitude, Traffic, Request, Control, Initialization, Unknown}
+use Rattle.ucp_messages.specs.declared.Kind.the-variants.{Unknown}
 use Rattle.ucp_messages.specs.declared.Message.{Message}
 use Rattle.ucp_messages.specs.Kinds.{kindOf, kindIn}
-use Rattle.ucp_messages.specs.Reads.{refused, given, refusalBy, refusalIn, answerAs}
+use Rattle.ucp_messages.specs.Reads.{refused, means, given, refusalBy}
 
 -- the first octet is the ID
-pub kind-first : (body : List ℕ) → 0 < length body → kindIn body ≡ kindOf (getD body 0 0)
-kind-first [] h = absurd (omega arith)
-kind-first (x ∷ xs) h = refl
+pub kind-so : (body : List ℕ) {j k : Kind} → 0 < length body → j ≡ kindOf (getD body 0 0) → j ≡ k → kindIn body ≡ k
+kind-so [] h d e = absurd (omega arith)
+kind-so (x ∷ xs) h d e = sym d ∙ e
 
 -- no octet, no kind
 pub kind-none : (body : List ℕ) → length body ≡ 0 → kindIn body ≡ Unknown
 kind-none [] h = refl
 kind-none (x ∷ xs) h = absurd (omega arith)
 
-given-refused : {n m : ℕ} (message : Message) → n ≡ m → (n ≡ 0 → ⊥) → refused n ≡ given m message
-given-refused {n} message e h = rw (← e, ne-eqb n 0 h)
-
--- a refusal that is not 0 is the answer
-pub refused-so : (k : Kind) (body : List ℕ) {n : ℕ} → n ≡ refusalIn k body → (n ≡ 0 → ⊥) → refused n ≡ answerAs k body
-unfolding answerAs refusalIn
-refused-so Heartbeat body e h = given-refused _ e h
-refused-so Uplink body e h = given-refused _ e h
-refused-so Ownship body e h = given-refused _ e h
-refused-so GeometricAltitude body e h = given-refused _ e h
-refused-so Traffic body e h = given-refused _ e h
-refused-so Request body e h = given-refused _ e h
-refused-so Control body e h = given-refused _ e h
-refused-so Initialization body e h = given-refused _ e h
-refused-so Unknown body e h = ap refused e
-
--- a body that is not refused has its kind's length
-pub length-so : (n m : ℕ) (fixed range : Bool) → refusalBy (eqb n m) fixed range ≡ 0 → n ≡ m
+-- ---- the first test that fails gives the refusal
+by-length : (fixed range : Bool) → refusalBy false fixed range ≡ 11
 unfolding refusalBy
-length-so n m fixed range = go (eqb n m) refl
-  where
-    go : (t : Bool) → eqb n m ≡ t → refusalBy t fixed range ≡ 0 → n ≡ m
-    go true e h = eqb-true n m e
-    go false e h = absurd (omega arith)
+by-length fixed range = refl
+
+by-fixed : (range : Bool) → refusalBy true false range ≡ 12
+unfolding refusalBy
+by-fixed range = refl
+
+by-field : (range : Bool) (n : ℕ) → cond range 0 13 ≡ n → refusalBy true true range ≡ n
+unfolding refusalBy
+by-field range n e = e
+
+pub wrong-length : {length : Bool} (fixed range : Bool) (m : Message) → length ≡ false → refused 11 ≡ given (refusalBy length fixed range) m
+wrong-length fixed range m e = rw (e, by-length fixed range)
+
+pub wrong-fixed : {length fixed : Bool} (range : Bool) (m : Message) → length ≡ true → fixed ≡ false
+    → refused 12 ≡ given (refusalBy length fixed range) m
+wrong-fixed range m e f = rw (e, f, by-fixed range)
+
+pub wrong-field : {length fixed range : Bool} (m : Message) → length ≡ true → fixed ≡ true → range ≡ false
+    → refused 13 ≡ given (refusalBy length fixed range) m
+wrong-field m e f g = rw (e, f, g, by-field false 13 refl)
+
+-- none fails
+pub right : {length fixed range : Bool} {m n : Message} → length ≡ true → fixed ≡ true → range ≡ true → m ≡ n
+    → means m ≡ given (refusalBy length fixed range) n
+right e f g h = rw (e, f, g, h, by-field true 0 refl)

@@ -1,13 +1,12 @@
 // The messages of the UCP line: each kind's fields from a body, and a body from the fields.
-mod message_0;
-mod message_10;
-mod message_11;
-mod message_117;
-mod message_44;
-mod message_45;
-mod message_7;
+pub mod message_0;
+pub mod message_10;
+pub mod message_11;
+pub mod message_117;
+pub mod message_44;
+pub mod message_45;
+pub mod message_7;
 mod output;
-mod refusal;
 mod texts;
 
 use octet_fields::Text;
@@ -160,22 +159,15 @@ pub fn read_message(body: &[u8]) -> Read
     if body.len() == 0 {
         return Read::Refused(10);
     }
-    let kind = kind_of(body[0]);
-    let refusal = refusal::of(kind, body);
-    if refusal != 0 {
-        return Read::Refused(refusal);
-    }
-    match kind {
-        Kind::Heartbeat => Read::Message(Message::Heartbeat(message_0::read(body))),
-        Kind::Uplink => Read::Message(Message::Uplink),
-        Kind::Ownship => Read::Message(Message::Ownship(message_10::read(body))),
-        Kind::GeometricAltitude => Read::Message(Message::GeometricAltitude(message_11::read(
-            body,
-        ))),
-        Kind::Traffic => Read::Message(Message::Traffic(message_10::read(body))),
-        Kind::Request => Read::Message(Message::Request(message_44::read(body))),
-        Kind::Control => Read::Message(Message::Control(message_45::read(body))),
-        Kind::Initialization => Read::Message(Message::Initialization(message_117::read(body))),
+    match kind_of(body[0]) {
+        Kind::Heartbeat => message_0::read(body),
+        Kind::Uplink => message_7::read(body),
+        Kind::Ownship => message_10::read(10, body),
+        Kind::GeometricAltitude => message_11::read(body),
+        Kind::Traffic => message_10::read(20, body),
+        Kind::Request => message_44::read(body),
+        Kind::Control => message_45::read(body),
+        Kind::Initialization => message_117::read(body),
         Kind::Unknown => Read::Refused(10),
     }
 }

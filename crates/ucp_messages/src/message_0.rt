@@ -1,13 +1,17 @@
 // Message 0, Heartbeat.
 use super::Heartbeat;
+use super::Kind;
+use super::Message;
+use super::Read;
 use writer_answers::Written;
 ghost use mathlib.Core.Path.{_≡_};
 ghost use mathlib.Core.Bool.{true};
 ghost use lib.ListN.{length};
 ghost use Rattle.ucp_messages.specs.Heartbeat.{heartbeatIn, heartbeatBody};
+ghost use Rattle.ucp_messages.specs.Reads.{answerOf, answerAs};
 ghost use Rattle.ucp_messages.specs.Writes.{Writes};
 
-pub fn read(body: &[u8]) -> Heartbeat
+fn fields(body: &[u8]) -> Heartbeat
     requires { ⌜ length (now body) ≡ 7 ⌝ }
     ensures { λ r. ⌜ r ≡ heartbeatIn (now (body .entry)) ⌝ }
 {
@@ -17,6 +21,16 @@ pub fn read(body: &[u8]) -> Heartbeat
         time_stamp: octet_fields::little_16(body, 3),
         counts: octet_fields::big_16(body, 5),
     }
+}
+
+// What a body that has the kind's ID means.
+pub fn read(body: &[u8]) -> Read
+    ensures { λ r. ⌜ answerOf r ≡ answerAs Kind.Heartbeat (now (body .entry)) ⌝ }
+{
+    if body.len() != 7 {
+        return Read::Refused(11);
+    }
+    Read::Message(Message::Heartbeat(fields(body)))
 }
 
 fn octets(heartbeat: Heartbeat) -> [u8; 7]

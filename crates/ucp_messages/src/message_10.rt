@@ -1,4 +1,7 @@
 // Messages 10 and 20, Ownship and Traffic report: they differ in the ID alone.
+use super::Kind;
+use super::Message;
+use super::Read;
 use super::Report;
 use writer_answers::Written;
 ghost use mathlib.Core.Path.{_≡_};
@@ -6,9 +9,10 @@ ghost use lib.ListN.{length};
 ghost use Rattle.octet_fields.specs.Digits.{Within};
 ghost use Rattle.octet_fields.specs.Layout.{layoutWidths};
 ghost use Rattle.ucp_messages.specs.Report.{reportLayout, reportFields, reportIn, reportBody, reportFits};
+ghost use Rattle.ucp_messages.specs.Reads.{answerOf, answerAs};
 ghost use Rattle.ucp_messages.specs.Writes.{Writes};
 
-pub fn read(body: &[u8]) -> Report
+fn fields(body: &[u8]) -> Report
     requires { ⌜ length (now body) ≡ 28 ⌝ }
     ensures { λ r. ⌜ r ≡ reportIn (now (body .entry)) ⌝ }
 {
@@ -35,6 +39,22 @@ pub fn read(body: &[u8]) -> Report
         callsign: octet_fields::text_at(body, 19),
         emergency: last / 16,
         spare: last % 16,
+    }
+}
+
+// What a body that has the kind's ID means: 10, or else 20.
+pub fn read(id: u8, body: &[u8]) -> Read
+    ensures { λ r. ⌜ (id ≡ 10 → answerOf r ≡ answerAs Kind.Ownship (now (body .entry))) ⌝ }
+    ensures { λ r. ⌜ ((id ≡ 10 → ⊥) → answerOf r ≡ answerAs Kind.Traffic (now (body .entry))) ⌝ }
+{
+    if body.len() != 28 {
+        return Read::Refused(11);
+    }
+    let report = fields(body);
+    if id == 10 {
+        Read::Message(Message::Ownship(report))
+    } else {
+        Read::Message(Message::Traffic(report))
     }
 }
 

@@ -1,13 +1,17 @@
 // Message 11, Ownship geometric altitude.
 use super::GeometricAltitude;
+use super::Kind;
+use super::Message;
+use super::Read;
 use writer_answers::Written;
 ghost use mathlib.Core.Path.{_≡_};
 ghost use mathlib.Core.Bool.{true};
 ghost use lib.ListN.{length};
 ghost use Rattle.ucp_messages.specs.GeometricAltitude.{geometricIn, geometricBody};
+ghost use Rattle.ucp_messages.specs.Reads.{answerOf, answerAs};
 ghost use Rattle.ucp_messages.specs.Writes.{Writes};
 
-pub fn read(body: &[u8]) -> GeometricAltitude
+fn fields(body: &[u8]) -> GeometricAltitude
     requires { ⌜ length (now body) ≡ 5 ⌝ }
     ensures { λ r. ⌜ r ≡ geometricIn (now (body .entry)) ⌝ }
 {
@@ -15,6 +19,16 @@ pub fn read(body: &[u8]) -> GeometricAltitude
         altitude: octet_fields::signed_16(octet_fields::big_16(body, 1)),
         metrics: octet_fields::big_16(body, 3),
     }
+}
+
+// What a body that has the kind's ID means.
+pub fn read(body: &[u8]) -> Read
+    ensures { λ r. ⌜ answerOf r ≡ answerAs Kind.GeometricAltitude (now (body .entry)) ⌝ }
+{
+    if body.len() != 5 {
+        return Read::Refused(11);
+    }
+    Read::Message(Message::GeometricAltitude(fields(body)))
 }
 
 fn octets(geometric: GeometricAltitude) -> [u8; 5]

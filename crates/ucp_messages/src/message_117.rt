@@ -1,13 +1,17 @@
 // Message 117, Initialization.
 use super::Initialization;
+use super::Kind;
+use super::Message;
+use super::Read;
 use writer_answers::Written;
 ghost use mathlib.Core.Path.{_≡_};
 ghost use Prim.Native.Nat.{_<_};
 ghost use lib.ListN.{length};
 ghost use Rattle.ucp_messages.specs.Initialization.{initializationIn, initializationBody, initializationFits};
+ghost use Rattle.ucp_messages.specs.Reads.{answerOf, answerAs};
 ghost use Rattle.ucp_messages.specs.Writes.{Writes};
 
-pub fn read(body: &[u8]) -> Initialization
+fn fields(body: &[u8]) -> Initialization
     requires { ⌜ length (now body) ≡ 19 ⌝ }
     ensures { λ r. ⌜ r ≡ initializationIn (now (body .entry)) ⌝ }
 {
@@ -22,6 +26,26 @@ pub fn read(body: &[u8]) -> Initialization
         lateral: offsets / 32,
         longitudinal: offsets % 32,
     }
+}
+
+// What a body that has the kind's ID means.
+pub fn read(body: &[u8]) -> Read
+    ensures { λ r. ⌜ answerOf r ≡ answerAs Kind.Initialization (now (body .entry)) ⌝ }
+{
+    if body.len() != 19 {
+        return Read::Refused(11);
+    }
+    if octet_fields::octet(body, 1) != 65 {
+        return Read::Refused(12);
+    }
+    if octet_fields::octet(body, 2) != 1 {
+        return Read::Refused(12);
+    }
+    let fields = fields(body);
+    if !fits(fields) {
+        return Read::Refused(13);
+    }
+    Read::Message(Message::Initialization(fields))
 }
 
 // Whether each field is in its range and has no more bits than the body has for it.

@@ -1,13 +1,17 @@
 // Message 45, Control.
 use super::Control;
+use super::Kind;
+use super::Message;
+use super::Read;
 use writer_answers::Written;
 ghost use mathlib.Core.Path.{_≡_};
 ghost use Prim.Native.Nat.{_<_};
 ghost use lib.ListN.{length};
 ghost use Rattle.ucp_messages.specs.Control.{controlIn, controlBody, controlFits, stateOf};
+ghost use Rattle.ucp_messages.specs.Reads.{answerOf, answerAs};
 ghost use Rattle.ucp_messages.specs.Writes.{Writes};
 
-pub fn read(body: &[u8]) -> Control
+fn fields(body: &[u8]) -> Control
     requires { ⌜ length (now body) ≡ 18 ⌝ }
     ensures { λ r. ⌜ r ≡ controlIn (now (body .entry)) ⌝ }
 {
@@ -30,6 +34,23 @@ pub fn read(body: &[u8]) -> Control
         emergency: octet_fields::octet(body, 9),
         identity: octet_fields::text_at(body, 10),
     }
+}
+
+// What a body that has the kind's ID means.
+pub fn read(body: &[u8]) -> Read
+    ensures { λ r. ⌜ answerOf r ≡ answerAs Kind.Control (now (body .entry)) ⌝ }
+{
+    if body.len() != 18 {
+        return Read::Refused(11);
+    }
+    if octet_fields::octet(body, 1) != 1 {
+        return Read::Refused(12);
+    }
+    let fields = fields(body);
+    if !fits(fields) {
+        return Read::Refused(13);
+    }
+    Read::Message(Message::Control(fields))
 }
 
 // Whether each field is in its range and has no more bits than the body has for it.

@@ -1,7 +1,22 @@
 // Message 7, Uplink: the payload stays in the caller's slice.
+use super::Kind;
+use super::Message;
+use super::Read;
 use writer_answers::Written;
+ghost use mathlib.Core.Path.{_≡_};
 ghost use Rattle.ucp_messages.specs.Uplink.{uplinkFits, uplinkBody};
+ghost use Rattle.ucp_messages.specs.Reads.{answerOf, answerAs};
 ghost use Rattle.ucp_messages.specs.Writes.{Writes};
+
+// What a body that has the kind's ID means: all octets behind the first are carried.
+pub fn read(body: &[u8]) -> Read
+    ensures { λ r. ⌜ answerOf r ≡ answerAs Kind.Uplink (now (body .entry)) ⌝ }
+{
+    if body.len() != 436 {
+        return Read::Refused(11);
+    }
+    Read::Message(Message::Uplink)
+}
 
 pub fn write(payload: &[u8], output: &mut [u8]) -> Written
     ensures { λ r. ⌜ Writes (uplinkFits (now (payload .entry))) (uplinkBody (now (payload .entry))) (now (output .entry)) r (now (output .exit)) ⌝ }

@@ -1,36 +1,28 @@
--- `message_0::read` meets its contract, field by field. Assumes nothing.
-use mathlib.Core.Path.{_∙_}
+-- `message_0::read` meets its contract, test by test. Assumes nothing.
+use mathlib.Core.Path.{_≡_, refl, ap}
+use native.Mathlib.Omega.{arith}
+use borrow.Author.Tests.{eq-eqb, ne-eqb}
 use denote.Ref.{now}
-use Rattle.octet_fields.proofs.Spelled.{field-at}
-use Rattle.ucp_messages.specs.Heartbeat.{heartbeatLayout, heartbeatIn}
+use lib.ListN.{length}
+use Rattle.ucp_messages.specs.declared.Message.the-variants.{Heartbeat}
+use Rattle.ucp_messages.specs.Reads.{refusalIn, answerAs}
+use Rattle.ucp_messages.proofs.Judged.{wrong-length, right}
 use borrow.Author.Needs.{needs}
 use Rattle.ucp_messages.proofs.message_0.read.Statement.{statement}
 use Rattle.ucp_messages.proofs.message_0.read.Tie as tie
 
-octet-requires : tie.Need-octet-requires
-octet-requires c κs = search needs
-
-octet-requires-2 : tie.Need-octet-requires-2
-octet-requires-2 c κs = search needs
-
-little-16-requires : tie.Need-little-16-requires
-little-16-requires c κs = search needs
-
-big-16-requires : tie.Need-big-16-requires
-big-16-requires c κs = search needs
-
 returns : tie.Need-returns
-unfolding heartbeatIn
-returns c =
-    let s = c .before .before .before .before .before in
-    let body = now (s .args .body) in
-    λ i. record {
-      «status_1» = (c .before .before .before .octet .ensures ∙ field-at heartbeatLayout 7 1 body (s .pre)) i;
-      «status_2» = (c .before .before .octet2 .ensures ∙ field-at heartbeatLayout 7 2 body (s .pre)) i;
-      «time_stamp» = (c .before .little-16 .ensures ∙ field-at heartbeatLayout 7 3 body (s .pre)) i;
-      counts = (c .big-16 .ensures ∙ field-at heartbeatLayout 7 4 body (s .pre)) i;
-    }
+unfolding answerAs refusalIn
+returns c = wrong-length _ _ _ (ne-eqb _ _ (c .if1 .taken))
+
+fields-requires : tie.Need-fields-requires
+fields-requires c κs = omega arith
+
+returns-2 : tie.Need-returns-2
+unfolding answerAs refusalIn
+returns-2 c =
+    let exact : length (now (c .before .before .before .args .body)) ≡ 7 = omega arith in
+    right (eq-eqb _ _ exact) refl refl (ap Heartbeat (c .fields .ensures))
 
 pub read-spec : {M : Type 1} → statement M
-read-spec =
-    tie.close (tie.spec octet-requires octet-requires-2 little-16-requires big-16-requires returns)
+read-spec = tie.close (tie.spec returns fields-requires returns-2)

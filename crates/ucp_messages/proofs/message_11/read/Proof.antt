@@ -1,37 +1,28 @@
--- `message_11::read` meets its contract, field by field. Assumes nothing.
-use mathlib.Core.Path.{_∙_, ap}
+-- `message_11::read` meets its contract, test by test. Assumes nothing.
+use mathlib.Core.Path.{_≡_, refl, ap}
+use native.Mathlib.Omega.{arith}
+use borrow.Author.Tests.{eq-eqb, ne-eqb}
 use denote.Ref.{now}
-use mir.Syntax.{w16}
-use mir.ValLaws.{toZ-ofZ}
-use Rattle.octet_fields.specs.Signed.{signed}
-use Rattle.octet_fields.proofs.Spelled.{field-at}
-use Rattle.ucp_messages.specs.GeometricAltitude.{geometricLayout, geometricIn}
+use lib.ListN.{length}
+use Rattle.ucp_messages.specs.declared.Message.the-variants.{GeometricAltitude}
+use Rattle.ucp_messages.specs.Reads.{refusalIn, answerAs}
+use Rattle.ucp_messages.proofs.Judged.{wrong-length, right}
 use borrow.Author.Needs.{needs}
 use Rattle.ucp_messages.proofs.message_11.read.Statement.{statement}
 use Rattle.ucp_messages.proofs.message_11.read.Tie as tie
 
-big-16-requires : tie.Need-big-16-requires
-big-16-requires c κs = search needs
-
-signed-16-requires : tie.Need-signed-16-requires
-signed-16-requires c κs = search needs
-
-big-16-requires-2 : tie.Need-big-16-requires-2
-big-16-requires-2 c κs = search needs
-
 returns : tie.Need-returns
-unfolding geometricIn
-returns c =
-    let s = c .before .before .before .before in
-    let body = now (s .args .body) in
-    λ i. record {
-      altitude =
-          (toZ-ofZ w16 (c .before .signed-16 .result) (record { sfits = c .before .signed-16 .ok })
-          ∙ c .before .signed-16 .ensures
-          ∙ ap (signed 32768) (c .before .before .big-16 .ensures ∙ field-at geometricLayout 5 1 body (s .pre)))
-          i;
-      metrics = (c .big-162 .ensures ∙ field-at geometricLayout 5 2 body (s .pre)) i;
-    }
+unfolding answerAs refusalIn
+returns c = wrong-length _ _ _ (ne-eqb _ _ (c .if1 .taken))
+
+fields-requires : tie.Need-fields-requires
+fields-requires c κs = omega arith
+
+returns-2 : tie.Need-returns-2
+unfolding answerAs refusalIn
+returns-2 c =
+    let exact : length (now (c .before .before .before .args .body)) ≡ 5 = omega arith in
+    right (eq-eqb _ _ exact) refl refl (ap GeometricAltitude (c .fields .ensures))
 
 pub read-spec : {M : Type 1} → statement M
-read-spec = tie.close (tie.spec big-16-requires signed-16-requires big-16-requires-2 returns)
+read-spec = tie.close (tie.spec returns fields-requires returns-2)

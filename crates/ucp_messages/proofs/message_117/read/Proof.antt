@@ -1,65 +1,72 @@
--- `message_117::read` meets its contract, field by field. Assumes nothing.
-use mathlib.Core.Path.{_≡_, _∙_, ap}
-use Prim.Native.Nat.{ℕ, _/_, _%_}
+-- `message_117::read` meets its contract, test by test. Assumes nothing.
+use mathlib.Core.Path.{_≡_, sym, ap, _∙_}
+use native.Mathlib.Omega.{arith}
+use borrow.Author.Tests.{eq-eqb, ne-eqb, not-true, not-false}
 use denote.Ref.{now}
-use lib.ListN.{getD}
-use Rattle.octet_fields.specs.Layout.{fields}
-use Rattle.octet_fields.proofs.Spelled.{elements, field-at, text-at}
-use Rattle.ucp_messages.specs.Initialization.{initializationLayout, initializationIn}
+use lib.ListN.{length}
+use Rattle.ucp_messages.specs.declared.Message.the-variants.{Initialization}
+use Rattle.ucp_messages.specs.Reads.{refusalIn, answerAs}
+use Rattle.ucp_messages.specs.Initialization.{initializationFits}
+use Rattle.ucp_messages.proofs.Judged.{wrong-length, wrong-fixed, wrong-field, right}
 use borrow.Author.Needs.{needs}
 use Rattle.ucp_messages.proofs.message_117.read.Statement.{statement}
 use Rattle.ucp_messages.proofs.message_117.read.Tie as tie
 
+returns : tie.Need-returns
+unfolding answerAs refusalIn
+returns c = wrong-length _ _ _ (ne-eqb _ _ (c .if1 .taken))
+
 octet-requires : tie.Need-octet-requires
 octet-requires c κs = search needs
+
+returns-2 : tie.Need-returns-2
+unfolding answerAs refusalIn
+returns-2 c =
+    let exact : length (now (c .before .before .before .before .args .body)) ≡ 19 = omega arith in
+    wrong-fixed _ _ (eq-eqb _ _ exact) (rw (← c .before .octet .ensures, ne-eqb _ _ (c .if2 .taken)))
 
 octet-requires-2 : tie.Need-octet-requires-2
 octet-requires-2 c κs = search needs
 
-little-24-requires : tie.Need-little-24-requires
-little-24-requires c κs = search needs
+returns-3 : tie.Need-returns-3
+unfolding answerAs refusalIn
+returns-3 c =
+    let exact : length (now (c .before .before .before .before .before .before .args .body)) ≡ 19 = omega arith in
+    wrong-fixed _ _ (eq-eqb _ _ exact)
+    (rw (← c .before .before .before .octet .ensures, ← c .before .octet2 .ensures, eq-eqb _ _ (c .before .before .if2 .left), ne-eqb _ _ (c .if3 .taken)))
 
-octet-requires-3 : tie.Need-octet-requires-3
-octet-requires-3 c κs = search needs
+fields-requires : tie.Need-fields-requires
+fields-requires c κs = omega arith
 
-text-at-requires : tie.Need-text-at-requires
-text-at-requires c κs = search needs
+fits-requires : tie.Need-fits-requires
+fits-requires c κs = search needs
 
-octet-requires-4 : tie.Need-octet-requires-4
-octet-requires-4 c κs = search needs
+returns-4 : tie.Need-returns-4
+unfolding answerAs refusalIn
+returns-4 c =
+    let exact : length (now (c .before .before .before .before .before .before .before .before .before .args .body)) ≡ 19 = omega arith in
+    wrong-field _ (eq-eqb _ _ exact)
+    (rw (← c .before .before .before .before .before .before .octet .ensures, ← c .before .before .before .before .octet2 .ensures, eq-eqb _ _ (c .before .before .before .before .before .if2 .left), eq-eqb _ _ (c .before .before .before .if3 .left)))
+    (ap initializationFits (sym (c .before .before .fields .ensures)) ∙ sym (c .before .fits2 .ensures) ∙ not-true _ (c .if4 .taken))
 
-octet-requires-5 : tie.Need-octet-requires-5
-octet-requires-5 c κs = search needs
-
-returns : tie.Need-returns
-unfolding initializationIn
-returns c =
-    let s = c .before .before .before .before .before .before .before .before in
-    let body = now (s .args .body) in
-    let at : (k : ℕ) → getD (fields initializationLayout (elements 19 0 body)) k 0 ≡ getD (fields initializationLayout body) k 0 =
-    λ k. field-at initializationLayout 19 k body (s .pre)
-    in
-    let offsets = c .before .before .before .before .before .before .octet .ensures in
-    λ i. record {
-      version = (c .before .before .before .before .before .octet2 .ensures ∙ at 3) i;
-      address = (c .before .before .before .before .little-24 .ensures ∙ at 4) i;
-      emitter = (c .before .before .before .octet3 .ensures ∙ at 5) i;
-      callsign = (c .before .before .text-at .ensures ∙ text-at initializationLayout 19 6 body (s .pre)) i;
-      «stall_speed» = (c .before .octet4 .ensures ∙ at 14) i;
-      size = (c .octet5 .ensures ∙ at 15) i;
-      lateral = (ap (λ (n : ℕ). n / 32) offsets ∙ at 16) i;
-      longitudinal = (ap (λ (n : ℕ). n % 32) offsets ∙ at 17) i;
-    }
+returns-5 : tie.Need-returns-5
+unfolding answerAs refusalIn
+returns-5 c =
+    let exact : length (now (c .before .before .before .before .before .before .before .before .before .args .body)) ≡ 19 = omega arith in
+    right (eq-eqb _ _ exact)
+    (rw (← c .before .before .before .before .before .before .octet .ensures, ← c .before .before .before .before .octet2 .ensures, eq-eqb _ _ (c .before .before .before .before .before .if2 .left), eq-eqb _ _ (c .before .before .before .if3 .left)))
+    (ap initializationFits (sym (c .before .before .fields .ensures)) ∙ sym (c .before .fits2 .ensures) ∙ not-false _ (c .if4 .left)) (ap Initialization (c .before .before .fields .ensures))
 
 pub read-spec : {M : Type 1} → statement M
 read-spec =
     tie.close
     (tie.spec
+    returns
     octet-requires
+    returns-2
     octet-requires-2
-    little-24-requires
-    octet-requires-3
-    text-at-requires
-    octet-requires-4
-    octet-requires-5
-    returns)
+    returns-3
+    fields-requires
+    fits-requires
+    returns-4
+    returns-5)

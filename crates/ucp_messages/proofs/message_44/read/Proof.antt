@@ -1,21 +1,39 @@
--- `message_44::read` meets its contract, field by field. Assumes nothing.
-use mathlib.Core.Path.{_∙_}
+-- `message_44::read` meets its contract, test by test. Assumes nothing.
+use mathlib.Core.Path.{_≡_, refl, sym, ap, _∙_}
+use Prim.Native.Nat.{ℕ}
+use native.Mathlib.Omega.{arith}
+use borrow.Author.Tests.{eq-eqb, ne-eqb}
 use denote.Ref.{now}
-use Rattle.octet_fields.proofs.Spelled.{field-at}
-use Rattle.ucp_messages.specs.Request.{requestLayout, requestIn}
+use lib.Dec.{eqb}
+use lib.ListN.{length}
+use Rattle.ucp_messages.specs.declared.Message.the-variants.{Request}
+use Rattle.ucp_messages.specs.Reads.{refusalIn, answerAs}
+use Rattle.ucp_messages.proofs.Judged.{wrong-length, wrong-fixed, right}
 use borrow.Author.Needs.{needs}
 use Rattle.ucp_messages.proofs.message_44.read.Statement.{statement}
 use Rattle.ucp_messages.proofs.message_44.read.Tie as tie
 
+returns : tie.Need-returns
+unfolding answerAs refusalIn
+returns c = wrong-length _ _ _ (ne-eqb _ _ (c .if1 .taken))
+
 octet-requires : tie.Need-octet-requires
 octet-requires c κs = search needs
 
-returns : tie.Need-returns
-unfolding requestIn
-returns c =
-    let s = c .before .before in
-    let body = now (s .args .body) in
-    λ i. record { «requested_id» = (c .octet .ensures ∙ field-at requestLayout 3 2 body (s .pre)) i }
+returns-2 : tie.Need-returns-2
+unfolding answerAs refusalIn
+returns-2 c =
+    let exact : length (now (c .before .before .before .before .args .body)) ≡ 3 = omega arith in
+    wrong-fixed _ _ (eq-eqb _ _ exact) (ap (λ (n : ℕ). eqb n 2) (sym (c .before .octet .ensures)) ∙ ne-eqb _ _ (c .if2 .taken))
+
+fields-requires : tie.Need-fields-requires
+fields-requires c κs = omega arith
+
+returns-3 : tie.Need-returns-3
+unfolding answerAs refusalIn
+returns-3 c =
+    let exact : length (now (c .before .before .before .before .before .args .body)) ≡ 3 = omega arith in
+    right (eq-eqb _ _ exact) (ap (λ (n : ℕ). eqb n 2) (sym (c .before .before .octet .ensures)) ∙ eq-eqb _ _ (c .before .if2 .left)) refl (ap Request (c .fields .ensures))
 
 pub read-spec : {M : Type 1} → statement M
-read-spec = tie.close (tie.spec octet-requires returns)
+read-spec = tie.close (tie.spec returns octet-requires returns-2 fields-requires returns-3)

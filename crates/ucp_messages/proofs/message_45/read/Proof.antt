@@ -1,72 +1,53 @@
--- `message_45::read` meets its contract, field by field. Assumes nothing.
-use mathlib.Core.Path.{_≡_, _∙_, ap}
-use Prim.Native.Nat.{ℕ, _/_, _%_}
+-- `message_45::read` meets its contract, test by test. Assumes nothing.
+use mathlib.Core.Path.{_≡_, sym, ap, _∙_}
+use Prim.Native.Nat.{ℕ}
+use native.Mathlib.Omega.{arith}
+use borrow.Author.Tests.{eq-eqb, ne-eqb, not-true, not-false}
 use denote.Ref.{now}
-use lib.ListN.{getD}
-use mir.Syntax.{w32}
-use mir.ValLaws.{toZ-ofZ}
-use Rattle.octet_fields.specs.Digits.{isSet}
-use Rattle.octet_fields.specs.Layout.{fields}
-use Rattle.octet_fields.specs.Signed.{signed}
-use Rattle.octet_fields.proofs.Spelled.{elements, field-at, text-at}
-use Rattle.ucp_messages.specs.Control.{controlLayout, controlIn}
+use lib.Dec.{eqb}
+use lib.ListN.{length}
+use Rattle.ucp_messages.specs.declared.Message.the-variants.{Control}
+use Rattle.ucp_messages.specs.Reads.{refusalIn, answerAs}
+use Rattle.ucp_messages.specs.Control.{controlFits}
+use Rattle.ucp_messages.proofs.Judged.{wrong-length, wrong-fixed, wrong-field, right}
 use borrow.Author.Needs.{needs}
 use Rattle.ucp_messages.proofs.message_45.read.Statement.{statement}
 use Rattle.ucp_messages.proofs.message_45.read.Tie as tie
 
+returns : tie.Need-returns
+unfolding answerAs refusalIn
+returns c = wrong-length _ _ _ (ne-eqb _ _ (c .if1 .taken))
+
 octet-requires : tie.Need-octet-requires
 octet-requires c κs = search needs
 
-little-32-requires : tie.Need-little-32-requires
-little-32-requires c κs = search needs
+returns-2 : tie.Need-returns-2
+unfolding answerAs refusalIn
+returns-2 c =
+    let exact : length (now (c .before .before .before .before .args .body)) ≡ 18 = omega arith in
+    wrong-fixed _ _ (eq-eqb _ _ exact) (ap (λ (n : ℕ). eqb n 1) (sym (c .before .octet .ensures)) ∙ ne-eqb _ _ (c .if2 .taken))
 
-signed-32-requires : tie.Need-signed-32-requires
-signed-32-requires c κs = search needs
+fields-requires : tie.Need-fields-requires
+fields-requires c κs = omega arith
 
-little-16-requires : tie.Need-little-16-requires
-little-16-requires c κs = search needs
+fits-requires : tie.Need-fits-requires
+fits-requires c κs = search needs
 
-octet-requires-2 : tie.Need-octet-requires-2
-octet-requires-2 c κs = search needs
+returns-3 : tie.Need-returns-3
+unfolding answerAs refusalIn
+returns-3 c =
+    let exact : length (now (c .before .before .before .before .before .before .before .args .body)) ≡ 18 = omega arith in
+    wrong-field _ (eq-eqb _ _ exact) (ap (λ (n : ℕ). eqb n 1) (sym (c .before .before .before .before .octet .ensures)) ∙ eq-eqb _ _ (c .before .before .before .if2 .left))
+    (ap controlFits (sym (c .before .before .fields .ensures)) ∙ sym (c .before .fits2 .ensures) ∙ not-true _ (c .if3 .taken))
 
-text-at-requires : tie.Need-text-at-requires
-text-at-requires c κs = search needs
-
-returns : tie.Need-returns
-unfolding controlIn
-returns c =
-    let s = c .before .before .before .before .before .before .before in
-    let body = now (s .args .body) in
-    let at : (k : ℕ) → getD (fields controlLayout (elements 18 0 body)) k 0 ≡ getD (fields controlLayout body) k 0 =
-    λ k. field-at controlLayout 18 k body (s .pre)
-    in
-    let state = c .before .before .before .before .before .octet .ensures in
-    λ i. record {
-      «es_enabled» = (ap (λ (n : ℕ). isSet (n / 128)) state ∙ ap isSet (at 2)) i;
-      «mode_s» = (ap (λ (n : ℕ). isSet (n % 128 / 64)) state ∙ ap isSet (at 3)) i;
-      «mode_c» = (ap (λ (n : ℕ). isSet (n % 128 % 64 / 32)) state ∙ ap isSet (at 4)) i;
-      «mode_a» = (ap (λ (n : ℕ). isSet (n % 128 % 64 % 32 / 16)) state ∙ ap isSet (at 5)) i;
-      ident = (ap (λ (n : ℕ). isSet (n % 128 % 64 % 32 % 16 / 8)) state ∙ ap isSet (at 6)) i;
-      «air_ground» = (ap (λ (n : ℕ). n % 128 % 64 % 32 % 16 % 8 / 2) state ∙ at 7) i;
-      «baro_checked» = (ap (λ (n : ℕ). isSet (n % 128 % 64 % 32 % 16 % 8 % 2)) state ∙ ap isSet (at 8)) i;
-      altitude =
-          (toZ-ofZ w32 (c .before .before .before .signed-32 .result) (record { sfits = c .before .before .before .signed-32 .ok })
-          ∙ c .before .before .before .signed-32 .ensures
-          ∙ ap (signed 2147483648) (c .before .before .before .before .little-32 .ensures ∙ at 9))
-          i;
-      squawk = (c .before .before .little-16 .ensures ∙ at 10) i;
-      emergency = (c .before .octet2 .ensures ∙ at 11) i;
-      identity = (c .text-at .ensures ∙ text-at controlLayout 18 12 body (s .pre)) i;
-    }
+returns-4 : tie.Need-returns-4
+unfolding answerAs refusalIn
+returns-4 c =
+    let exact : length (now (c .before .before .before .before .before .before .before .args .body)) ≡ 18 = omega arith in
+    right (eq-eqb _ _ exact) (ap (λ (n : ℕ). eqb n 1) (sym (c .before .before .before .before .octet .ensures)) ∙ eq-eqb _ _ (c .before .before .before .if2 .left))
+    (ap controlFits (sym (c .before .before .fields .ensures)) ∙ sym (c .before .fits2 .ensures) ∙ not-false _ (c .if3 .left)) (ap Control (c .before .before .fields .ensures))
 
 pub read-spec : {M : Type 1} → statement M
 read-spec =
     tie.close
-    (tie.spec
-    octet-requires
-    little-32-requires
-    signed-32-requires
-    little-16-requires
-    octet-requires-2
-    text-at-requires
-    returns)
+    (tie.spec returns octet-requires returns-2 fields-requires fits-requires returns-3 returns-4)

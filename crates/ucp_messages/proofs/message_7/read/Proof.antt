@@ -1,0 +1,24 @@
+-- `message_7::read` meets its contract, test by test. Assumes nothing.
+use mathlib.Core.Path.{_≡_, refl}
+use native.Mathlib.Omega.{arith}
+use borrow.Author.Tests.{eq-eqb, ne-eqb}
+use denote.Ref.{now}
+use lib.ListN.{length}
+use Rattle.ucp_messages.specs.Reads.{refusalIn, answerAs}
+use Rattle.ucp_messages.proofs.Judged.{wrong-length, right}
+use borrow.Author.Needs.{needs}
+use Rattle.ucp_messages.proofs.message_7.read.Statement.{statement}
+use Rattle.ucp_messages.proofs.message_7.read.Tie as tie
+
+returns : tie.Need-returns
+unfolding answerAs refusalIn
+returns c = wrong-length _ _ _ (ne-eqb _ _ (c .if1 .taken))
+
+returns-2 : tie.Need-returns-2
+unfolding answerAs refusalIn
+returns-2 c =
+    let exact : length (now (c .before .args .body)) ≡ 436 = omega arith in
+    right (eq-eqb _ _ exact) refl refl refl
+
+pub read-spec : {M : Type 1} → statement M
+read-spec = tie.close (tie.spec returns returns-2)
