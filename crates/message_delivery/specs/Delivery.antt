@@ -1,0 +1,27 @@
+-- A message that is sent is heard as the same message (the tender, demand 2), over the contracts of the sender and of the
+-- receiver. `proofs/Delivery.antt` proves it. Assumes nothing.
+use mathlib.Core.Path.{_≡_}
+use mathlib.Core.List.{List, _∷_, _++_}
+use Prim.Native.Nat.{ℕ, _≤_}
+use lib.ListN.{length, take}
+use Rattle.frame_format.specs.Frame.{longestBody}
+use Rattle.frame_format.specs.Stretch.{delivered}
+use Rattle.message_round_trips.specs.Typed.{Typed}
+use Rattle.receiver_history.specs.Line.{Observed, upTo, Line}
+use Rattle.receiver_history.specs.Promises.{AnswersAs, EndsIn}
+use Rattle.ucp_messages.specs.declared.Message.{Message}
+use Rattle.ucp_messages.specs.Bodies.{messageBody}
+use Rattle.ucp_messages.specs.Reads.{means, answerDue}
+use Rattle.ucp_send.specs.Sends.{Sends}
+use Rattle.writer_answers.specs.declared.Written.{Written}
+use Rattle.writer_answers.specs.Answers.{wrote, answerOf}
+
+-- where a line, whatever it brought before, ends in the octets that an accepted call to the sender wrote, and the room is 436
+-- octets or more: the last call delivers a body, and the body means the message
+abbrev pub SentIsHeard : Type 0
+SentIsHeard =
+    (m : Message) (payload buffer after : List ℕ) (r : Written) (octets : ℕ)
+    → Typed m → Sends m payload buffer r after → answerOf r ≡ wrote octets
+    → (before later : List Observed) (o : Observed) → Line (before ++ o ∷ later)
+    → EndsIn (take octets after) (upTo before o) → longestBody ≤ length (o .output)
+    → AnswersAs (delivered (messageBody m payload)) o × (answerDue (messageBody m payload) ≡ means m)
