@@ -1,23 +1,25 @@
 /*
- * Ostrogosz: the UCP/GDL90 serial line, for C99 and C++.
+ * Ostrogosz: the UCP/GDL90 serial line and MAVLink version 1, for C99 and C++.
  *
- * Two archives, for x86-64 Linux; link the one you call, or both:
- *   libostrogosz.a           check and frame writer: rt staticlib ostrogosz
- *   libostrogosz_receiver.a  receiver: rt staticlib ostrogosz_receiver
- * `rt` writes them to target/staticlib. The calls allocate nothing and keep
- * nothing but what the caller lends, so threads may call them at once as long
- * as no octet that one of them writes is lent to another. Of the C library they
- * call memcpy and memset at most.
+ * Two archives, for x86-64 Linux, which `scripts/archives` writes to
+ * target/staticlib; link one of them:
+ *   libostrogosz.a           everything that is declared here
+ *   libostrogosz_receiver.a  the receiver alone
+ * The calls allocate nothing and keep nothing but what the caller lends, so
+ * threads may call them at once as long as no octet that one of them writes is
+ * lent to another. Of the C library they call memcpy and memset at most.
  *
  * Every call answers on every input. A refusal is a number of the table in
  * document 01 and never a length.
  *
  * Pointers: a pointer goes with the length behind it and points to that many
- * octets. Where the length is 0 it may be anything, NULL too.
+ * octets. Where the length is 0 it may be anything, NULL too. A struct goes by
+ * value: the call leaves the caller's as it is.
  */
 #ifndef OSTROGOSZ_H
 #define OSTROGOSZ_H
 
+#include <stdbool.h>
 #include <stddef.h>
 #include <stdint.h>
 
@@ -32,9 +34,15 @@ extern "C" {
  * check, all of them escaped. */
 #define OSTROGOSZ_LONGEST_FRAME 878
 
-/* Refusals of the frame writer. */
+/* A writer's answer. */
+struct ostrogosz_written {
+    uint32_t refusal; /* 0: accepted; else the refusal's number */
+    size_t length;    /* accepted: octets written; refused: 0 */
+};
+
+/* Refusals of the writers. */
 #define OSTROGOSZ_REFUSAL_BODY_LENGTH 7   /* body of 0 or over 436 octets */
-#define OSTROGOSZ_REFUSAL_OUTPUT_LENGTH 8 /* output shorter than the frame */
+#define OSTROGOSZ_REFUSAL_OUTPUT_LENGTH 8 /* output too short for what it gets */
 
 /*
  * The frame check sequence of a body: its remainder by x^16 + x^12 + x^5 + 1,
@@ -45,12 +53,6 @@ extern "C" {
  * than 436 too.
  */
 uint16_t ostrogosz_frame_check(const uint8_t *body, size_t body_length);
-
-/* The frame writer's answer. */
-struct ostrogosz_written {
-    uint32_t refusal; /* 0: accepted; else 7 or 8 */
-    uint32_t length;  /* accepted: octets of the frame; refused: 0 */
-};
 
 /*
  * Writes the frame of body at the start of output: flag, body and check
@@ -232,6 +234,189 @@ ostrogosz_line_octets(const struct ostrogosz_receiver *receiver)
            line[OSTROGOSZ_LINE_REFUSED] + line[OSTROGOSZ_LINE_SKIPPED] +
            line[OSTROGOSZ_LINE_OPEN];
 }
+
+/* ---- The messages of the UCP line ---- */
+
+/* A message's ID, the first octet of its body, and octets of its body. */
+#define OSTROGOSZ_ID_HEARTBEAT 0           /* 7 */
+#define OSTROGOSZ_ID_UPLINK 7              /* 436 */
+#define OSTROGOSZ_ID_OWNSHIP 10            /* 28 */
+#define OSTROGOSZ_ID_GEOMETRIC_ALTITUDE 11 /* 5 */
+#define OSTROGOSZ_ID_TRAFFIC 20            /* 28 */
+#define OSTROGOSZ_ID_REQUEST 44            /* 3 */
+#define OSTROGOSZ_ID_CONTROL 45            /* 18 */
+#define OSTROGOSZ_ID_INITIALIZATION 117    /* 19 */
+
+/* Refusals of the message reader; the writers give 13 too. */
+#define OSTROGOSZ_REFUSAL_UNKNOWN_ID 10     /* unknown ID, or no octet */
+#define OSTROGOSZ_REFUSAL_MESSAGE_LENGTH 11 /* another length than the kind's */
+#define OSTROGOSZ_REFUSAL_FIXED 12 /* wrong version, signature or subtype */
+#define OSTROGOSZ_REFUSAL_FIELD 13 /* a field outside its range or its bits */
+
+/*
+ * Fields are raw numbers. "bits" is what the body has for a field that is
+ * narrower than its type: a writer refuses a wider value with 13. "range" is
+ * tested in reading and in writing, else 13. A text has no zero at its end.
+ */
+
+/* 0, Heartbeat: all bits are carried. */
+struct ostrogosz_heartbeat {
+    uint8_t status_1;
+    uint8_t status_2;    /* bit 7: bit 16 of the time stamp */
+    uint16_t time_stamp; /* seconds since midnight UTC, bits 0 to 15 */
+    uint16_t counts;     /* messages received */
+};
+
+/* 10 and 20, Ownship report and Traffic report. */
+struct ostrogosz_report {
+    uint8_t alert;         /* 4 bits */
+    uint8_t address_type;  /* 4 bits */
+    uint32_t address;      /* 24 bits */
+    int32_t latitude;      /* 24 bits; steps of 180 / 2^23 degrees, north + */
+    int32_t longitude;     /* 24 bits; steps of 180 / 2^23 degrees, east + */
+    uint16_t altitude;     /* 12 bits; 25 n - 1000 feet; no data: 0xFFF */
+    uint8_t miscellaneous; /* 4 bits */
+    uint8_t nic;           /* 4 bits */
+    uint8_t nacp;          /* 4 bits */
+    uint16_t speed;        /* 12 bits; knots; no data: 0xFFF */
+    int16_t vertical_rate; /* 12 bits; 64 n feet per minute; no data: -2048 */
+    uint8_t track;         /* steps of 360 / 256 degrees */
+    uint8_t emitter;
+    uint8_t callsign[8]; /* any octets */
+    uint8_t emergency;   /* 4 bits */
+    uint8_t spare;       /* 4 bits */
+};
+
+/* 11, Ownship geometric altitude. */
+struct ostrogosz_geometric_altitude {
+    int16_t altitude; /* steps of 5 feet */
+    uint16_t metrics;
+};
+
+/* 44, Message Request, version 2. */
+struct ostrogosz_request {
+    uint8_t requested_id; /* any */
+};
+
+/* 45, Control, version 1. */
+struct ostrogosz_control {
+    bool es_enabled; /* 1090ES transmission */
+    bool mode_s;     /* replies in mode S, C and A */
+    bool mode_c;
+    bool mode_a;
+    bool ident;         /* ident button active */
+    uint8_t air_ground; /* 2 bits */
+    bool baro_checked;  /* external barometer cross checked */
+    int32_t altitude;   /* pressure altitude, mm; unknown: INT32_MAX */
+    uint16_t squawk;    /* decimal, range 0 to 7777 */
+    uint8_t emergency;
+    uint8_t identity[8]; /* range 0-9, A-Z, spaces at the end alone */
+};
+
+/* 117, Initialization; signature 65, subtype 1. */
+struct ostrogosz_initialization {
+    uint8_t version;     /* any */
+    uint32_t address;    /* 24 bits */
+    uint8_t emitter;     /* range 0 to 19 */
+    uint8_t callsign[8]; /* range A-Z, 0-9, space */
+    uint8_t stall_speed; /* knots */
+    uint8_t size;        /* range 0 to 15, a code of length and width */
+    uint8_t lateral;     /* antenna offset, 3 bits */
+    uint8_t longitudinal; /* antenna offset, 5 bits */
+};
+
+/* A message that was read. The fields of its kind are filled; all others, and
+ * all of them on a refusal, are 0. */
+struct ostrogosz_message {
+    uint32_t refusal; /* 0, or 10 to 13 */
+    uint32_t id;      /* one of OSTROGOSZ_ID_; 0 on a refusal */
+    struct ostrogosz_heartbeat heartbeat;
+    struct ostrogosz_report report; /* 10 and 20 */
+    struct ostrogosz_geometric_altitude geometric_altitude;
+    struct ostrogosz_request request;
+    struct ostrogosz_control control;
+    struct ostrogosz_initialization initialization;
+};
+
+/*
+ * What a body means, as the receiver delivers one. An uplink has no struct: its
+ * payload is the 435 octets at body + 1.
+ *
+ * Bad input, tested in this order: 10, 11, 12, 13, as above.
+ */
+struct ostrogosz_message ostrogosz_read_message(const uint8_t *body,
+                                                size_t body_length);
+
+/*
+ * Write the body of a message at the start of output.
+ *
+ * Bad input, tested in this order:
+ *   13  a field outside its range or too wide for its bits; of an uplink, a
+ *       payload of other than 435 octets
+ *   8   output shorter than the body
+ *
+ * Room that always suffices: OSTROGOSZ_LONGEST_BODY octets. A refusal writes
+ * nothing. An accepted call writes exactly the body, and the octets of output
+ * behind it keep what they held. payload and output must not overlap.
+ */
+struct ostrogosz_written
+ostrogosz_write_heartbeat(struct ostrogosz_heartbeat heartbeat, uint8_t *output,
+                          size_t output_length);
+struct ostrogosz_written ostrogosz_write_uplink(const uint8_t *payload,
+                                                size_t payload_length,
+                                                uint8_t *output,
+                                                size_t output_length);
+struct ostrogosz_written ostrogosz_write_ownship(struct ostrogosz_report report,
+                                                 uint8_t *output,
+                                                 size_t output_length);
+struct ostrogosz_written ostrogosz_write_geometric_altitude(
+    struct ostrogosz_geometric_altitude altitude, uint8_t *output,
+    size_t output_length);
+struct ostrogosz_written ostrogosz_write_traffic(struct ostrogosz_report report,
+                                                 uint8_t *output,
+                                                 size_t output_length);
+struct ostrogosz_written
+ostrogosz_write_request(struct ostrogosz_request request, uint8_t *output,
+                        size_t output_length);
+struct ostrogosz_written
+ostrogosz_write_control(struct ostrogosz_control control, uint8_t *output,
+                        size_t output_length);
+struct ostrogosz_written ostrogosz_write_initialization(
+    struct ostrogosz_initialization initialization, uint8_t *output,
+    size_t output_length);
+
+/*
+ * Write the frame of a message at the start of buffer: body and frame in one
+ * call.
+ *
+ * Bad input: 13, as above; then what ostrogosz_write_frame answers to the body.
+ * A refusal writes nothing; the octets of buffer behind the frame keep what
+ * they held. The body passes through the call's stack, which is not cleared.
+ */
+struct ostrogosz_written
+ostrogosz_send_heartbeat(struct ostrogosz_heartbeat heartbeat,
+                         uint8_t buffer[OSTROGOSZ_LONGEST_FRAME]);
+struct ostrogosz_written
+ostrogosz_send_uplink(const uint8_t *payload, size_t payload_length,
+                      uint8_t buffer[OSTROGOSZ_LONGEST_FRAME]);
+struct ostrogosz_written
+ostrogosz_send_ownship(struct ostrogosz_report report,
+                       uint8_t buffer[OSTROGOSZ_LONGEST_FRAME]);
+struct ostrogosz_written ostrogosz_send_geometric_altitude(
+    struct ostrogosz_geometric_altitude altitude,
+    uint8_t buffer[OSTROGOSZ_LONGEST_FRAME]);
+struct ostrogosz_written
+ostrogosz_send_traffic(struct ostrogosz_report report,
+                       uint8_t buffer[OSTROGOSZ_LONGEST_FRAME]);
+struct ostrogosz_written
+ostrogosz_send_request(struct ostrogosz_request request,
+                       uint8_t buffer[OSTROGOSZ_LONGEST_FRAME]);
+struct ostrogosz_written
+ostrogosz_send_control(struct ostrogosz_control control,
+                       uint8_t buffer[OSTROGOSZ_LONGEST_FRAME]);
+struct ostrogosz_written ostrogosz_send_initialization(
+    struct ostrogosz_initialization initialization,
+    uint8_t buffer[OSTROGOSZ_LONGEST_FRAME]);
 
 #ifdef __cplusplus
 }

@@ -4,9 +4,10 @@ use mathlib.Core.List.{List}
 use Prim.Native.Nat.{ℕ, _≤_}
 use native.Mathlib.Omega.{arith}
 use lib.ListN.{length}
+use Rattle.frame_format.specs.Frame.{frame}
 use Rattle.frame_format.specs.Stretch.{Verdict, silent, refused, delivered}
 use Rattle.frame_format.proofs.Frame.{frame-length-longest}
-use Rattle.frame_writer.specs.Writes.{outputAfter}
+use Rattle.writer_answers.specs.Answers.{outputAfter}
 use Rattle.frame_writer.proofs.Due.{refused-so, refused-7, refused-8, due-accepted}
 use Rattle.receiver.specs.Step as Step
 use Rattle.receiver.specs.Step.{nothing, refusal, told, answerDue}
@@ -40,7 +41,7 @@ demand1 =
       writerRefuses7 = λ body output after r w. rw (w .answers) (refused-7 body output);
       writerRefuses8 = λ body output after r w. rw (w .answers) (refused-8 body output);
       writerRefuses = λ body output after r number w e.
-          (refused-so body output number (sym e ∙ w .answers), w .leaves ∙ ap (outputAfter body output) e);
+          (refused-so body output number (sym e ∙ w .answers), w .leaves ∙ ap (outputAfter (frame body) output) e);
       receiverRefuses = λ rest counts store octet output given storeAfter outputThen number m e.
           let p = told-refusal _ number output (tabled _ octet (length output)) (sym (m .answers) ∙ e) in
           (p .0, p .1, m .puts ∙ p .2);
@@ -56,7 +57,7 @@ demand2 =
     record {
       writes = λ body output after r w least most room.
           let e = w .answers ∙ due-accepted body output least most room in
-          (e, w .leaves ∙ ap (outputAfter body output) e, frame-length-longest body most);
+          (e, w .leaves ∙ ap (outputAfter (frame body) output) e, frame-length-longest body most);
       answersByHistory = answers;
       deliveredIsFrame = put-out-is-frame;
       frameIsDelivered = frame-is-put-out;

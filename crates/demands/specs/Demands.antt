@@ -8,8 +8,9 @@ use mathlib.Core.Logic.{_⊎_, _↔_}
 use Prim.Native.Nat.{ℕ, _≤_, _<_}
 use lib.ListN.{length, drop}
 use Rattle.frame_format.specs.Frame.{frame, longestBody, longestFrame}
-use Rattle.frame_writer.specs.declared.Written.{Written}
-use Rattle.frame_writer.specs.Writes.{refused, wrote, answerOf, Writes}
+use Rattle.writer_answers.specs.declared.Written.{Written}
+use Rattle.writer_answers.specs.Answers.{refused, wrote, answerOf}
+use Rattle.frame_writer.specs.Writes.{Writes}
 use Rattle.receiver.specs.declared.Rest.{Rest}
 use Rattle.receiver.specs.declared.Counts.{Counts}
 use Rattle.receiver.specs.declared.Received.{Received}

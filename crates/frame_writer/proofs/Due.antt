@@ -9,7 +9,8 @@ use lib.Dec.{eqb, ltb}
 use lib.ListN.{length}
 use borrow.Author.Tests.{eqb-true, eqb-false, ltb-true, ltb-false, eq-eqb, ne-eqb, lt-ltb, le-ltb}
 use Rattle.frame_format.specs.Frame.{frame, longestBody}
-use Rattle.frame_writer.specs.Writes.{Answer, refused, wrote, answerDue}
+use Rattle.writer_answers.specs.Answers.{Answer, refused, wrote}
+use Rattle.frame_writer.specs.Writes.{answerDue}
 
 data Due (body output : List ℕ) : Answer → Type 0 where
   empty : length body ≡ 0 → Due body output (refused 7)

@@ -1,4 +1,5 @@
 // The frame writer: one call makes a frame of a body.
+use writer_answers::Written;
 ghost use mathlib.Core.Path.{_≡_};
 ghost use mathlib.Core.Bool.{_||_};
 ghost use mathlib.Core.List.{_++_};
@@ -10,15 +11,8 @@ ghost use Rattle.frame_format.specs.Frame.{frame, longestBody};
 ghost use Rattle.frame_writer.specs.Puts.{Puts, closing, rest};
 ghost use Rattle.frame_writer.specs.Writes.{Writes};
 
-// The writer's answer. `answerOf` of specs/Writes.antt gives the paper's number and values of each case.
-pub enum Written {
-    // Accepted: how many octets the frame has.
-    Frame(usize),
-    // Refused, by its number: 7, a body of 0 or more than 436 octets; 8, an output shorter than the frame.
-    Refused(u8),
-}
-
-// Writes the frame of body at the start of output. On a refusal nothing is written.
+// Writes the frame of body at the start of output. Refusals: 7, a body of 0 or more than 436 octets; 8, an output shorter than
+// the frame. On a refusal nothing is written.
 pub fn write_frame(body: &[u8], output: &mut [u8]) -> Written
     ensures { λ r. ⌜ Writes (now (body .entry)) (now (output .entry)) r (now (output .exit)) ⌝ }
 {
@@ -37,7 +31,7 @@ pub fn write_frame(body: &[u8], output: &mut [u8]) -> Written
             return Written::Refused(8);
         }
     }
-    Written::Frame(fill(body, output))
+    Written::Wrote(fill(body, output))
 }
 
 // How many octets the frame of body has.

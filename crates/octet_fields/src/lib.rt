@@ -15,6 +15,7 @@ ghost use Rattle.octet_fields.specs.Texts.{textAt};
 ghost use Rattle.octet_fields.specs.Signed.{signed, complement, holds};
 
 // A text of eight octets. (An enum can't hold an array, and messages are held in one.)
+#[repr(C)]
 pub struct Text {
     pub c0: u8,
     pub c1: u8,

@@ -1,3 +1,3 @@
 pub mod Blank
 pub mod Read
-pub mod Written
+pub mod Writer

@@ -1,9 +1,7 @@
 // The MAVLink messages for C; include/ostrogosz.h says the same in C.
 mod blank;
 
-use c_answers::OstrogoszWritten;
 use mavlink_frame::Header;
-use mavlink_frame::Written;
 use mavlink_messages::DataStream;
 use mavlink_messages::Dynamic;
 use mavlink_messages::Failures;
@@ -13,9 +11,10 @@ use mavlink_messages::Read;
 use mavlink_messages::Static;
 use mavlink_messages::Status;
 use mavlink_messages::Traffic;
+use writer_answers::OstrogoszWritten;
 ghost use mathlib.Core.Path.{_≡_};
 ghost use Rattle.mavlink_messages.specs.Messages.{readDue};
-ghost use Rattle.ostrogosz_mavlink.specs.Written.{writtenNumbers, WritesMessage};
+ghost use Rattle.ostrogosz_mavlink.specs.Writer.{WritesMessage};
 ghost use Rattle.ostrogosz_mavlink.specs.Blank.{noDataStream, noStatic, noDynamic, noStatus, noTraffic};
 ghost use Rattle.ostrogosz_mavlink.specs.Read.{lowestNumber, framed, messageNumbers, numbers};
 
@@ -124,20 +123,11 @@ pub extern "C" fn ostrogosz_mavlink_read(input: &[u8]) -> OstrogoszMavlinkMessag
     }
 }
 
-fn written_numbers(written: Written) -> OstrogoszWritten
-    ensures { λ r. ⌜ r ≡ writtenNumbers written ⌝ }
-{
-    match written {
-        Written::Frame(octets) => c_answers::accepted(octets),
-        Written::Refused(number) => c_answers::refused(number),
-    }
-}
-
 // Writes the frame of a message at the start of output. On a refusal nothing is written.
 fn write(message: Message, header: Header, output: &mut [u8]) -> OstrogoszWritten
     ensures { λ r. ⌜ WritesMessage message header (now (output .entry)) r (now (output .exit)) ⌝ }
 {
-    written_numbers(mavlink_messages::write_message(message, header, output))
+    writer_answers::in_numbers(mavlink_messages::write_message(message, header, output))
 }
 
 #[no_mangle]

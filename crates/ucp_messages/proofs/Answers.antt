@@ -3,8 +3,8 @@ use mathlib.Core.Path.{_≡_, refl}
 use mathlib.Core.Bool.{Bool, true, false}
 use mathlib.Core.List.{List}
 use Prim.Native.Nat.{ℕ}
-use Rattle.ucp_messages.specs.declared.Written.{Written}
-use Rattle.ucp_messages.specs.declared.Written.the-variants.{Refused}
+use Rattle.writer_answers.specs.declared.Written.{Written}
+use Rattle.writer_answers.specs.declared.Written.the-variants.{Refused}
 use Rattle.ucp_messages.specs.Writes.{Writes, answerDue}
 
 pub refused-13 : {fits : Bool} (body output : List ℕ) → fits ≡ false → Writes fits body output (Refused 13) output

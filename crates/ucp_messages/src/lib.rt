@@ -11,6 +11,7 @@ mod refusal;
 mod texts;
 
 use octet_fields::Text;
+use writer_answers::Written;
 ghost use mathlib.Core.Path.{_≡_};
 ghost use Rattle.ucp_messages.specs.Kinds.{kindOf};
 ghost use Rattle.ucp_messages.specs.Reads.{Reads};
@@ -18,6 +19,7 @@ ghost use Rattle.ucp_messages.specs.Bodies.{messageFits, messageBody};
 ghost use Rattle.ucp_messages.specs.Writes.{Writes};
 
 // Message 0, Heartbeat: all bits carried as they are.
+#[repr(C)]
 pub struct Heartbeat {
     pub status_1: u8,
     pub status_2: u8,
@@ -27,6 +29,7 @@ pub struct Heartbeat {
 }
 
 // Messages 10 and 20, Ownship and Traffic report. Every number is raw; the crate message_meanings says what it means.
+#[repr(C)]
 pub struct Report {
     // 4 bits each.
     pub alert: u8,
@@ -53,17 +56,20 @@ pub struct Report {
 }
 
 // Message 11, Ownship geometric altitude: in steps of 5 feet, and its metrics.
+#[repr(C)]
 pub struct GeometricAltitude {
     pub altitude: i16,
     pub metrics: u16,
 }
 
 // Message 44, Message Request.
+#[repr(C)]
 pub struct Request {
     pub requested_id: u8,
 }
 
 // Message 45, Control.
+#[repr(C)]
 pub struct Control {
     // 1090ES transmission enabled; replies enabled for modes S, C and A; the ident button.
     pub es_enabled: bool,
@@ -82,6 +88,7 @@ pub struct Control {
 }
 
 // Message 117, Initialization.
+#[repr(C)]
 pub struct Initialization {
     pub version: u8,
     // 24 bits.
@@ -129,14 +136,6 @@ pub enum Read {
     Refused(u8),
 }
 
-// A message writer's answer. `answerOf` of specs/Writes.antt gives the paper's number and values of each case.
-pub enum Written {
-    // Accepted: how many octets the body has.
-    Body(usize),
-    // Refused, by its number: 13, a field outside its range or too wide for its bits; 8, an output shorter than the body.
-    Refused(u8),
-}
-
 // The kind of a message, by its ID.
 pub fn kind_of(id: u8) -> Kind
     ensures { λ r. ⌜ r ≡ kindOf id ⌝ }
@@ -181,7 +180,8 @@ pub fn read_message(body: &[u8]) -> Read
     }
 }
 
-// Writes a message's body at the start of output. On a refusal nothing is written. Only an uplink takes the payload.
+// Writes a message's body at the start of output. Only an uplink takes the payload. Refusals: 13, a field outside its range or
+// too wide for its bits; 8, an output shorter than the body. On a refusal nothing is written.
 pub fn write_message(message: Message, payload: &[u8], output: &mut [u8]) -> Written
     ensures { λ r. ⌜ Writes (messageFits message (now (payload .entry))) (messageBody message (now (payload .entry))) (now (output .entry)) r (now (output .exit)) ⌝ }
 {

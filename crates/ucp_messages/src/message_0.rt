@@ -1,6 +1,6 @@
 // Message 0, Heartbeat.
 use super::Heartbeat;
-use super::Written;
+use writer_answers::Written;
 ghost use mathlib.Core.Path.{_≡_};
 ghost use mathlib.Core.Bool.{true};
 ghost use lib.ListN.{length};

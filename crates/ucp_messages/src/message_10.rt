@@ -1,6 +1,6 @@
 // Messages 10 and 20, Ownship and Traffic report: they differ in the ID alone.
 use super::Report;
-use super::Written;
+use writer_answers::Written;
 ghost use mathlib.Core.Path.{_≡_};
 ghost use lib.ListN.{length};
 ghost use Rattle.octet_fields.specs.Digits.{Within};

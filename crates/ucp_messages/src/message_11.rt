@@ -1,6 +1,6 @@
 // Message 11, Ownship geometric altitude.
 use super::GeometricAltitude;
-use super::Written;
+use writer_answers::Written;
 ghost use mathlib.Core.Path.{_≡_};
 ghost use mathlib.Core.Bool.{true};
 ghost use lib.ListN.{length};

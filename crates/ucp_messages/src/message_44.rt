@@ -1,6 +1,6 @@
 // Message 44, Message Request.
 use super::Request;
-use super::Written;
+use writer_answers::Written;
 ghost use mathlib.Core.Path.{_≡_};
 ghost use mathlib.Core.Bool.{true};
 ghost use lib.ListN.{length};

@@ -1,5 +1,5 @@
 // Message 7, Uplink: the payload stays in the caller's slice.
-use super::Written;
+use writer_answers::Written;
 ghost use Rattle.ucp_messages.specs.Uplink.{uplinkFits, uplinkBody};
 ghost use Rattle.ucp_messages.specs.Writes.{Writes};
 
@@ -14,5 +14,5 @@ pub fn write(payload: &[u8], output: &mut [u8]) -> Written
     }
     output[0] = 7;
     octet_fields::store(payload, &mut output[1..]);
-    Written::Body(436)
+    Written::Wrote(436)
 }

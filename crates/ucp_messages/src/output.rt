@@ -1,5 +1,5 @@
 // A body goes to the output whole, or not at all.
-use super::Written;
+use writer_answers::Written;
 ghost use mathlib.Core.Bool.{true};
 ghost use Rattle.ucp_messages.specs.Writes.{Writes};
 
@@ -7,7 +7,7 @@ pub fn put(body: &[u8], output: &mut [u8]) -> Written
     ensures { λ r. ⌜ Writes true (now (body .entry)) (now (output .entry)) r (now (output .exit)) ⌝ }
 {
     if octet_fields::store(body, output) {
-        return Written::Body(body.len());
+        return Written::Wrote(body.len());
     }
     Written::Refused(8)
 }

@@ -10,7 +10,7 @@ use lib.ListN.{length, take, drop, length-append}
 use lib.Seq.{take-at}
 use Rattle.ucp_messages.specs.declared.Message.{Message}
 use Rattle.ucp_messages.specs.declared.Message.the-variants.{Heartbeat, Uplink, Ownship, GeometricAltitude, Traffic, Request, Control, Initialization}
-use Rattle.ucp_messages.specs.declared.Written.the-variants.{Body, Refused}
+use Rattle.writer_answers.specs.declared.Written.the-variants.{Wrote, Refused}
 use Rattle.ucp_messages.specs.Heartbeat.{heartbeatBody}
 use Rattle.ucp_messages.specs.Uplink.{uplinkFits}
 use Rattle.ucp_messages.specs.Report.{reportBody}
@@ -19,7 +19,8 @@ use Rattle.ucp_messages.specs.Request.{requestBody}
 use Rattle.ucp_messages.specs.Control.{controlBody}
 use Rattle.ucp_messages.specs.Initialization.{initializationBody}
 use Rattle.ucp_messages.specs.Bodies.{messageFits, messageBody}
-use Rattle.ucp_messages.specs.Writes.{refused, wrote, answerDue, Writes}
+use Rattle.writer_answers.specs.Answers.{refused, wrote}
+use Rattle.ucp_messages.specs.Writes.{answerDue, Writes}
 
 -- no kind makes a body of more than 436 octets
 pub body-length : (m : Message) (payload : List ℕ) → messageFits m payload ≡ true → length (messageBody m payload) ≤ 436
@@ -50,7 +51,7 @@ answer-wrote fits body room n = go fits (ltb (length room) (length body)) refl
     go true false e h = (refl, cc, ltb-false _ _ e)
     go false t e h = let z : _≡_ {A = ℕ} 0 1 = cc in absurd (omega arith)
 
-pub body-written : {fits : Bool} {body room after : List ℕ} {n : ℕ} → Writes fits body room (Body n) after → Written fits body n after
+pub body-written : {fits : Bool} {body room after : List ℕ} {n : ℕ} → Writes fits body room (Wrote n) after → Written fits body n after
 body-written {fits} {body} {room} {after} {n} w =
     let a = answer-wrote fits body room n (w .answers) in
     let l = ap length (w .leaves) ∙ length-append body (drop n room) in

@@ -7,8 +7,8 @@ use lib.ListN.{take, drop}
 use lib.Seq.{take-at}
 use Rattle.frame_format.specs.Frame.{frame, lineOf}
 use Rattle.frame_format.proofs.Frame.{frames-injective}
-use Rattle.frame_writer.specs.declared.Written.{Written}
-use Rattle.frame_writer.specs.declared.Written.the-variants.{Frame, Refused}
+use Rattle.writer_answers.specs.declared.Written.{Written}
+use Rattle.writer_answers.specs.declared.Written.the-variants.{Wrote, Refused}
 use Rattle.frame_writer.specs.Writes.{Writes}
 use Rattle.frame_writer.proofs.Due.{accepted-so}
 use Rattle.writer_history.specs.Calls.{WriterCall, adds, accepts, lineOctets, acceptedBodies, WriterLists}
@@ -18,7 +18,7 @@ one : (body output : List ℕ) (answer : Written) (after : List ℕ) → Writes 
     → adds answer after ≡ lineOf (accepts answer body)
 unfolding lineOf
 one body output (Refused number) after w = refl
-one body output (Frame octets) after w =
+one body output (Wrote octets) after w =
     ap (take octets) (w .leaves)
     ∙ take-at (frame body) (drop octets output) octets (accepted-so body output octets (w .answers) .exact)
     ∙ sym (append-nil (frame body))

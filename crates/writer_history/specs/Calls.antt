@@ -3,10 +3,11 @@ use mathlib.Core.Path.{_≡_}
 use mathlib.Core.List.{List, [], _∷_, _++_}
 use Prim.Native.Nat.{ℕ}
 use lib.ListN.{take}
-use Rattle.frame_writer.specs.declared.Written.{Written}
-use Rattle.frame_writer.specs.declared.Written.the-variants.{Frame, Refused}
+use Rattle.writer_answers.specs.declared.Written.{Written}
+use Rattle.writer_answers.specs.declared.Written.the-variants.{Wrote, Refused}
+use Rattle.writer_answers.specs.Answers.{answerOf}
 use Rattle.frame_format.specs.Frame.{lineOf}
-use Rattle.frame_writer.specs.Writes.{answerOf, answerDue, Writes}
+use Rattle.frame_writer.specs.Writes.{answerDue, Writes}
 
 -- one call: the body and the output as at entry, the answer, the output as at return; and that it is a call of the writer,
 -- which is all that `write_frame` ensures
@@ -20,12 +21,12 @@ pub record WriterCall : Type 0 where
 -- a refused call adds no line octets; every other adds the frame that it wrote, as it stands at its return
 abbrev pub adds : Written → List ℕ → List ℕ
 adds (Refused number) after = []
-adds (Frame octets) after = take octets after
+adds (Wrote octets) after = take octets after
 
 -- and its body, as at entry, is accepted
 abbrev pub accepts : Written → List ℕ → List (List ℕ)
 accepts (Refused number) body = []
-accepts (Frame octets) body = body ∷ []
+accepts (Wrote octets) body = body ∷ []
 
 -- the line octets of a list of calls: the frames in the order of the calls, with nothing between
 unfoldable pub lineOctets : List WriterCall → List ℕ

@@ -9,7 +9,8 @@ use denote.Ref.{now}
 use lib.ListN.{length}
 use Rattle.frame_format.specs.Frame.{frame}
 use Rattle.frame_format.proofs.Frame.{frame-length-most}
-use Rattle.frame_writer.specs.Writes.{answerDue, wrote}
+use Rattle.writer_answers.specs.Answers.{wrote}
+use Rattle.frame_writer.specs.Writes.{answerDue}
 use Rattle.frame_writer.proofs.write_frame.Statement.{statement}
 use Rattle.frame_writer.proofs.write_frame.Tie as tie
 

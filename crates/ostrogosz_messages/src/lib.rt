@@ -1,0 +1,359 @@
+// The messages of the UCP line for C and Rust; include/ostrogosz.h says the same in C.
+use octet_fields::Text;
+use ucp_messages::Control;
+use ucp_messages::GeometricAltitude;
+use ucp_messages::Heartbeat;
+use ucp_messages::Initialization;
+use ucp_messages::Message;
+use ucp_messages::Read;
+use ucp_messages::Report;
+use ucp_messages::Request;
+use writer_answers::OstrogoszWritten;
+ghost use mathlib.Core.Path.{_≡_};
+ghost use mathlib.Core.List.{[]};
+ghost use Rattle.ucp_messages.specs.Reads.{answerDue, answerOf};
+ghost use Rattle.ostrogosz_messages.specs.Writers.{WritesBody, SendsFrame};
+ghost use Rattle.ostrogosz_messages.specs.Messages.{noText, noHeartbeat, noReport, noGeometric, noRequest, noControl, noInitialization, blank, parts, meant, messageNumbers};
+
+// The message reader's answer. The fields of the kind that `id` names are filled, all others are 0.
+#[repr(C)]
+pub struct OstrogoszMessage {
+    // 0, or a refusal's number: 10 to 13.
+    pub refusal: u32,
+    // The message's ID; 0 on a refusal.
+    pub id: u32,
+    pub heartbeat: Heartbeat,
+    // 10 and 20.
+    pub report: Report,
+    pub geometric_altitude: GeometricAltitude,
+    pub request: Request,
+    pub control: Control,
+    pub initialization: Initialization,
+}
+
+// ---- no fields
+
+fn no_text() -> Text
+    ensures { λ r. ⌜ r ≡ noText ⌝ }
+{
+    Text {
+        c0: 0,
+        c1: 0,
+        c2: 0,
+        c3: 0,
+        c4: 0,
+        c5: 0,
+        c6: 0,
+        c7: 0,
+    }
+}
+
+fn no_heartbeat() -> Heartbeat
+    ensures { λ r. ⌜ r ≡ noHeartbeat ⌝ }
+{
+    Heartbeat {
+        status_1: 0,
+        status_2: 0,
+        time_stamp: 0,
+        counts: 0,
+    }
+}
+
+fn no_report() -> Report
+    ensures { λ r. ⌜ r ≡ noReport ⌝ }
+{
+    Report {
+        alert: 0,
+        address_type: 0,
+        address: 0,
+        latitude: 0,
+        longitude: 0,
+        altitude: 0,
+        miscellaneous: 0,
+        nic: 0,
+        nacp: 0,
+        speed: 0,
+        vertical_rate: 0,
+        track: 0,
+        emitter: 0,
+        callsign: no_text(),
+        emergency: 0,
+        spare: 0,
+    }
+}
+
+fn no_geometric_altitude() -> GeometricAltitude
+    ensures { λ r. ⌜ r ≡ noGeometric ⌝ }
+{
+    GeometricAltitude {
+        altitude: 0,
+        metrics: 0,
+    }
+}
+
+fn no_request() -> Request
+    ensures { λ r. ⌜ r ≡ noRequest ⌝ }
+{
+    Request { requested_id: 0 }
+}
+
+fn no_control() -> Control
+    ensures { λ r. ⌜ r ≡ noControl ⌝ }
+{
+    Control {
+        es_enabled: false,
+        mode_s: false,
+        mode_c: false,
+        mode_a: false,
+        ident: false,
+        air_ground: 0,
+        baro_checked: false,
+        altitude: 0,
+        squawk: 0,
+        emergency: 0,
+        identity: no_text(),
+    }
+}
+
+fn no_initialization() -> Initialization
+    ensures { λ r. ⌜ r ≡ noInitialization ⌝ }
+{
+    Initialization {
+        version: 0,
+        address: 0,
+        emitter: 0,
+        callsign: no_text(),
+        stall_speed: 0,
+        size: 0,
+        lateral: 0,
+        longitudinal: 0,
+    }
+}
+
+fn blank(refusal: u8, id: u8) -> OstrogoszMessage
+    ensures { λ r. ⌜ r ≡ blank refusal id ⌝ }
+{
+    OstrogoszMessage {
+        refusal: refusal as u32,
+        id: id as u32,
+        heartbeat: no_heartbeat(),
+        report: no_report(),
+        geometric_altitude: no_geometric_altitude(),
+        request: no_request(),
+        control: no_control(),
+        initialization: no_initialization(),
+    }
+}
+
+// ---- the fields of a kind
+
+fn of_message(message: Message) -> OstrogoszMessage
+    ensures { λ r. ⌜ r ≡ meant message ⌝ }
+{
+    let mut m = blank(0, 0);
+    match message {
+        Message::Heartbeat(heartbeat) => {
+            m.heartbeat = heartbeat;
+            m
+        }
+        Message::Uplink => {
+            m.id = 7;
+            m
+        }
+        Message::Ownship(report) => {
+            m.id = 10;
+            m.report = report;
+            m
+        }
+        Message::GeometricAltitude(geometric_altitude) => {
+            m.id = 11;
+            m.geometric_altitude = geometric_altitude;
+            m
+        }
+        Message::Traffic(report) => {
+            m.id = 20;
+            m.report = report;
+            m
+        }
+        Message::Request(request) => {
+            m.id = 44;
+            m.request = request;
+            m
+        }
+        Message::Control(control) => {
+            m.id = 45;
+            m.control = control;
+            m
+        }
+        Message::Initialization(initialization) => {
+            m.id = 117;
+            m.initialization = initialization;
+            m
+        }
+    }
+}
+
+// What a body means.
+#[no_mangle]
+pub extern "C" fn ostrogosz_read_message(body: &[u8]) -> OstrogoszMessage
+    ensures { λ r. ⌜ r ≡ messageNumbers (answerDue (now (body .entry))) ⌝ }
+{
+    match ucp_messages::read_message(body) {
+        Read::Message(message) => of_message(message),
+        Read::Refused(number) => blank(number, 0),
+    }
+}
+
+// ---- writing a body: 13 for a field outside its range or too wide for its bits, then 8 for room
+
+fn write(message: Message, payload: &[u8], output: &mut [u8]) -> OstrogoszWritten
+    ensures { λ r. ⌜ WritesBody message (now (payload .entry)) (now (output .entry)) r (now (output .exit)) ⌝ }
+{
+    writer_answers::in_numbers(ucp_messages::write_message(message, payload, output))
+}
+
+#[no_mangle]
+pub extern "C" fn ostrogosz_write_heartbeat(
+    heartbeat: Heartbeat,
+    output: &mut [u8],
+) -> OstrogoszWritten
+    ensures { λ r. ⌜ WritesBody (Message.Heartbeat heartbeat) [] (now (output .entry)) r (now (output .exit)) ⌝ }
+{
+    write(Message::Heartbeat(heartbeat), &[], output)
+}
+
+// An uplink's payload has 435 octets, else 13.
+#[no_mangle]
+pub extern "C" fn ostrogosz_write_uplink(payload: &[u8], output: &mut [u8]) -> OstrogoszWritten
+    ensures { λ r. ⌜ WritesBody Message.Uplink (now (payload .entry)) (now (output .entry)) r (now (output .exit)) ⌝ }
+{
+    write(Message::Uplink, payload, output)
+}
+
+#[no_mangle]
+pub extern "C" fn ostrogosz_write_ownship(report: Report, output: &mut [u8]) -> OstrogoszWritten
+    ensures { λ r. ⌜ WritesBody (Message.Ownship report) [] (now (output .entry)) r (now (output .exit)) ⌝ }
+{
+    write(Message::Ownship(report), &[], output)
+}
+
+#[no_mangle]
+pub extern "C" fn ostrogosz_write_geometric_altitude(
+    altitude: GeometricAltitude,
+    output: &mut [u8],
+) -> OstrogoszWritten
+    ensures { λ r. ⌜ WritesBody (Message.GeometricAltitude altitude) [] (now (output .entry)) r (now (output .exit)) ⌝ }
+{
+    write(Message::GeometricAltitude(altitude), &[], output)
+}
+
+#[no_mangle]
+pub extern "C" fn ostrogosz_write_traffic(report: Report, output: &mut [u8]) -> OstrogoszWritten
+    ensures { λ r. ⌜ WritesBody (Message.Traffic report) [] (now (output .entry)) r (now (output .exit)) ⌝ }
+{
+    write(Message::Traffic(report), &[], output)
+}
+
+#[no_mangle]
+pub extern "C" fn ostrogosz_write_request(request: Request, output: &mut [u8]) -> OstrogoszWritten
+    ensures { λ r. ⌜ WritesBody (Message.Request request) [] (now (output .entry)) r (now (output .exit)) ⌝ }
+{
+    write(Message::Request(request), &[], output)
+}
+
+#[no_mangle]
+pub extern "C" fn ostrogosz_write_control(control: Control, output: &mut [u8]) -> OstrogoszWritten
+    ensures { λ r. ⌜ WritesBody (Message.Control control) [] (now (output .entry)) r (now (output .exit)) ⌝ }
+{
+    write(Message::Control(control), &[], output)
+}
+
+#[no_mangle]
+pub extern "C" fn ostrogosz_write_initialization(
+    initialization: Initialization,
+    output: &mut [u8],
+) -> OstrogoszWritten
+    ensures { λ r. ⌜ WritesBody (Message.Initialization initialization) [] (now (output .entry)) r (now (output .exit)) ⌝ }
+{
+    write(Message::Initialization(initialization), &[], output)
+}
+
+// ---- sending a frame: 13, then 7 and 8 as the frame writer gives them
+
+fn send(message: Message, payload: &[u8], buffer: &mut [u8; 878]) -> OstrogoszWritten
+    ensures { λ r. ⌜ SendsFrame message (now (payload .entry)) (now (buffer .entry)) r (now (buffer .exit)) ⌝ }
+{
+    writer_answers::in_numbers(ucp_send::send_message(message, payload, buffer))
+}
+
+#[no_mangle]
+pub extern "C" fn ostrogosz_send_heartbeat(
+    heartbeat: Heartbeat,
+    buffer: &mut [u8; 878],
+) -> OstrogoszWritten
+    ensures { λ r. ⌜ SendsFrame (Message.Heartbeat heartbeat) [] (now (buffer .entry)) r (now (buffer .exit)) ⌝ }
+{
+    send(Message::Heartbeat(heartbeat), &[], buffer)
+}
+
+// An uplink's payload has 435 octets, else 13.
+#[no_mangle]
+pub extern "C" fn ostrogosz_send_uplink(payload: &[u8], buffer: &mut [u8; 878]) -> OstrogoszWritten
+    ensures { λ r. ⌜ SendsFrame Message.Uplink (now (payload .entry)) (now (buffer .entry)) r (now (buffer .exit)) ⌝ }
+{
+    send(Message::Uplink, payload, buffer)
+}
+
+#[no_mangle]
+pub extern "C" fn ostrogosz_send_ownship(report: Report, buffer: &mut [u8; 878]) -> OstrogoszWritten
+    ensures { λ r. ⌜ SendsFrame (Message.Ownship report) [] (now (buffer .entry)) r (now (buffer .exit)) ⌝ }
+{
+    send(Message::Ownship(report), &[], buffer)
+}
+
+#[no_mangle]
+pub extern "C" fn ostrogosz_send_geometric_altitude(
+    altitude: GeometricAltitude,
+    buffer: &mut [u8; 878],
+) -> OstrogoszWritten
+    ensures { λ r. ⌜ SendsFrame (Message.GeometricAltitude altitude) [] (now (buffer .entry)) r (now (buffer .exit)) ⌝ }
+{
+    send(Message::GeometricAltitude(altitude), &[], buffer)
+}
+
+#[no_mangle]
+pub extern "C" fn ostrogosz_send_traffic(report: Report, buffer: &mut [u8; 878]) -> OstrogoszWritten
+    ensures { λ r. ⌜ SendsFrame (Message.Traffic report) [] (now (buffer .entry)) r (now (buffer .exit)) ⌝ }
+{
+    send(Message::Traffic(report), &[], buffer)
+}
+
+#[no_mangle]
+pub extern "C" fn ostrogosz_send_request(
+    request: Request,
+    buffer: &mut [u8; 878],
+) -> OstrogoszWritten
+    ensures { λ r. ⌜ SendsFrame (Message.Request request) [] (now (buffer .entry)) r (now (buffer .exit)) ⌝ }
+{
+    send(Message::Request(request), &[], buffer)
+}
+
+#[no_mangle]
+pub extern "C" fn ostrogosz_send_control(
+    control: Control,
+    buffer: &mut [u8; 878],
+) -> OstrogoszWritten
+    ensures { λ r. ⌜ SendsFrame (Message.Control control) [] (now (buffer .entry)) r (now (buffer .exit)) ⌝ }
+{
+    send(Message::Control(control), &[], buffer)
+}
+
+#[no_mangle]
+pub extern "C" fn ostrogosz_send_initialization(
+    initialization: Initialization,
+    buffer: &mut [u8; 878],
+) -> OstrogoszWritten
+    ensures { λ r. ⌜ SendsFrame (Message.Initialization initialization) [] (now (buffer .entry)) r (now (buffer .exit)) ⌝ }
+{
+    send(Message::Initialization(initialization), &[], buffer)
+}
