@@ -1,14 +1,16 @@
 // MAVLink version 1 frames: the table of the kinds, and a frame around a payload, read and written.
+use writer_answers::Written;
 ghost use mathlib.Core.Path.{_≡_};
 ghost use mathlib.Core.List.{[], _∷_, _++_};
 ghost use Prim.Native.Nat.{_+_, _-_, _*_, _≤_};
 ghost use lib.ListN.{length, take, drop};
 ghost use lib.Seq.{sets, paste};
+ghost use Rattle.writer_answers.specs.Answers.{Writing};
 ghost use Rattle.x25_check.specs.Check.{x25Octets};
 ghost use Rattle.mavlink_frame.specs.Kinds.{kindOf};
 ghost use Rattle.mavlink_frame.specs.Frame.{headerOctets, frame};
 ghost use Rattle.mavlink_frame.specs.Reads.{found, foundOf};
-ghost use Rattle.mavlink_frame.specs.Writes.{Writes, writeDue, writeOf, frameOf};
+ghost use Rattle.mavlink_frame.specs.Writes.{writeDue, writeOf, frameOf};
 
 // What a kind has: its message ID, the length of its payload, and the extra octet of its check.
 pub struct Kind {
@@ -36,14 +38,6 @@ pub enum Found {
     // A frame with its check right: its message ID, its header, and how many octets it has. Its payload is from 6 on.
     Frame(u8, Header, usize),
     // Refused, by its number: 20 to 24.
-    Refused(u8),
-}
-
-// The writer's answer.
-pub enum Written {
-    // Accepted: how many octets the frame has.
-    Frame(usize),
-    // Refused, by its number.
     Refused(u8),
 }
 
@@ -154,7 +148,7 @@ fn little(low: u8, high: u8) -> u16
 
 // Writes the frame of a payload at the start of output. On a refusal nothing is written.
 pub fn write_frame(id: u8, header: Header, payload: &[u8], output: &mut [u8]) -> Written
-    ensures { λ r. ⌜ Writes (writeDue id (now (payload .entry)) (now (output .entry))) (frameOf id header (now (payload .entry))) (now (output .entry)) r (now (output .exit)) ⌝ }
+    ensures { λ r. ⌜ Writing (writeDue id (now (payload .entry)) (now (output .entry))) (frameOf id header (now (payload .entry))) (now (output .entry)) r (now (output .exit)) ⌝ }
 {
     match kind_of(id) {
         Lookup::Known(kind) => write_kind(kind, header, payload, output),
@@ -163,7 +157,7 @@ pub fn write_frame(id: u8, header: Header, payload: &[u8], output: &mut [u8]) ->
 }
 
 fn write_kind(kind: Kind, header: Header, payload: &[u8], output: &mut [u8]) -> Written
-    ensures { λ r. ⌜ Writes (writeOf kind (now (payload .entry)) (now (output .entry))) (frame kind header (now (payload .entry))) (now (output .entry)) r (now (output .exit)) ⌝ }
+    ensures { λ r. ⌜ Writing (writeOf kind (now (payload .entry)) (now (output .entry))) (frame kind header (now (payload .entry))) (now (output .entry)) r (now (output .exit)) ⌝ }
 {
     let n = payload.len();
     if n != wide(kind.length) {
@@ -173,7 +167,7 @@ fn write_kind(kind: Kind, header: Header, payload: &[u8], output: &mut [u8]) -> 
         return Written::Refused(8);
     }
     fill(kind, header, payload, output);
-    Written::Frame(n + 8)
+    Written::Wrote(n + 8)
 }
 
 // Writes the frame of a payload at the start of an output that has room for it.

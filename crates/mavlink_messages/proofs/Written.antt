@@ -5,11 +5,12 @@ use mathlib.Core.List.{List}
 use Prim.Native.Nat.{ℕ, _+_, _<_}
 use borrow.Author.Tests.{ltb-true}
 use lib.ListN.{length}
+use Rattle.writer_answers.specs.declared.Written.{Written}
+use Rattle.writer_answers.specs.declared.Written.the-variants.{Refused}
+use Rattle.writer_answers.specs.Answers.{Writing}
 use Rattle.mavlink_frame.specs.declared.Header.{Header}
-use Rattle.mavlink_frame.specs.declared.Written.{Written}
-use Rattle.mavlink_frame.specs.declared.Written.the-variants.{Refused}
 use Rattle.mavlink_frame.specs.Kinds.{kindOf}
-use Rattle.mavlink_frame.specs.Writes.{Writes, roomFor, writeOf, frameOf}
+use Rattle.mavlink_frame.specs.Writes.{roomFor, writeOf, frameOf}
 use Rattle.mavlink_frame.specs.Writes as frame-writes
 use Rattle.mavlink_messages.specs.declared.Static as static-as
 use Rattle.mavlink_messages.specs.declared.Message.{Message}
@@ -18,7 +19,7 @@ use Rattle.mavlink_messages.specs.Ranges.{staticInRange}
 use Rattle.mavlink_messages.specs.Messages.{idOf, octetsOf, inRange, writeDue, messageFrame}
 
 pub refused : (m : Message) (h : Header) (output : List ℕ) → inRange m ≡ false
-    → Writes (writeDue m output) (messageFrame m h) output (Refused 25) output
+    → Writing (writeDue m output) (messageFrame m h) output (Refused 25) output
 refused m h output e = rw e (record { answers = refl; leaves = refl })
 
 -- each kind's octets are as many as the table says
@@ -31,8 +32,8 @@ due (Status s) output = refl
 due (Traffic t) output = refl
 
 pub written : (m : Message) (h : Header) {payload output : List ℕ} {r : Written} {after : List ℕ} → inRange m ≡ true
-    → payload ≡ octetsOf m → Writes (frame-writes.writeDue (idOf m) payload output) (frameOf (idOf m) h payload) output r after
-    → Writes (writeDue m output) (messageFrame m h) output r after
+    → payload ≡ octetsOf m → Writing (frame-writes.writeDue (idOf m) payload output) (frameOf (idOf m) h payload) output r after
+    → Writing (writeDue m output) (messageFrame m h) output r after
 written m h {payload} {output} e p w = rw e (rw (p, due m output) at w)
 
 left : (a b : Bool) → (a && b) ≡ true → a ≡ true

@@ -5,13 +5,12 @@ use mathlib.Core.List.{List}
 use Prim.Native.Nat.{ℕ, _+_, _-_}
 use lib.Dec.{eqb}
 use lib.ListN.{length}
+use Rattle.writer_answers.specs.Answers.{Answer, refused}
 use Rattle.mavlink_frame.specs.declared.Header.{Header}
 use Rattle.mavlink_frame.specs.declared.Lookup.{Lookup}
 use Rattle.mavlink_frame.specs.declared.Lookup.the-variants.{Known, Unknown}
 use Rattle.mavlink_frame.specs.declared.Found.{Found}
 use Rattle.mavlink_frame.specs.declared.Found.the-variants as found-as
-use Rattle.mavlink_frame.specs.declared.Written.{Written}
-use Rattle.mavlink_frame.specs.declared.Written.the-variants as written-as
 use Rattle.mavlink_frame.specs.Kinds.{kindOf}
 use Rattle.mavlink_frame.specs.Reads.{payloadAt, found}
 use Rattle.mavlink_frame.specs.Writes.{roomFor, frameOf}
@@ -83,8 +82,8 @@ abbrev pub ofItsKind : ℕ → ℕ → Bool
 ofItsKind id = ofLength (kindOf id)
 
 -- ---- writing: 25, then 8
-abbrev pub writeDue : Message → List ℕ → Written
-writeDue m output = cond (inRange m) (roomFor (length (octetsOf m) + 8) output) (written-as.Refused 25)
+abbrev pub writeDue : Message → List ℕ → Answer
+writeDue m output = cond (inRange m) (roomFor (length (octetsOf m) + 8) output) (refused 25)
 
 abbrev pub messageFrame : Message → Header → List ℕ
 messageFrame m h = frameOf (idOf m) h (octetsOf m)

@@ -1,7 +1,7 @@
 // The five kinds of MAVLink messages, typed: read from a frame, and written as one.
 use mavlink_frame::Found;
 use mavlink_frame::Header;
-use mavlink_frame::Written;
+use writer_answers::Written;
 ghost use mathlib.Core.Path.{_≡_};
 ghost use mathlib.Core.Bool.{true, _&&_};
 ghost use Prim.Native.Nat.{_+_, _≤_, _<_};
@@ -9,7 +9,7 @@ ghost use lib.ListN.{length};
 ghost use mir.Syntax.{w16, w32};
 ghost use mir.Val.{toZ, ofZ};
 ghost use Rattle.field_rules.specs.Text.{isSpaced};
-ghost use Rattle.mavlink_frame.specs.Writes.{Writes};
+ghost use Rattle.writer_answers.specs.Answers.{Writing};
 ghost use Rattle.mavlink_messages.specs.Numbers.{number};
 ghost use Rattle.mavlink_messages.specs.Layouts.{callsignAt, callsignOctets, dataStreamOf, dataStreamOctets, staticOf, staticOctets, dynamicOf, dynamicOctets, statusOf, statusOctets, trafficOf, trafficOctets};
 ghost use Rattle.mavlink_messages.specs.Ranges.{staticInRange, dynamicInRange, trafficInRange};
@@ -510,14 +510,14 @@ pub fn failures_of(status: u8) -> Failures
 
 // ---- writing: 25 for a field outside its range, then 8. On a refusal nothing is written.
 pub fn write_data_stream(d: DataStream, header: Header, output: &mut [u8]) -> Written
-    ensures { λ r. ⌜ Writes (writeDue (Message.DataStream d) (now (output .entry))) (messageFrame (Message.DataStream d) header) (now (output .entry)) r (now (output .exit)) ⌝ }
+    ensures { λ r. ⌜ Writing (writeDue (Message.DataStream d) (now (output .entry))) (messageFrame (Message.DataStream d) header) (now (output .entry)) r (now (output .exit)) ⌝ }
 {
     let payload = data_stream_octets(d);
     mavlink_frame::write_frame(66, header, &payload, output)
 }
 
 pub fn write_static(s: Static, header: Header, output: &mut [u8]) -> Written
-    ensures { λ r. ⌜ Writes (writeDue (Message.Static s) (now (output .entry))) (messageFrame (Message.Static s) header) (now (output .entry)) r (now (output .exit)) ⌝ }
+    ensures { λ r. ⌜ Writing (writeDue (Message.Static s) (now (output .entry))) (messageFrame (Message.Static s) header) (now (output .entry)) r (now (output .exit)) ⌝ }
 {
     if !static_in_range(s) {
         return Written::Refused(25);
@@ -527,7 +527,7 @@ pub fn write_static(s: Static, header: Header, output: &mut [u8]) -> Written
 }
 
 pub fn write_dynamic(d: Dynamic, header: Header, output: &mut [u8]) -> Written
-    ensures { λ r. ⌜ Writes (writeDue (Message.Dynamic d) (now (output .entry))) (messageFrame (Message.Dynamic d) header) (now (output .entry)) r (now (output .exit)) ⌝ }
+    ensures { λ r. ⌜ Writing (writeDue (Message.Dynamic d) (now (output .entry))) (messageFrame (Message.Dynamic d) header) (now (output .entry)) r (now (output .exit)) ⌝ }
 {
     if !dynamic_in_range(d) {
         return Written::Refused(25);
@@ -537,14 +537,14 @@ pub fn write_dynamic(d: Dynamic, header: Header, output: &mut [u8]) -> Written
 }
 
 pub fn write_status(s: Status, header: Header, output: &mut [u8]) -> Written
-    ensures { λ r. ⌜ Writes (writeDue (Message.Status s) (now (output .entry))) (messageFrame (Message.Status s) header) (now (output .entry)) r (now (output .exit)) ⌝ }
+    ensures { λ r. ⌜ Writing (writeDue (Message.Status s) (now (output .entry))) (messageFrame (Message.Status s) header) (now (output .entry)) r (now (output .exit)) ⌝ }
 {
     let payload = status_octets(s);
     mavlink_frame::write_frame(203, header, &payload, output)
 }
 
 pub fn write_traffic(t: Traffic, header: Header, output: &mut [u8]) -> Written
-    ensures { λ r. ⌜ Writes (writeDue (Message.Traffic t) (now (output .entry))) (messageFrame (Message.Traffic t) header) (now (output .entry)) r (now (output .exit)) ⌝ }
+    ensures { λ r. ⌜ Writing (writeDue (Message.Traffic t) (now (output .entry))) (messageFrame (Message.Traffic t) header) (now (output .entry)) r (now (output .exit)) ⌝ }
 {
     if !traffic_in_range(t) {
         return Written::Refused(25);
@@ -554,7 +554,7 @@ pub fn write_traffic(t: Traffic, header: Header, output: &mut [u8]) -> Written
 }
 
 pub fn write_message(message: Message, header: Header, output: &mut [u8]) -> Written
-    ensures { λ r. ⌜ Writes (writeDue message (now (output .entry))) (messageFrame message header) (now (output .entry)) r (now (output .exit)) ⌝ }
+    ensures { λ r. ⌜ Writing (writeDue message (now (output .entry))) (messageFrame message header) (now (output .entry)) r (now (output .exit)) ⌝ }
 {
     match message {
         Message::DataStream(d) => write_data_stream(d, header, output),

@@ -9,17 +9,18 @@ use lib.Dec.{eqb, ltb}
 use lib.ListN.{length, take, drop}
 use lib.Seq.{take-at, getD-drop}
 use Rattle.binary_polynomial.specs.Bits.{Octets}
+use Rattle.writer_answers.specs.declared.Written.{Written}
+use Rattle.writer_answers.specs.declared.Written.the-variants.{Wrote, Refused}
+use Rattle.writer_answers.specs.Answers.{refused, wrote, answerOf, outputAfter, Writing}
 use Rattle.mavlink_frame.specs.declared.Kind.{Kind}
 use Rattle.mavlink_frame.specs.declared.Header.{Header}
 use Rattle.mavlink_frame.specs.declared.Lookup.the-variants.{Known}
 use Rattle.mavlink_frame.specs.declared.Found.{Found}
 use Rattle.mavlink_frame.specs.declared.Found.the-variants as found-as
-use Rattle.mavlink_frame.specs.declared.Written.{Written}
-use Rattle.mavlink_frame.specs.declared.Written.the-variants as written-as
 use Rattle.mavlink_frame.specs.Kinds.{kind, kindOf}
 use Rattle.mavlink_frame.specs.Frame.{frame}
 use Rattle.mavlink_frame.specs.Reads.{payloadAt, found}
-use Rattle.mavlink_frame.specs.Writes.{Writes, roomFor, frameBy, outputAfter}
+use Rattle.mavlink_frame.specs.Writes.{roomFor, frameBy}
 use Rattle.mavlink_frame.proofs.Accepted.{Accepted, accepted}
 use Rattle.mavlink_messages.specs.declared.Failures.{Failures}
 use Rattle.mavlink_messages.specs.declared.Message.{Message}
@@ -89,11 +90,11 @@ frame-back m h rest t =
 
 -- an accepted call: the message is in range, and the answer is the frame's length
 accepted-call : (t : Bool) (octets : ℕ) (output : List ℕ) (n : ℕ)
-    → written-as.Frame n ≡ cond t (roomFor octets output) (written-as.Refused 25) → (t ≡ true) × (n ≡ octets)
+    → wrote n ≡ cond t (roomFor octets output) (refused 25) → (t ≡ true) × (n ≡ octets)
 accepted-call false octets output n e = let z : _≡_ {A = ℕ} 0 1 = cc in absurd (omega arith)
 accepted-call true octets output n e = (refl, go (ltb (length output) octets) e)
   where
-    go : (s : Bool) → written-as.Frame n ≡ cond s (written-as.Refused 8) (written-as.Frame octets) → n ≡ octets
+    go : (s : Bool) → wrote n ≡ cond s (refused 8) (wrote octets) → n ≡ octets
     go true f = let z : _≡_ {A = ℕ} 0 1 = cc in absurd (omega arith)
     go false f = cc
 
@@ -158,6 +159,10 @@ take-octets (suc n) (x ∷ xs) o (suc i) = take-octets n xs (λ j. o (suc j)) i
 drop-octets : (n : ℕ) (xs : List ℕ) → Octets xs → Octets (drop n xs)
 drop-octets n xs o i = rw getD-drop (o (n + i))
 
+is-wrote : (r : Written) (n : ℕ) → answerOf r ≡ wrote n → r ≡ Wrote n
+is-wrote (Wrote k) n e = let same : k ≡ n = cc in ap Wrote same
+is-wrote (Refused k) n e = let z : _≡_ {A = ℕ} 0 1 = cc in absurd (omega arith)
+
 module _ (s : List ℕ) (h : Header) (used : ℕ) (m : Message) (f : Failures) (o : Octets s)
     (id : ℕ) (h₀ : Header) (used₀ : ℕ) (a : Accepted s id h₀ used₀)
     (e : payloadRead id h₀ used₀ (payloadAt (used₀ - 8) s) ≡ read-as.Message h used m f) where
@@ -196,14 +201,14 @@ module _ (s : List ℕ) (h : Header) (used : ℕ) (m : Message) (f : Failures) (
       ∙ sym frame-again
 
   written-again : (output after : List ℕ) (r : Written) → used ≤ length output
-      → Writes (writeDue m output) (messageFrame m h) output r after
-      → (r ≡ written-as.Frame used) × (after ≡ take used s ++ drop used output)
+      → Writing (writeDue m output) (messageFrame m h) output r after
+      → (r ≡ Wrote used) × (after ≡ take used s ++ drop used output)
   written-again output after r room w =
       let u = used-is in
       let enough : length (octetsOf m) + 8 ≤ length output = omega arith in
-      let due : writeDue m output ≡ written-as.Frame (length (octetsOf m) + 8) = rw (is-carried .ranges, le-ltb _ _ enough) in
-      let answer : r ≡ written-as.Frame used = w .answers ∙ due ∙ ap written-as.Frame u in (
-        answer,
+      let due : writeDue m output ≡ wrote (length (octetsOf m) + 8) = rw (is-carried .ranges, le-ltb _ _ enough) in
+      let answer : answerOf r ≡ wrote used = w .answers ∙ due ∙ ap wrote u in (
+        is-wrote r used answer,
         w .leaves
             ∙ ap (λ q. outputAfter (messageFrame m h) output q) answer
             ∙ ap (λ (xs : List ℕ). xs ++ drop used output) (sym frame-taken),
@@ -214,7 +219,7 @@ accepted-writes-back s h used m f o e = go (found s) refl e
   where
     go : (l : Found) → found s ≡ l → readBy l s ≡ read-as.Message h used m f
         → (output after : List ℕ) (r : Written) → used ≤ length output
-        → Writes (writeDue m output) (messageFrame m h) output r after
-        → (r ≡ written-as.Frame used) × (after ≡ take used s ++ drop used output)
+        → Writing (writeDue m output) (messageFrame m h) output r after
+        → (r ≡ Wrote used) × (after ≡ take used s ++ drop used output)
     go (found-as.Refused number) q d = let z : _≡_ {A = ℕ} 0 1 = cc in absurd (omega arith)
     go (found-as.Frame id h₀ used₀) q d = written-again s h used m f o id h₀ used₀ (accepted s id h₀ used₀ q) d

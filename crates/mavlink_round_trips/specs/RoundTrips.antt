@@ -6,10 +6,10 @@ use lib.ListN.{length, take, drop}
 use mir.Syntax.{w16, w32}
 use mir.Val.{SFits}
 use Rattle.binary_polynomial.specs.Bits.{Octets}
+use Rattle.writer_answers.specs.declared.Written.{Written}
+use Rattle.writer_answers.specs.declared.Written.the-variants.{Wrote}
+use Rattle.writer_answers.specs.Answers.{Writing}
 use Rattle.mavlink_frame.specs.declared.Header.{Header}
-use Rattle.mavlink_frame.specs.declared.Written.{Written}
-use Rattle.mavlink_frame.specs.declared.Written.the-variants as written-as
-use Rattle.mavlink_frame.specs.Writes.{Writes}
 use Rattle.mavlink_messages.specs.declared.Dynamic as dynamic-as
 use Rattle.mavlink_messages.specs.declared.Traffic as traffic-as
 use Rattle.mavlink_messages.specs.declared.Failures.{Failures}
@@ -56,7 +56,7 @@ Typed (Traffic t) = TrafficTyped t
 abbrev pub WrittenReadsBack : Type 0
 WrittenReadsBack =
     (m : Message) (h : Header) (output after : List ℕ) (n : ℕ) → Typed m
-    → Writes (writeDue m output) (messageFrame m h) output (written-as.Frame n) after
+    → Writing (writeDue m output) (messageFrame m h) output (Wrote n) after
     → readDue after ≡ read-as.Message h n m (failuresOf m)
 
 -- ---- an accepted frame writes back to the same octets, wherever there is room for them
@@ -64,5 +64,5 @@ abbrev pub AcceptedWritesBack : Type 0
 AcceptedWritesBack =
     (s : List ℕ) (h : Header) (used : ℕ) (m : Message) (f : Failures) → Octets s → readDue s ≡ read-as.Message h used m f
     → (output after : List ℕ) (r : Written) → used ≤ length output
-    → Writes (writeDue m output) (messageFrame m h) output r after
-    → (r ≡ written-as.Frame used) × (after ≡ take used s ++ drop used output)
+    → Writing (writeDue m output) (messageFrame m h) output r after
+    → (r ≡ Wrote used) × (after ≡ take used s ++ drop used output)
