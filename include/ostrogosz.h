@@ -42,7 +42,7 @@ struct ostrogosz_written {
 
 /* Refusals of the writers. */
 #define OSTROGOSZ_REFUSAL_BODY_LENGTH 7   /* body of 0 or over 436 octets */
-#define OSTROGOSZ_REFUSAL_OUTPUT_LENGTH 8 /* output too short for what it gets */
+#define OSTROGOSZ_REFUSAL_OUTPUT_LENGTH 8 /* output too short */
 
 /*
  * The frame check sequence of a body: its remainder by x^16 + x^12 + x^5 + 1,
@@ -417,6 +417,170 @@ ostrogosz_send_control(struct ostrogosz_control control,
 struct ostrogosz_written ostrogosz_send_initialization(
     struct ostrogosz_initialization initialization,
     uint8_t buffer[OSTROGOSZ_LONGEST_FRAME]);
+
+/* ---- MAVLink version 1 ---- */
+
+/* Octets of the longest frame of the five kinds: the Dynamic one. */
+#define OSTROGOSZ_MAVLINK_LONGEST_FRAME 50
+
+/* A kind's message ID, and octets of its frame. */
+#define OSTROGOSZ_MAVLINK_ID_DATA_STREAM 66 /* 14 */
+#define OSTROGOSZ_MAVLINK_ID_STATIC 201     /* 27 */
+#define OSTROGOSZ_MAVLINK_ID_DYNAMIC 202    /* 50 */
+#define OSTROGOSZ_MAVLINK_ID_STATUS 203     /* 9 */
+#define OSTROGOSZ_MAVLINK_ID_TRAFFIC 246    /* 46 */
+
+/* Refusals of the MAVLink reader; the writers give 25 too. */
+#define OSTROGOSZ_REFUSAL_MAVLINK_SHORT 20       /* too few octets */
+#define OSTROGOSZ_REFUSAL_MAVLINK_START 21       /* first octet not FE */
+#define OSTROGOSZ_REFUSAL_MAVLINK_UNKNOWN_ID 22  /* unknown message ID */
+#define OSTROGOSZ_REFUSAL_MAVLINK_LENGTH 23      /* length not the kind's */
+#define OSTROGOSZ_REFUSAL_MAVLINK_WRONG_CHECK 24 /* the check is wrong */
+#define OSTROGOSZ_REFUSAL_MAVLINK_FIELD 25 /* a field outside its range */
+
+/*
+ * Numbers travel least significant octet first; here they are the machine's.
+ * "range" is tested in reading and in writing, else 25; all else is carried,
+ * unknown marks too. A text has no zero at its end.
+ */
+
+/* What a frame says of itself besides its message. */
+struct ostrogosz_mavlink_header {
+    uint8_t sequence;
+    uint8_t system;
+    uint8_t component;
+};
+
+/* 66, Request data stream. */
+struct ostrogosz_mavlink_data_stream {
+    uint16_t rate; /* messages a second */
+    uint8_t system;
+    uint8_t component;
+    uint8_t stream;
+    uint8_t start; /* 1 start, 0 stop */
+};
+
+/* 201, Static. */
+struct ostrogosz_mavlink_static {
+    uint32_t address; /* 24 bits: a writer refuses a wider one */
+    uint8_t integrity;
+    uint16_t stall;      /* stall speed, cm/s */
+    uint8_t callsign[8]; /* range A-Z, 0-9, space */
+    uint8_t capability;  /* range 0: a unit that announces one is refused */
+    uint8_t emitter;     /* range 0 to 19 */
+    uint8_t size;        /* range 0 to 15, a code of length and width */
+    uint8_t lateral;     /* range 0 to 7, antenna offset */
+    uint8_t longitudinal; /* range 0 to 31, antenna offset */
+};
+
+/* 202, Dynamic. */
+struct ostrogosz_mavlink_dynamic {
+    uint32_t utc; /* seconds since 1980-01-06; unknown: UINT32_MAX */
+    int32_t latitude;  /* 1E-7 degree, north +; unknown: INT32_MAX */
+    int32_t longitude; /* 1E-7 degree, east +; unknown: INT32_MAX */
+    int32_t pressure;  /* pressure altitude, mm; unknown: INT32_MAX */
+    int32_t gnss;      /* GNSS altitude, mm; unknown: INT32_MAX */
+    uint32_t horizontal; /* accuracy, mm; unknown: UINT32_MAX */
+    uint16_t vertical;   /* accuracy, cm; unknown: UINT16_MAX */
+    uint16_t velocity;   /* accuracy, mm/s; unknown: UINT16_MAX */
+    int16_t climb; /* vertical speed, cm/s, up +; unknown: INT16_MAX */
+    int16_t north; /* velocity, cm/s, north +; unknown: INT16_MAX */
+    int16_t east;  /* velocity, cm/s, east +; unknown: INT16_MAX */
+    uint16_t state;
+    uint16_t squawk;    /* decimal, range 0 to 7777 */
+    uint8_t fix;        /* range 0 to 5 */
+    uint8_t satellites; /* unknown: UINT8_MAX */
+    uint8_t emergency;
+    uint8_t control;
+};
+
+/* 203, Status. */
+struct ostrogosz_mavlink_status {
+    uint8_t status; /* 0x01 OK; failures: 0x02 TX 1090ES, 0x04 RX 1090ES,
+                     * 0x08 TX UAT, 0x10 RX UAT */
+};
+
+/* 246, Traffic report. */
+struct ostrogosz_mavlink_traffic {
+    uint32_t address;
+    int32_t latitude;  /* 1E-7 degree, north + */
+    int32_t longitude; /* 1E-7 degree, east + */
+    int32_t altitude;  /* mm, up +; datum says above what */
+    uint16_t heading;  /* course over ground, 1E-2 degree */
+    uint16_t speed;    /* horizontal, cm/s */
+    int16_t climb;     /* vertical, cm/s, up + */
+    uint16_t valid;    /* which fields are valid */
+    uint16_t squawk;   /* decimal, range 0 to 7777, or 65535 for none */
+    uint8_t datum;     /* 0 pressure altitude, 1 geometric */
+    uint8_t callsign[8]; /* any octets */
+    uint8_t ninth;       /* the callsign's ninth octet */
+    uint8_t emitter;
+    uint8_t age; /* seconds since the last communication */
+};
+
+/* A frame that was read. The struct that id names is filled; all others, and
+ * everything but refusal on a refusal, are 0. */
+struct ostrogosz_mavlink_message {
+    uint32_t refusal; /* 0, or 20 to 25 */
+    uint32_t id;      /* one of OSTROGOSZ_MAVLINK_ID_ */
+    size_t used;      /* octets of the frame; those behind it are left */
+    struct ostrogosz_mavlink_header header;
+    uint32_t failures; /* of a status: how many of bits 1 to 4 are set */
+    uint32_t lowest_failure; /* the lowest of them, 1 to 4; 0 for none */
+    struct ostrogosz_mavlink_data_stream data_stream;
+    struct ostrogosz_mavlink_static static_data;
+    struct ostrogosz_mavlink_dynamic dynamic;
+    struct ostrogosz_mavlink_status status;
+    struct ostrogosz_mavlink_traffic traffic;
+};
+
+/*
+ * Reads the frame at the start of input. Octets behind it are left.
+ *
+ * Bad input, tested in this order:
+ *   20  no octet
+ *   21  the first octet is not FE
+ *   20  fewer than 6 octets
+ *   22  unknown message ID
+ *   23  the length octet is not the kind's
+ *   20  fewer octets than the frame has
+ *   24  the check is wrong
+ *   25  a field outside its range
+ */
+struct ostrogosz_mavlink_message ostrogosz_mavlink_read(const uint8_t *input,
+                                                        size_t input_length);
+
+/*
+ * Write the frame of a message at the start of output.
+ *
+ * Bad input, tested in this order:
+ *   25  a field outside its range or too wide for its bits
+ *   8   output shorter than the frame
+ *
+ * Room that always suffices: OSTROGOSZ_MAVLINK_LONGEST_FRAME octets. A refusal
+ * writes nothing. An accepted call writes exactly the frame, and the octets of
+ * output behind it keep what they held.
+ */
+struct ostrogosz_written ostrogosz_mavlink_write_data_stream(
+    struct ostrogosz_mavlink_data_stream data_stream,
+    struct ostrogosz_mavlink_header header, uint8_t *output,
+    size_t output_length);
+struct ostrogosz_written
+ostrogosz_mavlink_write_static(struct ostrogosz_mavlink_static static_data,
+                               struct ostrogosz_mavlink_header header,
+                               uint8_t *output, size_t output_length);
+struct ostrogosz_written
+ostrogosz_mavlink_write_dynamic(struct ostrogosz_mavlink_dynamic dynamic,
+                                struct ostrogosz_mavlink_header header,
+                                uint8_t *output, size_t output_length);
+struct ostrogosz_written
+ostrogosz_mavlink_write_status(struct ostrogosz_mavlink_status status,
+                               struct ostrogosz_mavlink_header header,
+                               uint8_t *output, size_t output_length);
+struct ostrogosz_written
+ostrogosz_mavlink_write_traffic(struct ostrogosz_mavlink_traffic traffic,
+                                struct ostrogosz_mavlink_header header,
+                                uint8_t *output, size_t output_length);
 
 #ifdef __cplusplus
 }
