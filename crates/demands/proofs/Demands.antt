@@ -8,6 +8,13 @@ use Rattle.frame_format.specs.Frame.{frame}
 use Rattle.frame_format.specs.Stretch.{Verdict, silent, refused, delivered}
 use Rattle.frame_format.proofs.Frame.{frame-length-longest}
 use Rattle.writer_answers.specs.Answers.{outputAfter}
+use Rattle.mavlink_round_trips.proofs.RoundTrips as mavlink-trips
+use Rattle.message_delivery.proofs.Delivery.{sent-is-heard}
+use Rattle.message_round_trips.proofs.ReadBack as message-read
+use Rattle.message_round_trips.proofs.WriteBack as message-write
+use Rattle.ucp_messages.specs.Bodies.{messageFits, messageBody}
+use Rattle.ucp_messages.specs.Kinds.{kindIn}
+use Rattle.demands.proofs.MessageRefusals.{tabled-message, message-refused, mavlink-refused, tabled-mavlink}
 use Rattle.frame_writer.proofs.Due.{refused-so, refused-7, refused-8, due-accepted}
 use Rattle.receiver.specs.Step as Step
 use Rattle.receiver.specs.Step.{nothing, refusal, told, answerDue}
@@ -42,6 +49,12 @@ demand1 =
       writerRefuses8 = λ body output after r w. rw (w .answers) (refused-8 body output);
       writerRefuses = λ body output after r number w e.
           (refused-so body output number (sym e ∙ w .answers), w .leaves ∙ ap (outputAfter (frame body) output) e);
+      refusalWritesNothing = λ due octets output after r number w e. w .leaves ∙ ap (outputAfter octets output) e;
+      messageReaderRefuses = λ body r number d e. tabled-message (kindIn body) body number (sym d ∙ e);
+      messageWriterRefuses = λ m payload output after r number w e.
+          message-refused (messageFits m payload) (messageBody m payload) output number (sym (w .answers) ∙ e);
+      mavlinkReaderRefuses = tabled-mavlink;
+      mavlinkWriterRefuses = λ m h output after r number w e. mavlink-refused m output number (sym (w .answers) ∙ e);
       receiverRefuses = λ rest counts store octet output given storeAfter outputThen number m e.
           let p = told-refusal _ number output (tabled _ octet (length output)) (sym (m .answers) ∙ e) in
           (p .0, p .1, m .puts ∙ p .2);
@@ -65,6 +78,11 @@ demand2 =
       everyOctetCounted = every-octet-counted;
       slicesAreCalls = line-of-slices;
       sliceEndsAsCall = slice-is-call;
+      messageReadsBack = message-read.written-reads-back;
+      messageWritesBack = message-write.accepted-writes-back;
+      sentIsHeard = sent-is-heard;
+      mavlinkReadsBack = mavlink-trips.written-reads-back;
+      mavlinkWritesBack = mavlink-trips.accepted-writes-back;
     }
 
 receiver-lists : ReceiverLists

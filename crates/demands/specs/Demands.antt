@@ -1,16 +1,25 @@
--- The tender's demands 1 to 3, in one place. Each is a statement over `Writes` and `Receives`, which are all that the running
--- functions `frame_writer::write_frame` and `receiver::receive` ensure of a call (and `Takes`, of `receive_slice`), so it holds
--- of what runs. That every call on every input returns, with no undefined step, is what proving a Rattle function means, and no
--- public function asks anything of its caller. Proved in proofs/Demands.antt. Assumes nothing.
+-- The tender's demands 1 to 3, in one place. Each is a statement over what the running functions ensure of a call, so it holds of
+-- what runs: `Writes` of `frame_writer::write_frame`, `Receives` of `receiver::receive` and `Takes` of `receive_slice`; of the
+-- messages `Reads`, `Writes` and `Sends` (ucp_messages, ucp_send); of MAVLink `readDue` and `writeDue` (mavlink_messages). That
+-- every call on every input returns, with no undefined step, is what proving a Rattle function means, and no public function asks
+-- anything of its caller. Proved in proofs/Demands.antt. Assumes nothing.
 use mathlib.Core.Path.{_≡_}
+use mathlib.Core.Bool.{true, false}
 use mathlib.Core.List.{List, [], _∷_, _++_, map}
 use mathlib.Core.Logic.{_⊎_, _↔_}
 use Prim.Native.Nat.{ℕ, _≤_, _<_}
 use lib.ListN.{length, drop}
 use Rattle.frame_format.specs.Frame.{frame, longestBody, longestFrame}
 use Rattle.writer_answers.specs.declared.Written.{Written}
-use Rattle.writer_answers.specs.Answers.{refused, wrote, answerOf}
+use Rattle.writer_answers.specs.Answers.{Answer, refused, wrote, answerOf, Writing}
 use Rattle.frame_writer.specs.Writes.{Writes}
+use Rattle.mavlink_frame.specs.declared.Header.{Header}
+use Rattle.mavlink_messages.specs.declared.Message as mavlink
+use Rattle.mavlink_messages.specs.declared.Read.the-variants as mavlink-read
+use Rattle.mavlink_messages.specs.Messages.{readDue, writeDue, messageFrame, inRange}
+use Rattle.mavlink_round_trips.specs.RoundTrips as mavlink-trips
+use Rattle.message_delivery.specs.Delivery.{SentIsHeard}
+use Rattle.message_round_trips.specs.RoundTrips as message-trips
 use Rattle.receiver.specs.declared.Rest.{Rest}
 use Rattle.receiver.specs.declared.Counts.{Counts}
 use Rattle.receiver.specs.declared.Received.{Received}
@@ -18,13 +27,19 @@ use Rattle.receiver.specs.Step as Step
 use Rattle.receiver.specs.Step.{nothing, refusal, Receives}
 use Rattle.line_history.specs.History.{answer}
 use Rattle.check_strength.specs.Strength.{TwoBodies, AtMostThreeBits, Within16Bits, Strength}
+use Rattle.ucp_messages.specs.declared.Message as ucp
+use Rattle.ucp_messages.specs.declared.Read as ucp-read
+use Rattle.ucp_messages.specs.Bodies.{messageFits, messageBody}
+use Rattle.ucp_messages.specs.Reads as Reads
+use Rattle.ucp_messages.specs.Writes as Message
 use Rattle.writer_history.specs.Calls.{WriterLists}
 use Rattle.receiver_history.specs.Line.{Observed, callOf, upTo, Line}
 use Rattle.receiver_history.specs.Slice.{LineOfSlices, SliceIsCall}
 use Rattle.receiver_history.specs.Promises.{AnswersAs, AnswersByHistory, CountsByHistory, EveryOctetCounted, StoreClean, FlagClears, LaterOnly, PutOutIsFrame, FrameIsPutOut, EndsIn, carrying}
 
 -- Demand 1. Bad input gets a numbered refusal under the conditions of document 01 and no others (the receiver's conditions are
--- `answersByHistory` of demand 2), and a refusal changes no octet of the lent output. At every flag, counts excepted, the store
+-- `answersByHistory` of demand 2; the message readers' are their definitions, `Reads` and `readDue`), and a refusal changes no
+-- octet of the lent output, whichever writer gives it. At every flag, counts excepted, the store
 -- is all zero, the rest of the record is one fixed value, and what the line answers from there on depends only on later octets,
 -- for the same room lent.
 pub record Demand1 : Type 0 where
@@ -38,6 +53,23 @@ pub record Demand1 : Type 0 where
   pub writerRefuses :
       (body output after : List ℕ) (r : Written) (number : ℕ) → Writes body output r after → answerOf r ≡ refused number
       → ((number ≡ 7) ⊎ (number ≡ 8)) × (after ≡ output)
+  pub refusalWritesNothing :
+      (due : Answer) (octets output after : List ℕ) (r : Written) (number : ℕ) → Writing due octets output r after
+      → answerOf r ≡ refused number → after ≡ output
+  pub messageReaderRefuses :
+      (body : List ℕ) (r : ucp-read.Read) (number : ℕ) → Reads.Reads body r → Reads.answerOf r ≡ Reads.refused number
+      → (10 ≤ number) × (number ≤ 13)
+  pub messageWriterRefuses :
+      (m : ucp.Message) (payload output after : List ℕ) (r : Written) (number : ℕ)
+      → Message.Writes (messageFits m payload) (messageBody m payload) output r after → answerOf r ≡ refused number
+      → ((number ≡ 13) × (messageFits m payload ≡ false))
+      ⊎ ((number ≡ 8) × (messageFits m payload ≡ true) × (length output < length (messageBody m payload)))
+  pub mavlinkReaderRefuses :
+      (input : List ℕ) (number : ℕ) → readDue input ≡ mavlink-read.Refused number → (20 ≤ number) × (number ≤ 25)
+  pub mavlinkWriterRefuses :
+      (m : mavlink.Message) (h : Header) (output after : List ℕ) (r : Written) (number : ℕ)
+      → Writing (writeDue m output) (messageFrame m h) output r after → answerOf r ≡ refused number
+      → ((number ≡ 25) × (inRange m ≡ false)) ⊎ ((number ≡ 8) × (inRange m ≡ true))
   pub receiverRefuses :
       (rest : Rest) (counts : Counts) (store : List ℕ) (octet : ℕ) (output : List ℕ) (given : Received)
       (storeAfter outputThen : List ℕ) (number : ℕ)
@@ -52,10 +84,11 @@ pub record Demand1 : Type 0 where
   pub storeClean : StoreClean
   pub laterOnly : LaterOnly
 
--- Demand 2, of frames and checks. A body of 1 to 436 octets with room for its frame is written, and that exactly; every call of
+-- Demand 2. A body of 1 to 436 octets with room for its frame is written, and that exactly; every call of
 -- the receiver answers as the rules say of the history; each frame delivered writes back to the same octets, and each frame
 -- written is delivered; every octet received is counted once, under the class that its history gives. A line that is taken in
--- slices is such a line of calls by the octet, with the same answers, outputs and records.
+-- slices is such a line of calls by the octet, with the same answers, outputs and records. On both lines each written message
+-- reads back equal, and each accepted one writes back to the same octets; a message sent on the UCP line is heard as the same.
 pub record Demand2 : Type 0 where
   pub writes :
       (body output after : List ℕ) (r : Written) → Writes body output r after
@@ -70,6 +103,11 @@ pub record Demand2 : Type 0 where
   pub everyOctetCounted : EveryOctetCounted
   pub slicesAreCalls : LineOfSlices
   pub sliceEndsAsCall : SliceIsCall
+  pub messageReadsBack : message-trips.WrittenReadsBack
+  pub messageWritesBack : message-trips.AcceptedWritesBack
+  pub sentIsHeard : SentIsHeard
+  pub mavlinkReadsBack : mavlink-trips.WrittenReadsBack
+  pub mavlinkWritesBack : mavlink-trips.AcceptedWritesBack
 
 -- The receiver's part of demand 3, one claim about whole lists: from a fresh receiver every call answers as the rules say, and
 -- where the list ends in the frame carrying one of two such bodies with the other's check, the last call answers 5.

@@ -1,0 +1,143 @@
+-- The refusals that the readers and the writers of messages can give. Assumes nothing.
+use mathlib.Core.Path.{_≡_, refl, subst}
+use mathlib.Core.Bool.{Bool, true, false, cond}
+use mathlib.Core.List.{List}
+use mathlib.Core.Logic.{_⊎_, inl, inr}
+use Prim.Native.Nat.{ℕ, _+_, _-_, _≤_, _<_}
+use native.Mathlib.Omega.{arith}
+use borrow.Author.Tests.{ltb-true}
+use lib.Dec.{eqb, ltb}
+use lib.ListN.{length, getD}
+use Rattle.writer_answers.specs.Answers.{Answer, refused, wrote}
+use Rattle.ucp_messages.specs.declared.Kind.{Kind}
+use Rattle.ucp_messages.specs.declared.Kind.the-variants.{Heartbeat, Uplink, Ownship, GeometricAltitude, Traffic, Request, Control, Initialization, Unknown}
+use Rattle.ucp_messages.specs.declared.Message.{Message}
+use Rattle.ucp_messages.specs.Reads as Reads
+use Rattle.ucp_messages.specs.Reads.{given, refusalBy, refusalIn, answerAs}
+use Rattle.ucp_messages.specs.Writes.{answerDue}
+use Rattle.mavlink_frame.specs.declared.Kind as kind-as
+use Rattle.mavlink_frame.specs.declared.Header.{Header}
+use Rattle.mavlink_frame.specs.declared.Lookup.{Lookup}
+use Rattle.mavlink_frame.specs.declared.Lookup.the-variants as lookup
+use Rattle.mavlink_frame.specs.declared.Found.{Found}
+use Rattle.mavlink_frame.specs.declared.Found.the-variants as found-as
+use Rattle.mavlink_frame.specs.Frame.{start}
+use Rattle.mavlink_frame.specs.Kinds.{kindOf}
+use Rattle.mavlink_frame.specs.Reads.{headerAt, payloadAt, checkAt, checkDue, foundOf, foundBy, found}
+use Rattle.mavlink_messages.specs.declared.Message as mavlink
+use Rattle.mavlink_messages.specs.declared.Message.the-variants as kinds
+use Rattle.mavlink_messages.specs.declared.Read.{Read}
+use Rattle.mavlink_messages.specs.declared.Read.the-variants as read-as
+use Rattle.mavlink_messages.specs.Layouts.{dataStreamOf, staticOf, dynamicOf, statusOf, trafficOf}
+use Rattle.mavlink_messages.specs.Messages.{inRange, failuresOf, judged, payloadRead, readBy, readDue, writeDue, octetsOf}
+
+-- ---- 10 to 13
+by-tests : (length fixed range : Bool) (m : Message) (n : ℕ) → given (refusalBy length fixed range) m ≡ Reads.refused n
+    → (10 ≤ n) × (n ≤ 13)
+unfolding refusalBy
+by-tests true true true m n e = let z : _≡_ {A = ℕ} 0 1 = cc in absurd (omega arith)
+by-tests true true false m n e = let z : n ≡ 13 = cc in (omega arith, omega arith)
+by-tests true false range m n e = let z : n ≡ 12 = cc in (omega arith, omega arith)
+by-tests false fixed range m n e = let z : n ≡ 11 = cc in (omega arith, omega arith)
+
+pub tabled-message : (k : Kind) (body : List ℕ) (n : ℕ) → answerAs k body ≡ Reads.refused n → (10 ≤ n) × (n ≤ 13)
+unfolding answerAs refusalIn
+tabled-message Heartbeat body n e = by-tests _ _ _ _ n e
+tabled-message Uplink body n e = by-tests _ _ _ _ n e
+tabled-message Ownship body n e = by-tests _ _ _ _ n e
+tabled-message GeometricAltitude body n e = by-tests _ _ _ _ n e
+tabled-message Traffic body n e = by-tests _ _ _ _ n e
+tabled-message Request body n e = by-tests _ _ _ _ n e
+tabled-message Control body n e = by-tests _ _ _ _ n e
+tabled-message Initialization body n e = by-tests _ _ _ _ n e
+tabled-message Unknown body n e = let z : n ≡ 10 = cc in (omega arith, omega arith)
+
+-- ---- a range, then room
+pub range-then-room : (right : Bool) (number n : ℕ) (accepted : Answer) (short : Bool) → accepted ≡ cond short (refused 8) (wrote n)
+    → (m : ℕ) → cond right accepted (refused number) ≡ refused m
+    → ((m ≡ number) × (right ≡ false)) ⊎ ((m ≡ 8) × (right ≡ true) × (short ≡ true))
+range-then-room false number n accepted short a m e = inl (cc, refl)
+range-then-room true number n accepted true a m e = let z : m ≡ 8 = cc in inr (z, refl, refl)
+range-then-room true number n accepted false a m e = let z : _≡_ {A = ℕ} 0 1 = cc in absurd (omega arith)
+
+pub message-refused : (fits : Bool) (body output : List ℕ) (n : ℕ) → answerDue fits body output ≡ refused n
+    → ((n ≡ 13) × (fits ≡ false)) ⊎ ((n ≡ 8) × (fits ≡ true) × (length output < length body))
+unfolding answerDue
+message-refused fits body output n e = go (range-then-room fits 13 (length body) _ (ltb (length output) (length body)) refl n e)
+  where
+    go : ((n ≡ 13) × (fits ≡ false)) ⊎ ((n ≡ 8) × (fits ≡ true) × (ltb (length output) (length body) ≡ true))
+        → ((n ≡ 13) × (fits ≡ false)) ⊎ ((n ≡ 8) × (fits ≡ true) × (length output < length body))
+    go (inl h) = inl h
+    go (inr h) = inr (h .0, h .1, ltb-true _ _ (h .2))
+
+pub mavlink-refused : (m : mavlink.Message) (output : List ℕ) (n : ℕ) → writeDue m output ≡ refused n
+    → ((n ≡ 25) × (inRange m ≡ false)) ⊎ ((n ≡ 8) × (inRange m ≡ true))
+mavlink-refused m output n e =
+    go (range-then-room (inRange m) 25 (length (octetsOf m) + 8) _ (ltb (length output) (length (octetsOf m) + 8)) refl n e)
+  where
+    go : ((n ≡ 25) × (inRange m ≡ false)) ⊎ ((n ≡ 8) × (inRange m ≡ true) × (ltb (length output) (length (octetsOf m) + 8) ≡ true))
+        → ((n ≡ 25) × (inRange m ≡ false)) ⊎ ((n ≡ 8) × (inRange m ≡ true))
+    go (inl h) = inl h
+    go (inr h) = inr (h .0, h .1)
+
+-- ---- 20 to 25
+abbrev Tabled : Found → Type 0
+Tabled (found-as.Refused n) = (20 ≤ n) × (n ≤ 24)
+Tabled (found-as.Frame id h used) = Unit {0}
+
+from-23 : (k : kind-as.Kind) (s : List ℕ) → Tabled (foundOf k s)
+unfolding foundOf
+from-23 k s =
+    go (eqb (getD s 1 0) (k .length)) (ltb (length s) (k .length + 8)) (eqb (checkAt (k .length) s) (checkDue (k .length) (k .extra) s))
+  where
+    go : (a b c : Bool)
+        → Tabled (cond a (cond b (found-as.Refused 20) (cond c (found-as.Frame (k .id) (headerAt s) (k .length + 8)) (found-as.Refused 24))) (found-as.Refused 23))
+    go false b c = (omega arith, omega arith)
+    go true true c = (omega arith, omega arith)
+    go true false true = tt
+    go true false false = (omega arith, omega arith)
+
+from-22 : (l : Lookup) (s : List ℕ) → Tabled (foundBy l s)
+from-22 (lookup.Known k) s = from-23 k s
+from-22 lookup.Unknown s = (omega arith, omega arith)
+
+tabled : (s : List ℕ) → Tabled (found s)
+unfolding found
+tabled s = go (eqb (length s) 0) (eqb (getD s 0 0) start) (ltb (length s) 6)
+  where
+    go : (a b c : Bool)
+        → Tabled (cond a (found-as.Refused 20) (cond b (cond c (found-as.Refused 20) (foundBy (kindOf (getD s 5 0)) s)) (found-as.Refused 21)))
+    go true b c = (omega arith, omega arith)
+    go false false c = (omega arith, omega arith)
+    go false true true = (omega arith, omega arith)
+    go false true false = from-22 (kindOf (getD s 5 0)) s
+
+abbrev InTable : Read → Type 0
+InTable (read-as.Refused n) = (20 ≤ n) × (n ≤ 25)
+InTable (read-as.Message h used m f) = Unit {0}
+
+judged-in : (h : Header) (used : ℕ) (m : mavlink.Message) → InTable (judged h used m)
+judged-in h used m = go (inRange m)
+  where
+    go : (right : Bool) → InTable (cond right (read-as.Message h used m (failuresOf m)) (read-as.Refused 25))
+    go true = tt
+    go false = (omega arith, omega arith)
+
+either : (t : Bool) (x y : Read) → InTable x → InTable y → InTable (cond t x y)
+either true x y p q = p
+either false x y p q = q
+
+payload-in : (id : ℕ) (h : Header) (used : ℕ) (p : List ℕ) → InTable (payloadRead id h used p)
+payload-in id h used p =
+    either (eqb id 66) _ _ (judged-in h used (kinds.DataStream (dataStreamOf p)))
+    (either (eqb id 201) _ _ (judged-in h used (kinds.Static (staticOf p)))
+    (either (eqb id 202) _ _ (judged-in h used (kinds.Dynamic (dynamicOf p)))
+    (either (eqb id 203) _ _ (judged-in h used (kinds.Status (statusOf p)))
+    (either (eqb id 246) _ _ (judged-in h used (kinds.Traffic (trafficOf p))) (omega arith, omega arith)))))
+
+read-in : (f : Found) (s : List ℕ) → Tabled f → InTable (readBy f s)
+read-in (found-as.Refused n) s t = (t .0, omega arith)
+read-in (found-as.Frame id h used) s t = payload-in id h used (payloadAt (used - 8) s)
+
+pub tabled-mavlink : (s : List ℕ) (n : ℕ) → readDue s ≡ read-as.Refused n → (20 ≤ n) × (n ≤ 25)
+tabled-mavlink s n e = subst InTable e (read-in (found s) s (tabled s))
