@@ -1,8 +1,8 @@
 -- A message that is sent is heard as the same message. Assumes nothing.
 use mathlib.Core.Path.{_≡_, refl, sym, ap, _∙_}
 use mathlib.Core.Bool.{Bool, true, false, cond}
-use mathlib.Core.List.{List, _∷_, _++_}
-use Prim.Native.Nat.{ℕ, _≤_}
+use mathlib.Core.List.{List}
+use Prim.Native.Nat.{ℕ}
 use native.Mathlib.Omega.{arith}
 use borrow.Author.Tests.{le-ltb}
 use lib.ListN.{length, take, drop}
@@ -11,13 +11,12 @@ use Rattle.frame_format.specs.Frame.{frame}
 use Rattle.frame_writer.specs.Writes.{answerDue as frameDue}
 use Rattle.frame_writer.proofs.Due.{accepted-so}
 use Rattle.message_round_trips.proofs.ReadBack.{written-reads-back}
-use Rattle.receiver_history.specs.Promises.{AnswersAs, EndsIn, frameAnswer}
-use Rattle.receiver_history.specs.Line.{upTo}
+use Rattle.receiver_history.specs.Promises.{AnswersAs, frameAnswer}
 use Rattle.receiver_history.proofs.Frames.{frame-is-put-out}
 use Rattle.ucp_messages.specs.declared.Message.{Message}
 use Rattle.ucp_messages.specs.Bodies.{messageFits, messageBody}
 use Rattle.ucp_send.specs.Sends.{answerDue}
-use Rattle.writer_answers.specs.Answers.{Answer, refused, wrote, outputAfter}
+use Rattle.writer_answers.specs.Answers.{refused, wrote, outputAfter}
 use Rattle.message_delivery.specs.Delivery.{SentIsHeard}
 
 -- an accepted call: the fields fit, and the frame writer accepted the body

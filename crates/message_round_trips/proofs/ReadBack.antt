@@ -1,7 +1,6 @@
 -- A written message reads back equal. Assumes nothing.
 use mathlib.Core.Path.{_≡_, ap, _∙_}
 use mathlib.Core.Bool.{true, _&&_}
-use mathlib.Core.List.{List}
 use Prim.Native.Nat.{ℕ, _<_}
 use native.Mathlib.Omega.{arith}
 use lib.Dec.{ltb}
@@ -11,7 +10,6 @@ use borrow.Author.Tests.{eqb-true}
 use Rattle.octet_fields.specs.Signed.{holds}
 use Rattle.octet_fields.proofs.RoundTrips.{fields-octets}
 use Rattle.octet_fields.proofs.Signed.{signed-complement}
-use Rattle.ucp_messages.specs.declared.Message.{Message}
 use Rattle.ucp_messages.specs.declared.Message.the-variants.{Heartbeat, Uplink, Ownship, GeometricAltitude, Traffic, Request, Control, Initialization}
 use Rattle.ucp_messages.specs.declared.Heartbeat as heartbeat
 use Rattle.ucp_messages.specs.declared.Report as report
@@ -27,7 +25,7 @@ use Rattle.ucp_messages.specs.Request.{requestLayout, requestOf, requestFields,
 use Rattle.ucp_messages.specs.Control.{controlLayout, controlOf, controlFields, controlIn, controlBody, controlFits}
 use Rattle.ucp_messages.specs.Initialization.{initializationLayout, initializationOf, initializationFields, initializationIn, initializationBody, initializationFits}
 use Rattle.ucp_messages.specs.Kinds.{kindOf}
-use Rattle.ucp_messages.specs.Reads.{means, refusalBy, refusalIn, answerAs, answerDue}
+use Rattle.ucp_messages.specs.Reads.{means, refusalBy, refusalIn, answerAs}
 use Rattle.ucp_messages.specs.Bodies.{messageFits, messageBody}
 use Rattle.ucp_messages.proofs.Fits.{both}
 use Rattle.message_round_trips.specs.Typed.{Typed, TypedReport, U16}

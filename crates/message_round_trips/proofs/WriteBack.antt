@@ -26,7 +26,7 @@ use Rattle.ucp_messages.specs.Request.{requestLayout, requestIn, requestBody}
 use Rattle.ucp_messages.specs.Control.{controlLayout, controlIn, controlBody}
 use Rattle.ucp_messages.specs.Initialization.{initializationLayout, initializationIn, initializationBody}
 use Rattle.ucp_messages.specs.Kinds.{kindOf, kindIn}
-use Rattle.ucp_messages.specs.Reads.{means, refused, given, refusalBy, refusalIn, answerAs, answerDue}
+use Rattle.ucp_messages.specs.Reads.{means, refused, given, refusalBy, refusalIn, answerAs}
 use Rattle.ucp_messages.specs.Bodies.{messageFits, messageBody}
 use Rattle.ucp_messages.proofs.Fits.{both}
 use Rattle.message_round_trips.specs.RoundTrips.{AcceptedWritesBack}

@@ -11,9 +11,9 @@ use ucp_messages::Request;
 use writer_answers::OstrogoszWritten;
 ghost use mathlib.Core.Path.{_≡_};
 ghost use mathlib.Core.List.{[]};
-ghost use Rattle.ucp_messages.specs.Reads.{answerDue, answerOf};
+ghost use Rattle.ucp_messages.specs.Reads.{answerDue};
 ghost use Rattle.ostrogosz_messages.specs.Writers.{WritesBody, SendsFrame};
-ghost use Rattle.ostrogosz_messages.specs.Messages.{noText, noHeartbeat, noReport, noGeometric, noRequest, noControl, noInitialization, blank, parts, meant, messageNumbers};
+ghost use Rattle.ostrogosz_messages.specs.Messages.{noText, noHeartbeat, noReport, noGeometric, noRequest, noControl, noInitialization, blank, meant, messageNumbers};
 
 // The message reader's answer. The fields of the kind that `id` names are filled, all others are 0.
 #[repr(C)]

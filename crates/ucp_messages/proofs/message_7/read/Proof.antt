@@ -6,7 +6,6 @@ use denote.Ref.{now}
 use lib.ListN.{length}
 use Rattle.ucp_messages.specs.Reads.{refusalIn, answerAs}
 use Rattle.ucp_messages.proofs.Judged.{wrong-length, right}
-use borrow.Author.Needs.{needs}
 use Rattle.ucp_messages.proofs.message_7.read.Statement.{statement}
 use Rattle.ucp_messages.proofs.message_7.read.Tie as tie
 
