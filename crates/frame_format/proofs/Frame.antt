@@ -59,9 +59,6 @@ first-frame x y rest other e =
     (cc (append-assoc s (flag ∷ []) rest, append-assoc t (flag ∷ []) other)) in
     (append-injective x y (frameCheckOctets x) (frameCheckOctets y) refl (stuffed-injective _ _ (w .0)), w .1)
 
-pub frame-injective : (x y : List ℕ) → frame x ≡ frame y → x ≡ y
-frame-injective x y e = first-frame x y [] [] (ap (λ (l : List ℕ). l ++ []) e) .0
-
 pub frames-injective : (xs ys : List (List ℕ)) → lineOf xs ≡ lineOf ys → xs ≡ ys
 unfolding lineOf frame
 frames-injective [] [] e = refl
