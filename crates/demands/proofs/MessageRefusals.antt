@@ -28,7 +28,11 @@ use Rattle.mavlink_messages.specs.declared.Message as mavlink
 use Rattle.mavlink_messages.specs.declared.Message.the-variants as kinds
 use Rattle.mavlink_messages.specs.declared.Read.{Read}
 use Rattle.mavlink_messages.specs.declared.Read.the-variants as read-as
-use Rattle.mavlink_messages.specs.Layouts.{dataStreamOf, staticOf, dynamicOf, statusOf, trafficOf}
+use Rattle.mavlink_messages.specs.DataStream.{dataStreamIn}
+use Rattle.mavlink_messages.specs.Static.{staticIn}
+use Rattle.mavlink_messages.specs.Dynamic.{dynamicIn}
+use Rattle.mavlink_messages.specs.Status.{statusIn}
+use Rattle.mavlink_messages.specs.Traffic.{trafficIn}
 use Rattle.mavlink_messages.specs.Messages.{inRange, failuresOf, judged, payloadRead, readBy, readDue, writeDue, octetsOf}
 
 -- ---- 10 to 13
@@ -129,11 +133,11 @@ either false x y p q = q
 
 payload-in : (id : ℕ) (h : Header) (used : ℕ) (p : List ℕ) → InTable (payloadRead id h used p)
 payload-in id h used p =
-    either (eqb id 66) _ _ (judged-in h used (kinds.DataStream (dataStreamOf p)))
-    (either (eqb id 201) _ _ (judged-in h used (kinds.Static (staticOf p)))
-    (either (eqb id 202) _ _ (judged-in h used (kinds.Dynamic (dynamicOf p)))
-    (either (eqb id 203) _ _ (judged-in h used (kinds.Status (statusOf p)))
-    (either (eqb id 246) _ _ (judged-in h used (kinds.Traffic (trafficOf p))) (omega arith, omega arith)))))
+    either (eqb id 66) _ _ (judged-in h used (kinds.DataStream (dataStreamIn p)))
+    (either (eqb id 201) _ _ (judged-in h used (kinds.Static (staticIn p)))
+    (either (eqb id 202) _ _ (judged-in h used (kinds.Dynamic (dynamicIn p)))
+    (either (eqb id 203) _ _ (judged-in h used (kinds.Status (statusIn p)))
+    (either (eqb id 246) _ _ (judged-in h used (kinds.Traffic (trafficIn p))) (omega arith, omega arith)))))
 
 read-in : (f : Found) (s : List ℕ) → Tabled f → InTable (readBy f s)
 read-in (found-as.Refused n) s t = (t .0, omega arith)

@@ -1,25 +1,48 @@
 -- What a reader answers, by its tests. Assumes nothing.
-use mathlib.Core.Path.{_≡_, sym, ap, _∙_}
-use mathlib.Core.Bool.{true, false}
+use mathlib.Core.Path.{_≡_, refl, sym, ap, _∙_}
+use mathlib.Core.Bool.{Bool, true, false, cond, _&&_}
 use mathlib.Core.List.{List}
 use Prim.Native.Nat.{ℕ, _-_, _≤_}
 use native.Mathlib.Omega.{arith}
-use borrow.Author.Tests.{eq-eqb}
+use borrow.Author.Tests.{eq-eqb, eqb-true}
+use lib.Dec.{eqb}
 use lib.ListN.{length, take, drop, length-drop}
 use lib.Seq.{length-take-le}
 use Rattle.mavlink_frame.specs.declared.Header.{Header}
+use Rattle.mavlink_frame.specs.declared.Kind.{Kind}
+use Rattle.mavlink_frame.specs.declared.Lookup.{Lookup}
+use Rattle.mavlink_frame.specs.declared.Lookup.the-variants.{Known, Unknown}
 use Rattle.mavlink_frame.specs.declared.Found.the-variants.{Frame}
+use Rattle.mavlink_frame.specs.Kinds.{kind, kindOf}
 use Rattle.mavlink_frame.specs.Reads.{found}
 use Rattle.mavlink_frame.proofs.Accepted.{Accepted, accepted}
-use Rattle.mavlink_messages.specs.declared.Message.{Message}
-use Rattle.mavlink_messages.specs.declared.Read.the-variants as read-as
-use Rattle.mavlink_messages.specs.Messages.{inRange, failuresOf, judged, payloadRead, readBy, readDue, ofItsKind}
+use Rattle.mavlink_messages.specs.Messages.{payloadRead, readBy, readDue, ofLength, ofItsKind}
 
-pub in-range : (h : Header) (used : ℕ) (m : Message) → inRange m ≡ true → read-as.Message h used m (failuresOf m) ≡ judged h used m
-in-range h used m e = rw e
+pub both : (a b : Bool) → (a && b) ≡ true → (a ≡ true) × (b ≡ true)
+both true b e = (refl, e)
+both false b e = let z : _≡_ {A = ℕ} 0 1 = cc in absurd (omega arith)
 
-pub out-of-range : (h : Header) (used : ℕ) (m : Message) → inRange m ≡ false → read-as.Refused 25 ≡ judged h used m
-out-of-range h used m e = rw e
+pub tested : (id i n l : ℕ) → (eqb id i && eqb n l) ≡ true → (id ≡ i) × (n ≡ l)
+tested id i n l e = let h = both (eqb id i) (eqb n l) e in (eqb-true id i (h .0), eqb-true n l (h .1))
+
+-- a length that is right for the ID, where the table's first kind is not the one
+past : (b : Bool) (k : Kind) (rest : Lookup) (n : ℕ) → ofLength (cond b (Known k) rest) n ≡ true → (b && eqb n (k .length)) ≡ false
+    → ofLength rest n ≡ true
+past true k rest n h e = let z : _≡_ {A = ℕ} 0 1 = cc in absurd (omega arith)
+past false k rest n h e = h
+
+-- a length that is right for the ID is that of one of the five kinds
+pub no-kind : (id n : ℕ) → ofItsKind id n ≡ true → (eqb id 66 && eqb n 6) ≡ false → (eqb id 201 && eqb n 19) ≡ false
+    → (eqb id 202 && eqb n 42) ≡ false → (eqb id 203 && eqb n 1) ≡ false → (eqb id 246 && eqb n 38) ≡ false → ⊥
+unfolding kindOf
+no-kind id n h a b c d e =
+    let fifth =
+    past (eqb id 246) (kind 246 38 184) Unknown n
+    (past (eqb id 203) (kind 203 1 85) _ n
+    (past (eqb id 202) (kind 202 42 7) _ n (past (eqb id 201) (kind 201 19 126) _ n (past (eqb id 66) (kind 66 6 148) _ n h a) b) c) d) e
+    in
+    let z : _≡_ {A = ℕ} 0 1 = cc in
+    omega arith
 
 module _ (s : List ℕ) (id : ℕ) (h : Header) (used : ℕ) (e : found s ≡ Frame id h used) where
   frame-is : Accepted s id h used

@@ -1,6 +1,6 @@
 -- A writer's two ways: a field is outside its range, or the frame's writer is called. Assumes nothing.
 use mathlib.Core.Path.{_≡_, refl}
-use mathlib.Core.Bool.{Bool, true, false, _&&_}
+use mathlib.Core.Bool.{true, false}
 use mathlib.Core.List.{List}
 use Prim.Native.Nat.{ℕ, _+_, _<_}
 use borrow.Author.Tests.{ltb-true}
@@ -15,7 +15,13 @@ use Rattle.mavlink_frame.specs.Writes as frame-writes
 use Rattle.mavlink_messages.specs.declared.Static as static-as
 use Rattle.mavlink_messages.specs.declared.Message.{Message}
 use Rattle.mavlink_messages.specs.declared.Message.the-variants.{DataStream, Static, Dynamic, Status, Traffic}
+use Rattle.mavlink_messages.specs.DataStream.{dataStreamPayload}
+use Rattle.mavlink_messages.specs.Static.{staticPayload}
+use Rattle.mavlink_messages.specs.Dynamic.{dynamicPayload}
+use Rattle.mavlink_messages.specs.Status.{statusPayload}
+use Rattle.mavlink_messages.specs.Traffic.{trafficPayload}
 use Rattle.mavlink_messages.specs.Ranges.{staticInRange}
+use Rattle.mavlink_messages.proofs.Answers.{both}
 use Rattle.mavlink_messages.specs.Messages.{idOf, octetsOf, inRange, writeDue, messageFrame}
 
 pub refused : (m : Message) (h : Header) (output : List ℕ) → inRange m ≡ false
@@ -24,23 +30,21 @@ refused m h output e = rw e (record { answers = refl; leaves = refl })
 
 -- each kind's octets are as many as the table says
 due : (m : Message) (output : List ℕ) → frame-writes.writeDue (idOf m) (octetsOf m) output ≡ roomFor (length (octetsOf m) + 8) output
-unfolding kindOf writeOf
+unfolding kindOf writeOf dataStreamPayload staticPayload dynamicPayload statusPayload trafficPayload
 due (DataStream d) output = refl
 due (Static s) output = refl
 due (Dynamic d) output = refl
 due (Status s) output = refl
 due (Traffic t) output = refl
 
-pub written : (m : Message) (h : Header) {payload output : List ℕ} {r : Written} {after : List ℕ} → inRange m ≡ true
-    → payload ≡ octetsOf m → Writing (frame-writes.writeDue (idOf m) payload output) (frameOf (idOf m) h payload) output r after
-    → Writing (writeDue m output) (messageFrame m h) output r after
-written m h {payload} {output} e p w = rw e (rw (p, due m output) at w)
-
-left : (a b : Bool) → (a && b) ≡ true → a ≡ true
-left true b e = refl
-left false b e = e
+-- a message that is of this kind
+pub written : {message m : Message} (h : Header) {payload output : List ℕ} {r : Written} {after : List ℕ} → message ≡ m
+    → inRange message ≡ true → payload ≡ octetsOf m
+    → Writing (frame-writes.writeDue (idOf m) payload output) (frameOf (idOf m) h payload) output r after
+    → Writing (writeDue message output) (messageFrame message h) output r after
+written {m = m} h {output = output} g e p w = rw (e, g) (rw (p, due m output) at w)
 
 -- an address that is in range has 24 bits
 pub address-fits : (s : static-as.Static) → staticInRange s ≡ true → s .address < 0x1000000
 unfolding staticInRange
-address-fits s e = ltb-true _ _ (left _ _ (left _ _ (left _ _ (left _ _ (left _ _ (left _ _ e))))))
+address-fits s e = ltb-true _ _ (both _ _ (both _ _ (both _ _ (both _ _ (both _ _ (both _ _ e .0) .0) .0) .0) .0) .0)

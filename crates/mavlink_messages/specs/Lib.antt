@@ -1,5 +1,9 @@
-pub mod Numbers
-pub mod Layouts
+pub mod Octets
+pub mod DataStream
+pub mod Static
+pub mod Dynamic
+pub mod Status
+pub mod Traffic
 pub mod Ranges
 pub mod Failures
 pub mod Messages

@@ -19,7 +19,11 @@ use Rattle.mavlink_messages.specs.declared.Message.the-variants.{DataStr
 use Rattle.mavlink_messages.specs.declared.Failures.{Failures}
 use Rattle.mavlink_messages.specs.declared.Read.{Read}
 use Rattle.mavlink_messages.specs.declared.Read.the-variants as read-as
-use Rattle.mavlink_messages.specs.Layouts.{dataStreamOf, dataStreamOctets, staticOf, staticOctets, dynamicOf, dynamicOctets, statusOf, statusOctets, trafficOf, trafficOctets}
+use Rattle.mavlink_messages.specs.DataStream.{dataStreamIn, dataStreamPayload}
+use Rattle.mavlink_messages.specs.Static.{staticIn, staticPayload}
+use Rattle.mavlink_messages.specs.Dynamic.{dynamicIn, dynamicPayload}
+use Rattle.mavlink_messages.specs.Status.{statusIn, statusPayload}
+use Rattle.mavlink_messages.specs.Traffic.{trafficIn, trafficPayload}
 use Rattle.mavlink_messages.specs.Ranges.{staticInRange, dynamicInRange, trafficInRange}
 use Rattle.mavlink_messages.specs.Failures.{failuresIn, noFailures}
 
@@ -31,11 +35,11 @@ idOf (Status s) = 203
 idOf (Traffic t) = 246
 
 abbrev pub octetsOf : Message → List ℕ
-octetsOf (DataStream d) = dataStreamOctets d
-octetsOf (Static s) = staticOctets s
-octetsOf (Dynamic d) = dynamicOctets d
-octetsOf (Status s) = statusOctets s
-octetsOf (Traffic t) = trafficOctets t
+octetsOf (DataStream d) = dataStreamPayload d
+octetsOf (Static s) = staticPayload s
+octetsOf (Dynamic d) = dynamicPayload d
+octetsOf (Status s) = statusPayload s
+octetsOf (Traffic t) = trafficPayload t
 
 abbrev pub inRange : Message → Bool
 inRange (DataStream d) = true
@@ -53,17 +57,20 @@ failuresOf (Status s) = failuresIn (s .status)
 failuresOf (Traffic t) = noFailures
 
 -- ---- reading: 20 to 24 as the frame says, then 25
+abbrev pub judgedBy : Bool → Header → ℕ → Message → Read
+judgedBy fits h used m = cond fits (read-as.Message h used m (failuresOf m)) (read-as.Refused 25)
+
 abbrev pub judged : Header → ℕ → Message → Read
-judged h used m = cond (inRange m) (read-as.Message h used m (failuresOf m)) (read-as.Refused 25)
+judged h used m = judgedBy (inRange m) h used m
 
 -- a payload by its message ID; the frame has refused an ID that no kind has
 abbrev pub payloadRead : ℕ → Header → ℕ → List ℕ → Read
 payloadRead id h used p =
-    cond (eqb id 66) (judged h used (DataStream (dataStreamOf p)))
-    (cond (eqb id 201) (judged h used (Static (staticOf p)))
-    (cond (eqb id 202) (judged h used (Dynamic (dynamicOf p)))
-    (cond (eqb id 203) (judged h used (Status (statusOf p)))
-    (cond (eqb id 246) (judged h used (Traffic (trafficOf p)))
+    cond (eqb id 66) (judged h used (DataStream (dataStreamIn p)))
+    (cond (eqb id 201) (judged h used (Static (staticIn p)))
+    (cond (eqb id 202) (judged h used (Dynamic (dynamicIn p)))
+    (cond (eqb id 203) (judged h used (Status (statusIn p)))
+    (cond (eqb id 246) (judged h used (Traffic (trafficIn p)))
     (read-as.Refused 22)))))
 
 abbrev pub readBy : Found → List ℕ → Read

@@ -3,17 +3,17 @@ use mathlib.Core.Bool.{Bool, _&&_, _||_}
 use lib.Dec.{eqb, leb, ltb}
 use Rattle.field_rules.specs.Codes.{isSquawk, isEmitter, isSizeCode}
 use Rattle.field_rules.specs.Text.{isSpaced}
+use Rattle.octet_fields.specs.Texts.{textOctets}
 use Rattle.mavlink_messages.specs.declared.Static.{Static}
 use Rattle.mavlink_messages.specs.declared.Dynamic.{Dynamic}
 use Rattle.mavlink_messages.specs.declared.Traffic.{Traffic}
-use Rattle.mavlink_messages.specs.Layouts.{callsignOctets}
 
 -- an address of 24 bits, a callsign of eight of A-Z, 0-9 and space and then 00, an emitter of 0 to 19, a size of 0 to 15,
 -- a lateral offset of 0 to 7 and a longitudinal one of 0 to 31
 unfoldable pub staticInRange : Static → Bool
 staticInRange s =
     ltb (s .address) 0x1000000
-    && isSpaced (callsignOctets (s .callsign))
+    && isSpaced (textOctets (s .callsign))
     && eqb (s .capability) 0
     && isEmitter (s .emitter)
     && isSizeCode (s .size)

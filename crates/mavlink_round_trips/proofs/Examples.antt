@@ -7,11 +7,14 @@ use Rattle.x25_check.specs.Check.{bitsUp, wireBits, next, register, mirrored, x
 use Rattle.mavlink_frame.specs.Kinds.{kindOf}
 use Rattle.mavlink_frame.specs.Frame.{frame}
 use Rattle.mavlink_frame.specs.Reads.{foundOf, found}
+use Rattle.octet_fields.specs.Signed.{signed}
+use Rattle.mavlink_messages.specs.Static.{staticIn, staticPayload}
+use Rattle.mavlink_messages.specs.Dynamic.{dynamicIn, dynamicPayload}
 use Rattle.mavlink_messages.specs.Ranges.{staticInRange, dynamicInRange}
 use Rattle.mavlink_round_trips.specs.Examples.{Examples}
 
 pub examples : Examples
-unfolding step reduced polynomial isSquawk isEmitter isSizeCode isSpaced bitsUp wireBits next register mirrored x25 kindOf frame foundOf found staticInRange dynamicInRange
+unfolding step reduced polynomial isSquawk isEmitter isSizeCode isSpaced bitsUp wireBits next register mirrored x25 kindOf frame foundOf found signed staticIn staticPayload dynamicIn dynamicPayload staticInRange dynamicInRange
 examples =
     record {
       nine-digits = refl;

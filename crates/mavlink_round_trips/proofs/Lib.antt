@@ -1,5 +1,4 @@
 pub mod Examples
-pub mod Packed
 pub mod Frames
 pub mod Layouts
 pub mod RoundTrips

@@ -27,7 +27,11 @@ use Rattle.mavlink_messages.specs.declared.Message.{Message}
 use Rattle.mavlink_messages.specs.declared.Message.the-variants.{DataStream, Static, Dynamic, Status, Traffic}
 use Rattle.mavlink_messages.specs.declared.Read.{Read}
 use Rattle.mavlink_messages.specs.declared.Read.the-variants as read-as
-use Rattle.mavlink_messages.specs.Layouts.{dataStreamOf, staticOf, dynamicOf, statusOf, trafficOf}
+use Rattle.mavlink_messages.specs.DataStream.{dataStreamIn, dataStreamPayload}
+use Rattle.mavlink_messages.specs.Static.{staticIn, staticPayload}
+use Rattle.mavlink_messages.specs.Dynamic.{dynamicIn, dynamicPayload}
+use Rattle.mavlink_messages.specs.Status.{statusIn, statusPayload}
+use Rattle.mavlink_messages.specs.Traffic.{trafficIn, trafficPayload}
 use Rattle.mavlink_messages.specs.Messages.{idOf, octetsOf, inRange, failuresOf, judged, payloadRead, readBy, readDue, ofItsKind, writeDue, messageFrame}
 use Rattle.mavlink_round_trips.specs.RoundTrips.{Typed, WrittenReadsBack, AcceptedWritesBack}
 use Rattle.mavlink_round_trips.proofs.Frames.{whole, whole-is, frame-found, frame-payload, accepted-frame, payload-length, frame-length}
@@ -58,7 +62,7 @@ same-id (Status s) = refl
 same-id (Traffic t) = refl
 
 octets-length : (m : Message) → length (octetsOf m) ≡ kindFor m .length
-unfolding kindFor
+unfolding kindFor dataStreamPayload staticPayload dynamicPayload statusPayload trafficPayload
 octets-length (DataStream d) = refl
 octets-length (Static s) = refl
 octets-length (Dynamic d) = refl
@@ -142,11 +146,11 @@ module _ (id : ℕ) (p : List ℕ) (h : Header) (used : ℕ) (h′ : Header) (us
   carried : payloadRead id h used p ≡ read-as.Message h′ used′ m f → Carried id p h used h′ used′ m
   unfolding kindOf
   carried e =
-      branch (eqb id 66) e (λ t. of-message 66 (DataStream (dataStreamOf p)) t refl (dataStream-again p o (eqb-true _ _ (sized 66 t)))) (λ e.
-      branch (eqb id 201) e (λ t. of-message 201 (Static (staticOf p)) t refl (static-again p o (eqb-true _ _ (sized 201 t)))) (λ e.
-      branch (eqb id 202) e (λ t. of-message 202 (Dynamic (dynamicOf p)) t refl (dynamic-again p o (eqb-true _ _ (sized 202 t)))) (λ e.
-      branch (eqb id 203) e (λ t. of-message 203 (Status (statusOf p)) t refl (status-again p o (eqb-true _ _ (sized 203 t)))) (λ e.
-      branch (eqb id 246) e (λ t. of-message 246 (Traffic (trafficOf p)) t refl (traffic-again p o (eqb-true _ _ (sized 246 t)))) (λ e.
+      branch (eqb id 66) e (λ t. of-message 66 (DataStream (dataStreamIn p)) t refl (dataStream-again p o (eqb-true _ _ (sized 66 t)))) (λ e.
+      branch (eqb id 201) e (λ t. of-message 201 (Static (staticIn p)) t refl (static-again p o (eqb-true _ _ (sized 201 t)))) (λ e.
+      branch (eqb id 202) e (λ t. of-message 202 (Dynamic (dynamicIn p)) t refl (dynamic-again p o (eqb-true _ _ (sized 202 t)))) (λ e.
+      branch (eqb id 203) e (λ t. of-message 203 (Status (statusIn p)) t refl (status-again p o (eqb-true _ _ (sized 203 t)))) (λ e.
+      branch (eqb id 246) e (λ t. of-message 246 (Traffic (trafficIn p)) t refl (traffic-again p o (eqb-true _ _ (sized 246 t)))) (λ e.
       let z : _≡_ {A = ℕ} 0 1 = cc in absurd (omega arith))))))
 
 -- a part of octets has octets

@@ -55,7 +55,7 @@ staticFields =
       address = 0xA01234;
       integrity = 0x25;
       stall = 0;
-      callsign = record { c1 = 0x50; c2 = 0x49; c3 = 0x4E; c4 = 0x47; c5 = 0x32; c6 = 0x30; c7 = 0x32; c8 = 0x30 };
+      callsign = record { c0 = 0x50; c1 = 0x49; c2 = 0x4E; c3 = 0x47; c4 = 0x32; c5 = 0x30; c6 = 0x32; c7 = 0x30 };
       capability = 0;
       emitter = 0x12;
       size = 1;

@@ -1,11 +1,13 @@
 -- Both round trips, of the definitions that the contracts of the reader and the writers cite. Assumes nothing.
 use mathlib.Core.Path.{_≡_}
-use mathlib.Core.List.{List, [], _∷_, _++_}
-use Prim.Native.Nat.{ℕ, _^_, _<_, _≤_}
+use mathlib.Core.List.{List, _++_}
+use Prim.Native.Nat.{ℕ, _≤_}
 use lib.ListN.{length, take, drop}
 use mir.Syntax.{w16, w32}
 use mir.Val.{SFits}
 use Rattle.binary_polynomial.specs.Bits.{Octets}
+use Rattle.octet_fields.specs.Digits.{Within}
+use Rattle.octet_fields.specs.Layout.{layoutWidths}
 use Rattle.writer_answers.specs.declared.Written.{Written}
 use Rattle.writer_answers.specs.declared.Written.the-variants.{Wrote}
 use Rattle.writer_answers.specs.Answers.{Writing}
@@ -16,20 +18,17 @@ use Rattle.mavlink_messages.specs.declared.Failures.{Failures}
 use Rattle.mavlink_messages.specs.declared.Message.{Message}
 use Rattle.mavlink_messages.specs.declared.Message.the-variants.{DataStream, Static, Dynamic, Status, Traffic}
 use Rattle.mavlink_messages.specs.declared.Read.the-variants as read-as
-use Rattle.mavlink_messages.specs.Layouts.{dataStreamWidths, dataStreamNumbers, staticWidths, staticNumbers, dynamicWidths, dynamicNumbers, statusWidths, statusNumbers, trafficWidths, trafficNumbers}
+use Rattle.mavlink_messages.specs.DataStream.{dataStreamLayout, dataStreamFields}
+use Rattle.mavlink_messages.specs.Static.{staticLayout, staticFields}
+use Rattle.mavlink_messages.specs.Dynamic.{dynamicLayout, dynamicFields}
+use Rattle.mavlink_messages.specs.Status.{statusLayout, statusFields}
+use Rattle.mavlink_messages.specs.Traffic.{trafficLayout, trafficFields}
 use Rattle.mavlink_messages.specs.Messages.{failuresOf, readDue, writeDue, messageFrame}
 
 -- ---- the fields are values of their types: as a running program's are, and antt's numbers need not be
 
--- as many numbers as widths, and each within its octets
-abbrev pub Within : List ℕ → List ℕ → Type 0
-Within [] [] = Unit {0}
-Within [] (n ∷ ns) = ⊥
-Within (w ∷ ws) [] = ⊥
-Within (w ∷ ws) (n ∷ ns) = (n < 256 ^ w) × Within ws ns
-
 pub record DynamicTyped (d : dynamic-as.Dynamic) : Type 0 where
-  pub within : Within dynamicWidths (dynamicNumbers d)
+  pub within : Within (layoutWidths dynamicLayout) (dynamicFields d)
   pub latitude : SFits w32 (d .latitude)
   pub longitude : SFits w32 (d .longitude)
   pub pressure : SFits w32 (d .pressure)
@@ -39,17 +38,17 @@ pub record DynamicTyped (d : dynamic-as.Dynamic) : Type 0 where
   pub east : SFits w16 (d .east)
 
 pub record TrafficTyped (t : traffic-as.Traffic) : Type 0 where
-  pub within : Within trafficWidths (trafficNumbers t)
+  pub within : Within (layoutWidths trafficLayout) (trafficFields t)
   pub latitude : SFits w32 (t .latitude)
   pub longitude : SFits w32 (t .longitude)
   pub altitude : SFits w32 (t .altitude)
   pub climb : SFits w16 (t .climb)
 
 abbrev pub Typed : Message → Type 0
-Typed (DataStream d) = Within dataStreamWidths (dataStreamNumbers d)
-Typed (Static s) = Within staticWidths (staticNumbers s)
+Typed (DataStream d) = Within (layoutWidths dataStreamLayout) (dataStreamFields d)
+Typed (Static s) = Within (layoutWidths staticLayout) (staticFields s)
 Typed (Dynamic d) = DynamicTyped d
-Typed (Status s) = Within statusWidths (statusNumbers s)
+Typed (Status s) = Within (layoutWidths statusLayout) (statusFields s)
 Typed (Traffic t) = TrafficTyped t
 
 -- ---- a written frame reads back equal, with anything behind it: the same kind, fields and header, and its own length

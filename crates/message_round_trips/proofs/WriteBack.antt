@@ -9,12 +9,10 @@ use borrow.Author.Tests.{eqb-true, eq-eqb, lt-ltb}
 use lib.Dec.{eqb}
 use lib.ListN.{length, getD, drop, length-drop}
 use Rattle.binary_polynomial.specs.Bits.{Octets}
-use Rattle.octet_fields.specs.Digits.{Within, bitOf, isSet}
-use Rattle.octet_fields.specs.Layout.{Run, layoutSize, layoutWidths, fields, octets, Whole}
-use Rattle.octet_fields.proofs.Digits.{length-within}
-use Rattle.octet_fields.proofs.RoundTrips.{fields-within, octets-fields}
+use Rattle.octet_fields.specs.Digits.{bitOf, isSet}
+use Rattle.octet_fields.specs.Layout.{fields}
 use Rattle.octet_fields.proofs.Signed.{complement-signed, holds-signed}
-use Rattle.octet_fields.proofs.Spelled.{elements, spelled, field-at}
+use Rattle.octet_fields.proofs.Spelled.{elements, field-at, bounds, same-octets}
 use Rattle.ucp_messages.specs.declared.Kind.{Kind}
 use Rattle.ucp_messages.specs.declared.Kind.the-variants.{Heartbeat, Uplink, Ownship, GeometricAltitude, Traffic, Request, Control, Initialization, Unknown}
 use Rattle.ucp_messages.specs.declared.Message.{Message}
@@ -108,21 +106,6 @@ bits-back : (n : ℕ) → n < 2 → bitOf (isSet n) ≡ n
 bits-back zero h = refl
 bits-back (suc zero) h = refl
 bits-back (suc (suc n)) h = absurd (omega arith)
-
--- ---- a body of a layout's size
-module _ (l : List Run) (m : ℕ) (count : length (layoutWidths l) ≡ m) (whole : Whole l) (body : List ℕ) (h : Octets body)
-    (n : length body ≡ layoutSize l) where
-  -- its fields, one by one
-  each : fields l body ≡ elements m 0 (fields l body)
-  each = spelled m (fields l body) (length-within (layoutWidths l) (fields l body) (fields-within l body whole h n) ∙ count)
-
-  -- and each is within its width
-  bounds : Within (layoutWidths l) (elements m 0 (fields l body))
-  bounds = subst (Within (layoutWidths l)) each (fields-within l body whole h n)
-
-  -- fields that are the same make the same octets
-  same-octets : {vs : List ℕ} → vs ≡ elements m 0 (fields l body) → octets l vs ≡ body
-  same-octets e = ap (octets l) (e ∙ sym each) ∙ octets-fields l body whole h n
 
 -- ---- each kind
 module _ (body : List ℕ) (h : Octets body) where

@@ -1,12 +1,12 @@
 // Structs with every field 0.
 use super::OstrogoszMavlinkMessage;
 use mavlink_frame::Header;
-use mavlink_messages::Callsign;
 use mavlink_messages::DataStream;
 use mavlink_messages::Dynamic;
 use mavlink_messages::Static;
 use mavlink_messages::Status;
 use mavlink_messages::Traffic;
+use octet_fields::Text;
 ghost use mathlib.Core.Path.{_≡_};
 ghost use Rattle.ostrogosz_mavlink.specs.Blank.{noHeader, noText, noDataStream, noStatic, noDynamic, noStatus, noTraffic};
 ghost use Rattle.ostrogosz_mavlink.specs.Read.{blank};
@@ -21,10 +21,11 @@ pub fn header() -> Header
     }
 }
 
-fn text() -> Callsign
+fn text() -> Text
     ensures { λ r. ⌜ r ≡ noText ⌝ }
 {
-    Callsign {
+    Text {
+        c0: 0,
         c1: 0,
         c2: 0,
         c3: 0,
@@ -32,7 +33,6 @@ fn text() -> Callsign
         c5: 0,
         c6: 0,
         c7: 0,
-        c8: 0,
     }
 }
 

@@ -1,0 +1,33 @@
+-- `mavlink_messages::message_201::octets` meets its contract, run by run. Assumes nothing.
+use mathlib.Core.List.{[], _∷_, _++_}
+use Rattle.octet_fields.specs.Texts.{textOctets}
+use Rattle.mavlink_messages.specs.Static.{staticPayload}
+use borrow.Author.Needs.{needs}
+use Rattle.mavlink_messages.proofs.message_201.octets.Statement.{statement}
+use Rattle.mavlink_messages.proofs.message_201.octets.Tie as tie
+
+little-24-requires : tie.Need-little-24-requires
+little-24-requires c κs = search needs
+
+little-16-requires : tie.Need-little-16-requires
+little-16-requires c κs = search needs
+
+returns : tie.Need-returns
+unfolding staticPayload
+returns c =
+    let at-stall = c .before in
+    let at-address = at-stall .before in
+    let v = at-address .before .args .static-data in
+    λ i. (at-address .little-24 .ensures i)
+    ++ v .integrity
+    ∷ (at-stall .little-16 .ensures i)
+    ++ (textOctets (v .callsign))
+    ++ v .capability
+    ∷ v .emitter
+    ∷ v .size
+    ∷ v .lateral
+    ∷ v .longitudinal
+    ∷ []
+
+pub octets-spec : {M : Type 1} → statement M
+octets-spec = tie.close (tie.spec little-24-requires little-16-requires returns)

@@ -1,0 +1,160 @@
+-- `mavlink_messages::message_202::read` meets its contract, field by field. Assumes nothing.
+use mathlib.Core.Path.{_≡_, _∙_}
+use Prim.Native.Nat.{ℕ}
+use denote.Ref.{now}
+use lib.ListN.{getD}
+use mir.Syntax.{w16, w32}
+use Rattle.octet_fields.specs.Layout.{fields}
+use Rattle.octet_fields.proofs.Spelled.{elements, field-at}
+use Rattle.mavlink_messages.specs.Dynamic.{dynamicLayout, dynamicIn}
+use Rattle.mavlink_messages.proofs.Signed.{taken}
+use borrow.Author.Needs.{needs}
+use Rattle.mavlink_messages.proofs.message_202.read.Statement.{statement}
+use Rattle.mavlink_messages.proofs.message_202.read.Tie as tie
+
+little-32-requires : tie.Need-little-32-requires
+little-32-requires c κs = search needs
+
+little-32-requires-2 : tie.Need-little-32-requires-2
+little-32-requires-2 c κs = search needs
+
+signed-32-requires : tie.Need-signed-32-requires
+signed-32-requires c κs = search needs
+
+little-32-requires-3 : tie.Need-little-32-requires-3
+little-32-requires-3 c κs = search needs
+
+signed-32-requires-2 : tie.Need-signed-32-requires-2
+signed-32-requires-2 c κs = search needs
+
+little-32-requires-4 : tie.Need-little-32-requires-4
+little-32-requires-4 c κs = search needs
+
+signed-32-requires-3 : tie.Need-signed-32-requires-3
+signed-32-requires-3 c κs = search needs
+
+little-32-requires-5 : tie.Need-little-32-requires-5
+little-32-requires-5 c κs = search needs
+
+signed-32-requires-4 : tie.Need-signed-32-requires-4
+signed-32-requires-4 c κs = search needs
+
+little-32-requires-6 : tie.Need-little-32-requires-6
+little-32-requires-6 c κs = search needs
+
+little-16-requires : tie.Need-little-16-requires
+little-16-requires c κs = search needs
+
+little-16-requires-2 : tie.Need-little-16-requires-2
+little-16-requires-2 c κs = search needs
+
+little-16-requires-3 : tie.Need-little-16-requires-3
+little-16-requires-3 c κs = search needs
+
+signed-16-requires : tie.Need-signed-16-requires
+signed-16-requires c κs = search needs
+
+little-16-requires-4 : tie.Need-little-16-requires-4
+little-16-requires-4 c κs = search needs
+
+signed-16-requires-2 : tie.Need-signed-16-requires-2
+signed-16-requires-2 c κs = search needs
+
+little-16-requires-5 : tie.Need-little-16-requires-5
+little-16-requires-5 c κs = search needs
+
+signed-16-requires-3 : tie.Need-signed-16-requires-3
+signed-16-requires-3 c κs = search needs
+
+little-16-requires-6 : tie.Need-little-16-requires-6
+little-16-requires-6 c κs = search needs
+
+little-16-requires-7 : tie.Need-little-16-requires-7
+little-16-requires-7 c κs = search needs
+
+octet-requires : tie.Need-octet-requires
+octet-requires c κs = search needs
+
+octet-requires-2 : tie.Need-octet-requires-2
+octet-requires-2 c κs = search needs
+
+octet-requires-3 : tie.Need-octet-requires-3
+octet-requires-3 c κs = search needs
+
+octet-requires-4 : tie.Need-octet-requires-4
+octet-requires-4 c κs = search needs
+
+returns : tie.Need-returns
+unfolding dynamicIn
+returns c =
+    let at-control = c in
+    let at-emergency = at-control .before in
+    let at-satellites = at-emergency .before in
+    let at-fix = at-satellites .before in
+    let at-squawk = at-fix .before in
+    let at-state = at-squawk .before in
+    let at-east = at-state .before in
+    let at-north = at-east .before .before in
+    let at-climb = at-north .before .before in
+    let at-velocity = at-climb .before .before in
+    let at-vertical = at-velocity .before in
+    let at-horizontal = at-vertical .before in
+    let at-gnss = at-horizontal .before in
+    let at-pressure = at-gnss .before .before in
+    let at-longitude = at-pressure .before .before in
+    let at-latitude = at-longitude .before .before in
+    let at-utc = at-latitude .before .before in
+    let s = at-utc .before .before in
+    let payload = now (s .args .payload) in
+    let at : (k : ℕ) → getD (fields dynamicLayout (elements 42 0 payload)) k 0 ≡ getD (fields dynamicLayout payload) k 0 =
+    λ k. field-at dynamicLayout 42 k payload (s .pre)
+    in
+    λ i. record {
+      utc = (at-utc .little-32 .ensures ∙ at 0) i;
+      latitude = taken w32 2147483648 (at-latitude .signed-32 .result) (record { sfits = at-latitude .signed-32 .ok }) (at-latitude .signed-32 .ensures) (at-latitude .before .little-322 .ensures ∙ at 1) i;
+      longitude = taken w32 2147483648 (at-longitude .signed-322 .result) (record { sfits = at-longitude .signed-322 .ok }) (at-longitude .signed-322 .ensures) (at-longitude .before .little-323 .ensures ∙ at 2) i;
+      pressure = taken w32 2147483648 (at-pressure .signed-323 .result) (record { sfits = at-pressure .signed-323 .ok }) (at-pressure .signed-323 .ensures) (at-pressure .before .little-324 .ensures ∙ at 3) i;
+      gnss = taken w32 2147483648 (at-gnss .signed-324 .result) (record { sfits = at-gnss .signed-324 .ok }) (at-gnss .signed-324 .ensures) (at-gnss .before .little-325 .ensures ∙ at 4) i;
+      horizontal = (at-horizontal .little-326 .ensures ∙ at 5) i;
+      vertical = (at-vertical .little-16 .ensures ∙ at 6) i;
+      velocity = (at-velocity .little-162 .ensures ∙ at 7) i;
+      climb = taken w16 32768 (at-climb .signed-16 .result) (record { sfits = at-climb .signed-16 .ok }) (at-climb .signed-16 .ensures) (at-climb .before .little-163 .ensures ∙ at 8) i;
+      north = taken w16 32768 (at-north .signed-162 .result) (record { sfits = at-north .signed-162 .ok }) (at-north .signed-162 .ensures) (at-north .before .little-164 .ensures ∙ at 9) i;
+      east = taken w16 32768 (at-east .signed-163 .result) (record { sfits = at-east .signed-163 .ok }) (at-east .signed-163 .ensures) (at-east .before .little-165 .ensures ∙ at 10) i;
+      state = (at-state .little-166 .ensures ∙ at 11) i;
+      squawk = (at-squawk .little-167 .ensures ∙ at 12) i;
+      fix = (at-fix .octet .ensures ∙ at 13) i;
+      satellites = (at-satellites .octet2 .ensures ∙ at 14) i;
+      emergency = (at-emergency .octet3 .ensures ∙ at 15) i;
+      control = (at-control .octet4 .ensures ∙ at 16) i;
+    }
+
+pub read-spec : {M : Type 1} → statement M
+read-spec =
+    tie.close
+    (tie.spec
+    little-32-requires
+    little-32-requires-2
+    signed-32-requires
+    little-32-requires-3
+    signed-32-requires-2
+    little-32-requires-4
+    signed-32-requires-3
+    little-32-requires-5
+    signed-32-requires-4
+    little-32-requires-6
+    little-16-requires
+    little-16-requires-2
+    little-16-requires-3
+    signed-16-requires
+    little-16-requires-4
+    signed-16-requires-2
+    little-16-requires-5
+    signed-16-requires-3
+    little-16-requires-6
+    little-16-requires-7
+    octet-requires
+    octet-requires-2
+    octet-requires-3
+    octet-requires-4
+    returns)

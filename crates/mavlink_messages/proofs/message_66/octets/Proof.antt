@@ -1,0 +1,24 @@
+-- `mavlink_messages::message_66::octets` meets its contract, run by run. Assumes nothing.
+use mathlib.Core.List.{[], _∷_, _++_}
+use Rattle.mavlink_messages.specs.DataStream.{dataStreamPayload}
+use borrow.Author.Needs.{needs}
+use Rattle.mavlink_messages.proofs.message_66.octets.Statement.{statement}
+use Rattle.mavlink_messages.proofs.message_66.octets.Tie as tie
+
+little-16-requires : tie.Need-little-16-requires
+little-16-requires c κs = search needs
+
+returns : tie.Need-returns
+unfolding dataStreamPayload
+returns c =
+    let at-rate = c in
+    let v = at-rate .before .args .data-stream in
+    λ i. (at-rate .little-16 .ensures i)
+    ++ v .system
+    ∷ v .component
+    ∷ v .stream
+    ∷ v .start
+    ∷ []
+
+pub octets-spec : {M : Type 1} → statement M
+octets-spec = tie.close (tie.spec little-16-requires returns)

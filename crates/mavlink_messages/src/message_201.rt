@@ -1,0 +1,85 @@
+// Message 201, the static data of an aircraft.
+use super::Static;
+use octet_fields::Text;
+ghost use mathlib.Core.Path.{_≡_};
+ghost use Prim.Native.Nat.{_<_};
+ghost use lib.ListN.{length};
+ghost use Rattle.field_rules.specs.Text.{isSpaced};
+ghost use Rattle.octet_fields.specs.Texts.{textOctets};
+ghost use Rattle.mavlink_messages.specs.Static.{staticIn, staticPayload};
+ghost use Rattle.mavlink_messages.specs.Ranges.{staticInRange};
+
+pub fn read(payload: &[u8]) -> Static
+    requires { ⌜ length (now payload) ≡ 19 ⌝ }
+    ensures { λ r. ⌜ r ≡ staticIn (now (payload .entry)) ⌝ }
+{
+    Static {
+        address: octet_fields::little_24(payload, 0),
+        integrity: octet_fields::octet(payload, 3),
+        stall: octet_fields::little_16(payload, 4),
+        callsign: octet_fields::text_at(payload, 6),
+        capability: octet_fields::octet(payload, 14),
+        emitter: octet_fields::octet(payload, 15),
+        size: octet_fields::octet(payload, 16),
+        lateral: octet_fields::octet(payload, 17),
+        longitudinal: octet_fields::octet(payload, 18),
+    }
+}
+
+pub fn in_range(static_data: Static) -> bool
+    ensures { λ r. ⌜ r ≡ staticInRange static_data ⌝ }
+{
+    (static_data.address < 16777216)
+        & is_text(static_data.callsign)
+        & (static_data.capability == 0)
+        & field_rules::is_emitter(static_data.emitter)
+        & field_rules::is_size_code(static_data.size)
+        & (static_data.lateral <= 7)
+        & (static_data.longitudinal <= 31)
+}
+
+fn is_text(text: Text) -> bool
+    ensures { λ r. ⌜ r ≡ isSpaced (textOctets text) ⌝ }
+{
+    let octets = [
+        text.c0,
+        text.c1,
+        text.c2,
+        text.c3,
+        text.c4,
+        text.c5,
+        text.c6,
+        text.c7,
+    ];
+    field_rules::is_spaced(&octets)
+}
+
+pub fn octets(static_data: Static) -> [u8; 19]
+    requires { ⌜ static_data .address < 16777216 ⌝ }
+    ensures { λ r. ⌜ r ≡ staticPayload static_data ⌝ }
+{
+    let address = super::numbers::little_24(static_data.address);
+    let stall = super::numbers::little_16(static_data.stall);
+    let text = static_data.callsign;
+    [
+        address.0,
+        address.1,
+        address.2,
+        static_data.integrity,
+        stall.0,
+        stall.1,
+        text.c0,
+        text.c1,
+        text.c2,
+        text.c3,
+        text.c4,
+        text.c5,
+        text.c6,
+        text.c7,
+        static_data.capability,
+        static_data.emitter,
+        static_data.size,
+        static_data.lateral,
+        static_data.longitudinal,
+    ]
+}

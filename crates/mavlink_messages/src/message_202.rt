@@ -1,0 +1,99 @@
+// Message 202, the dynamic data of an aircraft.
+use super::Dynamic;
+ghost use mathlib.Core.Path.{_≡_};
+ghost use lib.ListN.{length};
+ghost use Rattle.mavlink_messages.specs.Dynamic.{dynamicIn, dynamicPayload};
+ghost use Rattle.mavlink_messages.specs.Ranges.{dynamicInRange};
+
+pub fn read(payload: &[u8]) -> Dynamic
+    requires { ⌜ length (now payload) ≡ 42 ⌝ }
+    ensures { λ r. ⌜ r ≡ dynamicIn (now (payload .entry)) ⌝ }
+{
+    Dynamic {
+        utc: octet_fields::little_32(payload, 0),
+        latitude: octet_fields::signed_32(octet_fields::little_32(payload, 4)),
+        longitude: octet_fields::signed_32(octet_fields::little_32(payload, 8)),
+        pressure: octet_fields::signed_32(octet_fields::little_32(payload, 12)),
+        gnss: octet_fields::signed_32(octet_fields::little_32(payload, 16)),
+        horizontal: octet_fields::little_32(payload, 20),
+        vertical: octet_fields::little_16(payload, 24),
+        velocity: octet_fields::little_16(payload, 26),
+        climb: octet_fields::signed_16(octet_fields::little_16(payload, 28)),
+        north: octet_fields::signed_16(octet_fields::little_16(payload, 30)),
+        east: octet_fields::signed_16(octet_fields::little_16(payload, 32)),
+        state: octet_fields::little_16(payload, 34),
+        squawk: octet_fields::little_16(payload, 36),
+        fix: octet_fields::octet(payload, 38),
+        satellites: octet_fields::octet(payload, 39),
+        emergency: octet_fields::octet(payload, 40),
+        control: octet_fields::octet(payload, 41),
+    }
+}
+
+pub fn in_range(dynamic: Dynamic) -> bool
+    ensures { λ r. ⌜ r ≡ dynamicInRange dynamic ⌝ }
+{
+    field_rules::is_squawk(dynamic.squawk) & (dynamic.fix <= 5)
+}
+
+pub fn octets(dynamic: Dynamic) -> [u8; 42]
+    ensures { λ r. ⌜ r ≡ dynamicPayload dynamic ⌝ }
+{
+    let utc = super::numbers::little_32(dynamic.utc);
+    let latitude = super::numbers::signed_32(dynamic.latitude);
+    let longitude = super::numbers::signed_32(dynamic.longitude);
+    let pressure = super::numbers::signed_32(dynamic.pressure);
+    let gnss = super::numbers::signed_32(dynamic.gnss);
+    let horizontal = super::numbers::little_32(dynamic.horizontal);
+    let vertical = super::numbers::little_16(dynamic.vertical);
+    let velocity = super::numbers::little_16(dynamic.velocity);
+    let climb = super::numbers::signed_16(dynamic.climb);
+    let north = super::numbers::signed_16(dynamic.north);
+    let east = super::numbers::signed_16(dynamic.east);
+    let state = super::numbers::little_16(dynamic.state);
+    let squawk = super::numbers::little_16(dynamic.squawk);
+    [
+        utc.0,
+        utc.1,
+        utc.2,
+        utc.3,
+        latitude.0,
+        latitude.1,
+        latitude.2,
+        latitude.3,
+        longitude.0,
+        longitude.1,
+        longitude.2,
+        longitude.3,
+        pressure.0,
+        pressure.1,
+        pressure.2,
+        pressure.3,
+        gnss.0,
+        gnss.1,
+        gnss.2,
+        gnss.3,
+        horizontal.0,
+        horizontal.1,
+        horizontal.2,
+        horizontal.3,
+        vertical.0,
+        vertical.1,
+        velocity.0,
+        velocity.1,
+        climb.0,
+        climb.1,
+        north.0,
+        north.1,
+        east.0,
+        east.1,
+        state.0,
+        state.1,
+        squawk.0,
+        squawk.1,
+        dynamic.fix,
+        dynamic.satellites,
+        dynamic.emergency,
+        dynamic.control,
+    ]
+}

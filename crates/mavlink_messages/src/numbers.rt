@@ -1,0 +1,56 @@
+// A number's octets, least significant octet first.
+ghost use mathlib.Core.Path.{_≡_};
+ghost use mathlib.Core.List.{[], _∷_};
+ghost use Prim.Native.Nat.{_<_};
+ghost use Rattle.octet_fields.specs.Layout.{low, runOctets};
+ghost use Rattle.octet_fields.specs.Signed.{complement};
+ghost use Rattle.mavlink_messages.specs.Octets.{two, three, four};
+
+pub struct Two(pub u8, pub u8);
+
+pub struct Three(pub u8, pub u8, pub u8);
+
+pub struct Four(pub u8, pub u8, pub u8, pub u8);
+
+pub fn little_16(number: u16) -> Two
+    ensures { λ r. ⌜ two r ≡ runOctets (low 2) (number ∷ []) ⌝ }
+{
+    Two((number % 256) as u8, (number / 256) as u8)
+}
+
+pub fn little_24(number: u32) -> Three
+    requires { ⌜ number < 16777216 ⌝ }
+    ensures { λ r. ⌜ three r ≡ runOctets (low 3) (number ∷ []) ⌝ }
+{
+    let rest = number % 65536;
+    Three(
+        (rest % 256) as u8,
+        (rest / 256) as u8,
+        (number / 65536) as u8,
+    )
+}
+
+pub fn little_32(number: u32) -> Four
+    ensures { λ r. ⌜ four r ≡ runOctets (low 4) (number ∷ []) ⌝ }
+{
+    let rest = number % 16777216;
+    let last = rest % 65536;
+    Four(
+        (last % 256) as u8,
+        (last / 256) as u8,
+        (rest / 65536) as u8,
+        (number / 16777216) as u8,
+    )
+}
+
+pub fn signed_16(number: i16) -> Two
+    ensures { λ r. ⌜ two r ≡ runOctets (low 2) (complement 32768 number ∷ []) ⌝ }
+{
+    little_16(octet_fields::bits_16(number))
+}
+
+pub fn signed_32(number: i32) -> Four
+    ensures { λ r. ⌜ four r ≡ runOctets (low 4) (complement 2147483648 number ∷ []) ⌝ }
+{
+    little_32(octet_fields::bits_32(number))
+}
