@@ -1,12 +1,25 @@
 //! The declarations of `include/ostrogosz.h`.
 
-/// The frame writer's answer.
+use crate::Refusal;
+
+/// A writer's answer.
 #[repr(C)]
 pub struct Written {
-    /// 0: accepted; else 7 or 8.
+    /// 0: accepted; else the number of the refusal.
     pub refusal: u32,
-    /// Accepted: octets of the frame; refused: 0.
-    pub length: u32,
+    /// Accepted: octets written; refused: 0.
+    pub length: usize,
+}
+
+impl Written {
+    /// The same answer in types.
+    #[inline]
+    pub fn answer(self) -> Result<usize, Refusal> {
+        match self.refusal {
+            0 => Ok(self.length),
+            number => Err(Refusal::of_number(number)),
+        }
+    }
 }
 
 /// The receiver's answer to one octet.
