@@ -9,6 +9,7 @@
 #![deny(missing_docs)]
 
 mod boundary;
+pub mod messages;
 mod receiver;
 mod refusal;
 mod writer;
