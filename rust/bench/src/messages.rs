@@ -30,16 +30,17 @@ pub fn read(body: &[u8]) -> Result<Message<'_>, Refusal> {
 #[inline(never)]
 pub fn write(message: &Message<'_>, output: &mut [u8]) -> Result<usize, Refusal> {
     match message {
-        Message::Heartbeat(heartbeat) => put(heartbeat_body(heartbeat), output),
-        Message::Uplink(payload) => put_uplink(payload, output),
-        Message::Ownship(report) => put(report_body(10, report)?, output),
-        Message::GeometricAltitude(altitude) => put(geometric_altitude_body(altitude), output),
-        Message::Traffic(report) => put(report_body(20, report)?, output),
-        Message::Request(request) => put([44, 2, request.requested_id], output),
-        Message::Control(control) => put(control_body(control)?, output),
-        Message::Initialization(initialization) => {
-            put(initialization_body(initialization)?, output)
+        Message::Heartbeat(of) => put(heartbeat_body(of), output),
+        Message::Uplink(of) if of.len() == UPLINK_PAYLOAD => put_uplink(of, output),
+        Message::Ownship(of) if report_fits(of) => put(report_body(10, of), output),
+        Message::GeometricAltitude(of) => put(geometric_altitude_body(of), output),
+        Message::Traffic(of) if report_fits(of) => put(report_body(20, of), output),
+        Message::Request(of) => put([44, 2, of.requested_id], output),
+        Message::Control(of) if control_fits(of) => put(control_body(of), output),
+        Message::Initialization(of) if initialization_fits(of) => {
+            put(initialization_body(of), output)
         }
+        _ => Err(Refusal::Field),
     }
 }
 
@@ -90,7 +91,6 @@ fn heartbeat_body(heartbeat: &Heartbeat) -> [u8; 7] {
 }
 
 fn put_uplink(payload: &[u8], output: &mut [u8]) -> Result<usize, Refusal> {
-    ensure(payload.len() == UPLINK_PAYLOAD, Refusal::Field)?;
     let room = output.get_mut(..1 + UPLINK_PAYLOAD);
     let room = room.ok_or(Refusal::OutputLength)?;
     room[0] = 7;
@@ -123,8 +123,7 @@ fn report(octets: &[u8; 27]) -> Report {
 }
 
 #[inline]
-fn report_body(id: u8, report: &Report) -> Result<[u8; 28], Refusal> {
-    ensure(report_fits(report), Refusal::Field)?;
+fn report_body(id: u8, report: &Report) -> [u8; 28] {
     let [_, a0, a1, a2] = report.address.to_be_bytes();
     let [_, la0, la1, la2] = report.latitude.to_be_bytes();
     let [_, lo0, lo1, lo2] = report.longitude.to_be_bytes();
@@ -132,7 +131,7 @@ fn report_body(id: u8, report: &Report) -> Result<[u8; 28], Refusal> {
     let velocity = u32::from(report.speed) << 12 | (report.vertical_rate as u32 & 0xFFF);
     let [_, v0, v1, v2] = velocity.to_be_bytes();
     let [c0, c1, c2, c3, c4, c5, c6, c7] = report.callsign;
-    Ok([
+    [
         id,
         report.alert << 4 | report.address_type,
         a0,
@@ -161,7 +160,7 @@ fn report_body(id: u8, report: &Report) -> Result<[u8; 28], Refusal> {
         c6,
         c7,
         report.emergency << 4 | report.spare,
-    ])
+    ]
 }
 
 #[inline]
@@ -223,9 +222,12 @@ fn control(octets: &[u8; 17]) -> Result<Control, Refusal> {
 }
 
 #[inline]
-fn control_body(control: &Control) -> Result<[u8; 18], Refusal> {
-    let fits = control.air_ground < 4 && control.squawk <= 7777 && is_identity(&control.identity);
-    ensure(fits, Refusal::Field)?;
+fn control_fits(control: &Control) -> bool {
+    control.air_ground < 1 << 2 && control.squawk <= 7777 && is_identity(&control.identity)
+}
+
+#[inline]
+fn control_body(control: &Control) -> [u8; 18] {
     let flags = u8::from(control.es_enabled) << 7
         | u8::from(control.mode_s) << 6
         | u8::from(control.mode_c) << 5
@@ -237,9 +239,9 @@ fn control_body(control: &Control) -> Result<[u8; 18], Refusal> {
     let [s0, s1] = control.squawk.to_le_bytes();
     let [i0, i1, i2, i3, i4, i5, i6, i7] = control.identity;
     let emergency = control.emergency;
-    Ok([
+    [
         45, 1, flags, a0, a1, a2, a3, s0, s1, emergency, i0, i1, i2, i3, i4, i5, i6, i7,
-    ])
+    ]
 }
 
 fn initialization(octets: &[u8; 18]) -> Result<Initialization, Refusal> {
@@ -260,18 +262,20 @@ fn initialization(octets: &[u8; 18]) -> Result<Initialization, Refusal> {
     })
 }
 
-fn initialization_body(of: &Initialization) -> Result<[u8; 19], Refusal> {
-    let fits = of.address < 1 << 24
+fn initialization_fits(of: &Initialization) -> bool {
+    of.address < 1 << 24
         && of.emitter <= 19
         && is_callsign(&of.callsign)
         && of.size <= 15
         && of.lateral < 1 << 3
-        && of.longitudinal < 1 << 5;
-    ensure(fits, Refusal::Field)?;
+        && of.longitudinal < 1 << 5
+}
+
+fn initialization_body(of: &Initialization) -> [u8; 19] {
     let [a0, a1, a2, _] = of.address.to_le_bytes();
     let [c0, c1, c2, c3, c4, c5, c6, c7] = of.callsign;
     let antenna = of.lateral << 5 | of.longitudinal;
-    Ok([
+    [
         117,
         65,
         1,
@@ -291,7 +295,7 @@ fn initialization_body(of: &Initialization) -> Result<[u8; 19], Refusal> {
         of.stall_speed,
         of.size,
         antenna,
-    ])
+    ]
 }
 
 #[inline]

@@ -6,21 +6,29 @@ use second::messages::{
     Control, GeometricAltitude, Heartbeat, Initialization, Message, Report, Request, Uplink,
 };
 
+use crate::comparison::lending;
+
 /// What the proved reader makes of a body, in the second program's types.
 pub fn read(body: &[u8]) -> Result<Message, u8> {
-    let message = ours::read_message(body).map_err(|refusal| refusal.number())?;
-    Ok(second_message(&message))
+    lending(body, |body| {
+        let message = ours::read_message(body).map_err(|refusal| refusal.number())?;
+        Ok(second_message(&message))
+    })
 }
 
 /// What the proved writer makes of a message.
 pub fn write(message: &Message, output: &mut [u8]) -> Result<usize, u8> {
-    ours::write_message(&our_message(message), output).map_err(|refusal| refusal.number())
+    lending(message, |message| {
+        ours::write_message(&our_message(message), output).map_err(|refusal| refusal.number())
+    })
 }
 
 /// What the proved sender makes of a message, in a buffer of 878 octets.
 pub fn send(message: &Message, buffer: &mut [u8]) -> Result<usize, u8> {
     let buffer = buffer.try_into().expect("878 octets");
-    ours::send_message(&our_message(message), buffer).map_err(|refusal| refusal.number())
+    lending(message, |message| {
+        ours::send_message(&our_message(message), buffer).map_err(|refusal| refusal.number())
+    })
 }
 
 /// The same message in the second program's types.

@@ -1,5 +1,6 @@
 //! One comparison of readers or writers: both sides' rooms, and the counts.
 
+use std::borrow::Borrow;
 use std::fmt::Debug;
 
 use crate::generator::Generator;
@@ -86,8 +87,8 @@ impl Comparison {
     }
 
     /// Prints the counts, and fails where an input differed, where fewer than
-    /// `least` of a kind were tried, or where an answer that is due was never
-    /// met, for then nothing was shown of it.
+    /// `least` were tried in all or of one of `kinds`, or where an answer that
+    /// is due was never met, for then nothing was shown of it.
     pub fn close(&self, title: &str, kinds: &[&'static str], least: u64, due: &[&'static str]) {
         println!("{title}, by answer\n{}", self.answers);
         self.kinds.close(&format!("{title}, by kind"), least);
@@ -125,4 +126,15 @@ pub fn answer_name<T>(answer: &Result<T, u8>) -> &'static str {
         Err(25) => "refused with 25",
         Err(_) => "refused with another number",
     }
+}
+
+/// The answer of a call that is lent a copy, which it must leave as it was.
+pub fn lending<I, T>(input: &I, call: impl FnOnce(&I) -> T) -> T
+where
+    I: ?Sized + PartialEq + ToOwned,
+{
+    let lent = input.to_owned();
+    let answer = call(lent.borrow());
+    assert!(lent.borrow() == input, "the call changed what it was lent");
+    answer
 }
