@@ -1,22 +1,20 @@
-//! Links the archive that the prover writes.
+//! Links the archive of what is proved.
 
 use std::env;
 use std::path::{Path, PathBuf};
 use std::process::exit;
 
-/// Names another folder of archives than the repository's own.
+/// Names another folder of the archive than the repository's own.
 const FOLDER: &str = "OSTROGOSZ_STATICLIB";
 
-/// Each crate of the repository whose archive is linked.
-const ARCHIVES: [&str; 2] = ["ostrogosz", "ostrogosz_receiver"];
+/// The archive, without what the linker adds to its name.
+const ARCHIVE: &str = "ostrogosz";
 
 fn main() {
     let folder = archive_folder();
     println!("cargo:rerun-if-env-changed={FOLDER}");
     println!("cargo:rustc-link-search=native={}", folder.display());
-    for name in ARCHIVES {
-        link(&folder, name);
-    }
+    link(&folder);
 }
 
 fn archive_folder() -> PathBuf {
@@ -24,16 +22,16 @@ fn archive_folder() -> PathBuf {
     env::var_os(FOLDER).map_or_else(own, PathBuf::from)
 }
 
-/// Only a proved crate has an archive, so a missing one is said in the words
+/// Only what is proved is in an archive, so a missing one is said in the words
 /// of the command that proves it.
-fn link(folder: &Path, name: &str) {
-    let archive = folder.join(format!("lib{name}.a"));
+fn link(folder: &Path) {
+    let archive = folder.join(format!("lib{ARCHIVE}.a"));
     println!("cargo:rerun-if-changed={}", archive.display());
     if !archive.is_file() {
         eprintln!(
-            "lib{name}.a is missing: run `rt staticlib {name}` at the root of the repository"
+            "lib{ARCHIVE}.a is missing: run `scripts/archives` at the root of the repository"
         );
         exit(1);
     }
-    println!("cargo:rustc-link-lib=static={name}");
+    println!("cargo:rustc-link-lib=static={ARCHIVE}");
 }

@@ -3,21 +3,9 @@
 
 #include "expect.h"
 #include "ostrogosz.h"
-
-#define ROOM 440
-#define HELD 0xA5
+#include "output.h"
 
 static struct ostrogosz_receiver receiver;
-static uint8_t output[ROOM];
-
-/* The octets of output from this place on keep what they held. */
-static int kept_from(size_t place)
-{
-    while (place < sizeof output && output[place] == HELD) {
-        place++;
-    }
-    return place == sizeof output;
-}
 
 static int store_is_zero(const uint8_t *store)
 {
@@ -56,9 +44,9 @@ static int answers(const uint8_t *line, size_t length, size_t room,
     for (i = 0; i < length && answer.kind == 0; i++) {
         answer = ostrogosz_line_receive(&receiver, line[i], output, room);
     }
-    memset(output, HELD, sizeof output);
     ostrogosz_line_start(&receiver);
-    taken = ostrogosz_line_receive_slice(&receiver, line, length, output, room);
+    taken = ostrogosz_line_receive_slice(&receiver, line, length,
+                                         fresh_output(), room);
     return i == length && taken.taken == length && answer.kind == kind &&
            answer.value == value && taken.kind == kind && taken.value == value;
 }

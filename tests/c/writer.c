@@ -3,9 +3,7 @@
 
 #include "expect.h"
 #include "ostrogosz.h"
-
-#define ROOM 900
-#define HELD 0xA5
+#include "output.h"
 
 /* A body and its frame. */
 struct vector {
@@ -37,27 +35,10 @@ static const struct vector vectors[] = {
      0x7D7E},
 };
 
-static uint8_t output[ROOM];
-
 static struct ostrogosz_written write_frame(const uint8_t *body, size_t length,
                                             size_t room)
 {
-    memset(output, HELD, sizeof output);
-    return ostrogosz_write_frame(body, length, output, room);
-}
-
-/* The octets from this place on keep what they held. */
-static int kept_from(size_t place)
-{
-    while (place < sizeof output && output[place] == HELD) {
-        place++;
-    }
-    return place == sizeof output;
-}
-
-static int refused(struct ostrogosz_written written, uint32_t number)
-{
-    return written.refusal == number && written.length == 0 && kept_from(0);
+    return ostrogosz_write_frame(body, length, fresh_output(), room);
 }
 
 static void try_vector(const struct vector *v)
@@ -67,14 +48,10 @@ static void try_vector(const struct vector *v)
     EXPECT(ostrogosz_frame_check(v->body, v->body_length) == v->check);
 
     written = write_frame(v->body, v->body_length, OSTROGOSZ_LONGEST_FRAME);
-    EXPECT(written.refusal == 0);
-    EXPECT(written.length == v->frame_length);
-    EXPECT(memcmp(output, v->frame, v->frame_length) == 0);
-    EXPECT(kept_from(v->frame_length));
+    EXPECT(wrote(written, v->frame, v->frame_length));
 
     written = write_frame(v->body, v->body_length, v->frame_length);
-    EXPECT(written.refusal == 0 && written.length == v->frame_length);
-    EXPECT(kept_from(v->frame_length));
+    EXPECT(wrote(written, v->frame, v->frame_length));
 
     written = write_frame(v->body, v->body_length, v->frame_length - 1);
     EXPECT(refused(written, OSTROGOSZ_REFUSAL_OUTPUT_LENGTH));

@@ -6,6 +6,8 @@
 mod check;
 mod lister;
 mod lister_rows;
+mod messages;
+mod messages_rows;
 mod receiver;
 mod receiver_rows;
 mod timing;
@@ -20,6 +22,8 @@ fn main() -> std::io::Result<()> {
     writer_rows::print();
     println!();
     receiver_rows::print();
+    println!();
+    messages_rows::print();
     println!();
     lister_rows::print()
 }

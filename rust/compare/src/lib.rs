@@ -8,8 +8,13 @@
 #![deny(missing_docs)]
 
 pub mod bodies;
+pub mod both_sides;
+pub mod comparison;
+pub mod edges;
 pub mod generator;
 pub mod lines;
 pub mod lockstep;
+pub mod messages;
 pub mod rooms;
 pub mod tally;
+pub mod texts;

@@ -178,5 +178,5 @@ fn refusals_say_their_number() {
     let said = Refusal::BodyLength.to_string();
     assert_eq!(said, "refusal 7: a body has 1 to 436 octets");
     let said = Refusal::OutputLength.to_string();
-    assert_eq!(said, "refusal 8: the output is shorter than the frame");
+    assert_eq!(said, "refusal 8: the output is shorter than what it gets");
 }

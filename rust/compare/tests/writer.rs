@@ -1,8 +1,8 @@
 //! Check and frame writer against the second program.
 
 use compare::bodies::{longest_frame, Kind};
+use compare::comparison::{lending, Comparison};
 use compare::generator::Generator;
-use compare::rooms::Room;
 use compare::tally::Tally;
 use second::frame::frame;
 
@@ -15,64 +15,17 @@ const LARGEST_ROOM: usize = 880;
 /// Lengths at which an answer changes.
 const EDGE_LENGTHS: [usize; 6] = [0, 1, 2, 435, 436, 437];
 
-/// Both sides' rooms and the counts of one comparison.
-struct Comparison {
-    generator: Generator,
-    ours: Room,
-    theirs: Room,
-    bodies: Tally,
-    answers: Tally,
-}
+/// What the writer answers.
+const WRITTEN: [&str; 3] = ["accepted", "refused with 7", "refused with 8"];
 
-impl Comparison {
-    fn new(seed: u64) -> Self {
-        Self {
-            generator: Generator::new(seed),
-            ours: Room::new(LARGEST_ROOM),
-            theirs: Room::new(LARGEST_ROOM),
-            bodies: Tally::default(),
-            answers: Tally::default(),
-        }
-    }
-
-    /// Writes one body on both sides into rooms that hold the same pattern.
-    fn try_body(&mut self, kind: Kind, body: &[u8], room: usize) {
-        self.ours.prefill(&mut self.generator);
-        self.theirs.copy(&self.ours);
-        let lent = body.to_vec();
-        let ours = ostrogosz::write_frame(&lent, self.ours.lend(room));
-        let ours = ours.map_err(|refusal| refusal.number());
-        let theirs = second::frame::write_frame(body, self.theirs.lend(room));
-
-        let same = ours == theirs && self.ours == self.theirs && lent == body;
-        let difference =
-            (!same).then(|| format!("{ours:?}, {theirs:?}: room {room}, body {body:02X?}"));
-        self.bodies.count(kind.name(), difference.clone());
-        self.answers.count(answer_name(theirs), difference);
-    }
-
-    fn body(&mut self, kind: Kind, length: usize) -> Vec<u8> {
-        kind.body(length, &mut self.generator)
-    }
-
-    /// Fails too where an answer was never met, for then nothing was shown of
-    /// it.
-    fn close(&self, title: &str, least: u64) {
-        println!("{title}, by answer\n{}", self.answers);
-        self.bodies.close(&format!("{title}, by body"), least);
-        for answer in [Ok(0), Err(7), Err(8)] {
-            let name = answer_name(answer);
-            assert!(self.answers.tried(name) > 0, "{title}: never {name}");
-        }
-    }
-}
-
-fn answer_name(answer: Result<usize, u8>) -> &'static str {
-    match answer {
-        Ok(_) => "accepted",
-        Err(7) => "refused with 7",
-        Err(_) => "refused with 8",
-    }
+/// Writes one body on both sides.
+fn try_body(comparison: &mut Comparison, kind: Kind, body: &[u8], room: usize) {
+    let ours = |output: &mut [u8]| {
+        let written = lending(body, |body| ostrogosz::write_frame(body, output));
+        written.map_err(|refusal| refusal.number())
+    };
+    let theirs = |output: &mut [u8]| second::frame::write_frame(body, output);
+    comparison.write(kind.name(), room, ours, theirs, &body);
 }
 
 /// Rooms at which an answer changes for this body.
@@ -102,46 +55,48 @@ fn any_room(body: &[u8], generator: &mut Generator) -> usize {
 
 #[test]
 fn every_length_in_every_room() {
-    let mut comparison = Comparison::new(1);
+    let mut comparison = Comparison::new(1, LARGEST_ROOM);
     for length in 0..=LONGEST_BODY {
         for room in 0..=LARGEST_ROOM {
             let kind = Kind::ALL[(length + room) % Kind::ALL.len()];
-            let body = comparison.body(kind, length);
-            comparison.try_body(kind, &body, room);
+            let body = kind.body(length, &mut comparison.generator);
+            try_body(&mut comparison, kind, &body, room);
         }
     }
-    comparison.close("writer, every length in every room", 441 * 881);
+    let title = "writer, every length in every room";
+    comparison.close(title, &[], 441 * 881, &WRITTEN);
 }
 
 #[test]
 fn every_length_and_kind_at_the_edges() {
-    let mut comparison = Comparison::new(2);
+    let mut comparison = Comparison::new(2, LARGEST_ROOM);
     for length in 0..=LONGEST_BODY {
         for kind in Kind::ALL {
-            let body = comparison.body(kind, length);
+            let body = kind.body(length, &mut comparison.generator);
             for room in edge_rooms(&body) {
-                comparison.try_body(kind, &body, room);
+                try_body(&mut comparison, kind, &body, room);
             }
         }
     }
     for room in edge_rooms(&longest_frame()) {
-        comparison.try_body(Kind::EscapeHeavy, &longest_frame(), room);
+        try_body(&mut comparison, Kind::EscapeHeavy, &longest_frame(), room);
     }
-    comparison.close("writer, edges", 441 * 5 * 7);
+    comparison.close("writer, edges", &[], 441 * 5 * 7, &WRITTEN);
 }
 
 #[test]
 fn a_million_bodies() {
     const BODIES: u64 = 1_000_000;
-    let mut comparison = Comparison::new(3);
+    let mut comparison = Comparison::new(3, LARGEST_ROOM);
     for _ in 0..BODIES {
         let kind = comparison.generator.pick(&Kind::ALL);
         let length = any_length(&mut comparison.generator);
-        let body = comparison.body(kind, length);
+        let body = kind.body(length, &mut comparison.generator);
         let room = any_room(&body, &mut comparison.generator);
-        comparison.try_body(kind, &body, room);
+        try_body(&mut comparison, kind, &body, room);
     }
-    comparison.close("writer, bodies and rooms at random", BODIES);
+    let title = "writer, bodies and rooms at random";
+    comparison.close(title, &[], BODIES, &WRITTEN);
 }
 
 #[test]

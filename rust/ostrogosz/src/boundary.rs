@@ -1,12 +1,26 @@
 //! The declarations of `include/ostrogosz.h`.
 
-/// The frame writer's answer.
+use crate::messages::{Control, GeometricAltitude, Heartbeat, Initialization, Report, Request};
+use crate::{Refusal, LONGEST_FRAME};
+
+/// A writer's answer.
 #[repr(C)]
 pub struct Written {
-    /// 0: accepted; else 7 or 8.
+    /// 0: accepted; else the number of the refusal.
     pub refusal: u32,
-    /// Accepted: octets of the frame; refused: 0.
-    pub length: u32,
+    /// Accepted: octets written; refused: 0.
+    pub length: usize,
+}
+
+impl Written {
+    /// The same answer in types.
+    #[inline]
+    pub fn answer(self) -> Result<usize, Refusal> {
+        match self.refusal {
+            0 => Ok(self.length),
+            number => Err(Refusal::of_number(number)),
+        }
+    }
 }
 
 /// The receiver's answer to one octet.
@@ -25,6 +39,26 @@ pub struct ReceivedSlice {
     pub value: u32,
     pub taken: usize,
 }
+
+/// A message that was read. The fields of its kind are filled; all others, and
+/// all of them on a refusal, are 0.
+#[repr(C)]
+pub struct ReadMessage {
+    /// 0, or 10 to 13.
+    pub refusal: u32,
+    /// 0 on a refusal.
+    pub id: u32,
+    pub heartbeat: Heartbeat,
+    /// 10 and 20.
+    pub report: Report,
+    pub geometric_altitude: GeometricAltitude,
+    pub request: Request,
+    pub control: Control,
+    pub initialization: Initialization,
+}
+
+/// What a frame is sent in.
+type Buffer = [u8; LONGEST_FRAME];
 
 extern "C" {
     pub fn ostrogosz_frame_check(body: *const u8, body_length: usize) -> u16;
@@ -50,4 +84,67 @@ extern "C" {
         output: *mut u8,
         output_length: usize,
     ) -> ReceivedSlice;
+
+    pub fn ostrogosz_read_message(body: *const u8, body_length: usize) -> ReadMessage;
+
+    pub fn ostrogosz_write_heartbeat(
+        heartbeat: Heartbeat,
+        output: *mut u8,
+        output_length: usize,
+    ) -> Written;
+    pub fn ostrogosz_write_uplink(
+        payload: *const u8,
+        payload_length: usize,
+        output: *mut u8,
+        output_length: usize,
+    ) -> Written;
+    pub fn ostrogosz_write_ownship(
+        report: Report,
+        output: *mut u8,
+        output_length: usize,
+    ) -> Written;
+    pub fn ostrogosz_write_geometric_altitude(
+        altitude: GeometricAltitude,
+        output: *mut u8,
+        output_length: usize,
+    ) -> Written;
+    pub fn ostrogosz_write_traffic(
+        report: Report,
+        output: *mut u8,
+        output_length: usize,
+    ) -> Written;
+    pub fn ostrogosz_write_request(
+        request: Request,
+        output: *mut u8,
+        output_length: usize,
+    ) -> Written;
+    pub fn ostrogosz_write_control(
+        control: Control,
+        output: *mut u8,
+        output_length: usize,
+    ) -> Written;
+    pub fn ostrogosz_write_initialization(
+        initialization: Initialization,
+        output: *mut u8,
+        output_length: usize,
+    ) -> Written;
+
+    pub fn ostrogosz_send_heartbeat(heartbeat: Heartbeat, buffer: *mut Buffer) -> Written;
+    pub fn ostrogosz_send_uplink(
+        payload: *const u8,
+        payload_length: usize,
+        buffer: *mut Buffer,
+    ) -> Written;
+    pub fn ostrogosz_send_ownship(report: Report, buffer: *mut Buffer) -> Written;
+    pub fn ostrogosz_send_geometric_altitude(
+        altitude: GeometricAltitude,
+        buffer: *mut Buffer,
+    ) -> Written;
+    pub fn ostrogosz_send_traffic(report: Report, buffer: *mut Buffer) -> Written;
+    pub fn ostrogosz_send_request(request: Request, buffer: *mut Buffer) -> Written;
+    pub fn ostrogosz_send_control(control: Control, buffer: *mut Buffer) -> Written;
+    pub fn ostrogosz_send_initialization(
+        initialization: Initialization,
+        buffer: *mut Buffer,
+    ) -> Written;
 }

@@ -1,14 +1,15 @@
 //! Safe calls into the proved UCP/GDL90 line codec.
 //!
-//! The work is done by `libostrogosz.a` and `libostrogosz_receiver.a`, whose
-//! functions are proved to give these answers for every input; this crate only
-//! turns slices into pointers and numbers into types. It has no allocation and
-//! no `std`. The numbers of the refusals are those of the table in document 01.
+//! The work is done by `libostrogosz.a`, whose functions are proved to give
+//! these answers for every input; this crate only turns slices into pointers
+//! and numbers into types. It has no allocation and no `std`. The numbers of
+//! the refusals are those of the table in document 01.
 
 #![no_std]
 #![deny(missing_docs)]
 
 mod boundary;
+pub mod messages;
 mod receiver;
 mod refusal;
 mod writer;

@@ -22,8 +22,30 @@ pub enum Refusal {
     Room = 6,
     /// Frame writer: a body of 0 or more than 436 octets.
     BodyLength = 7,
-    /// Frame writer: the output is shorter than this very frame.
+    /// Writers: the output is shorter than this very frame or body.
     OutputLength = 8,
+    /// Message reader: unknown ID, or no octet.
+    UnknownId = 10,
+    /// Message reader: another length than the kind's.
+    MessageLength = 11,
+    /// Message reader: wrong version, signature or subtype.
+    Fixed = 12,
+    /// Message reader: a field outside its range. Message writers: that, or a
+    /// field too wide for its bits.
+    Field = 13,
+    /// MAVLink reader: too few octets.
+    MavlinkTooShort = 20,
+    /// MAVLink reader: the first octet is not FE.
+    MavlinkStart = 21,
+    /// MAVLink reader: unknown message ID.
+    MavlinkUnknownId = 22,
+    /// MAVLink reader: the length octet is not the kind's.
+    MavlinkLength = 23,
+    /// MAVLink reader: the check is wrong.
+    MavlinkCheck = 24,
+    /// MAVLink reader: a field outside its range. MAVLink writers: that, or a
+    /// field too wide for its bits.
+    MavlinkField = 25,
 }
 
 impl Refusal {
@@ -43,6 +65,16 @@ impl Refusal {
             6 => Self::Room,
             7 => Self::BodyLength,
             8 => Self::OutputLength,
+            10 => Self::UnknownId,
+            11 => Self::MessageLength,
+            12 => Self::Fixed,
+            13 => Self::Field,
+            20 => Self::MavlinkTooShort,
+            21 => Self::MavlinkStart,
+            22 => Self::MavlinkUnknownId,
+            23 => Self::MavlinkLength,
+            24 => Self::MavlinkCheck,
+            25 => Self::MavlinkField,
             _ => unreachable!("the contracts give no refusal {number}"),
         }
     }
@@ -56,7 +88,17 @@ impl Refusal {
             Self::WrongCheck => "the frame check sequence is wrong",
             Self::Room => "the output is shorter than the body",
             Self::BodyLength => "a body has 1 to 436 octets",
-            Self::OutputLength => "the output is shorter than the frame",
+            Self::OutputLength => "the output is shorter than what it gets",
+            Self::UnknownId => "no message has this ID",
+            Self::MessageLength => "the body's length is not the kind's",
+            Self::Fixed => "wrong version, signature or subtype",
+            Self::Field => "a field is outside its range or its bits",
+            Self::MavlinkTooShort => "too few octets for a MAVLink frame",
+            Self::MavlinkStart => "a MAVLink frame starts with FE",
+            Self::MavlinkUnknownId => "no MAVLink message has this ID",
+            Self::MavlinkLength => "the MAVLink length octet is not the kind's",
+            Self::MavlinkCheck => "the MAVLink check is wrong",
+            Self::MavlinkField => "a MAVLink field is outside its range or its bits",
         }
     }
 }

@@ -29,8 +29,5 @@ pub fn write_frame(body: &[u8], output: &mut [u8]) -> Result<usize, Refusal> {
     let written = unsafe {
         ostrogosz_write_frame(body.as_ptr(), body.len(), output.as_mut_ptr(), output.len())
     };
-    match written.refusal {
-        0 => Ok(written.length as usize),
-        number => Err(Refusal::of_number(number)),
-    }
+    written.answer()
 }

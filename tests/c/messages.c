@@ -1,0 +1,474 @@
+/* The messages of the UCP line, called as a driver calls them. */
+#include <string.h>
+
+#include "expect.h"
+#include "ostrogosz.h"
+#include "output.h"
+
+#define PAYLOAD 435
+
+/* A value of every kind, in which all fields differ from their neighbours. */
+static const struct ostrogosz_message sample = {
+    0,
+    0,
+    {0x11, 0x22, 0x4433, 0x5566},
+    {1,
+     2,
+     0x030405,
+     0x060708,
+     -2,
+     0x9AB,
+     0xC,
+     0xD,
+     0xE,
+     0x123,
+     -3,
+     0x45,
+     0x67,
+     {'c', 'A', 0x00, 'L', 0xFF, 'S', ' ', 'G'},
+     8,
+     9},
+    {-5, 0x1234},
+    {0x2B},
+    {true,
+     false,
+     true,
+     false,
+     true,
+     2,
+     true,
+     0x01020304,
+     7654,
+     9,
+     {'A', 'B', '1', '2', 'Z', ' ', ' ', ' '}},
+    {7,
+     0x010203,
+     19,
+     {'N', '8', ' ', '5', 'V', ' ', ' ', '1'},
+     0x33,
+     15,
+     5,
+     17},
+};
+
+/* The body of that value in each kind but the uplink. */
+static const struct kind {
+    uint32_t id;
+    size_t length;
+    uint8_t body[28];
+} kinds[] = {
+    {0, 7, {0x00, 0x11, 0x22, 0x33, 0x44, 0x55, 0x66}},
+    {10, 28, {0x0A, 0x12, 0x03, 0x04, 0x05, 0x06, 0x07, 0x08, 0xFF, 0xFF,
+              0xFE, 0x9A, 0xBC, 0xDE, 0x12, 0x3F, 0xFD, 0x45, 0x67, 'c',
+              'A',  0x00, 'L',  0xFF, 'S',  ' ',  'G',  0x89}},
+    {11, 5, {0x0B, 0xFF, 0xFB, 0x12, 0x34}},
+    {20, 28, {0x14, 0x12, 0x03, 0x04, 0x05, 0x06, 0x07, 0x08, 0xFF, 0xFF,
+              0xFE, 0x9A, 0xBC, 0xDE, 0x12, 0x3F, 0xFD, 0x45, 0x67, 'c',
+              'A',  0x00, 'L',  0xFF, 'S',  ' ',  'G',  0x89}},
+    {44, 3, {0x2C, 0x02, 0x2B}},
+    {45, 18, {0x2D, 0x01, 0xAD, 0x04, 0x03, 0x02, 0x01, 0xE6, 0x1D, 0x09,
+              'A',  'B',  '1',  '2',  'Z',  ' ',  ' ',  ' '}},
+    {117, 19, {0x75, 0x41, 0x01, 0x07, 0x03, 0x02, 0x01, 0x13, 'N', '8',
+               ' ',  '5',  'V',  ' ',  ' ',  '1',  0x33, 0x0F, 0xB1}},
+};
+
+#define KINDS (sizeof kinds / sizeof kinds[0])
+
+/* An uplink's body, and one octet more. */
+static uint8_t uplink[1 + PAYLOAD + 1];
+
+static void fill_uplink(void)
+{
+    size_t i;
+
+    for (i = 0; i < sizeof uplink; i++) {
+        uplink[i] = (uint8_t)(7 * (i + 1) + i / 256);
+    }
+}
+
+/* Writes the part of m that a kind has. */
+static struct ostrogosz_written write_body(uint32_t id,
+                                           const struct ostrogosz_message *m,
+                                           size_t room)
+{
+    uint8_t *to = fresh_output();
+
+    switch (id) {
+    case OSTROGOSZ_ID_HEARTBEAT:
+        return ostrogosz_write_heartbeat(m->heartbeat, to, room);
+    case OSTROGOSZ_ID_UPLINK:
+        return ostrogosz_write_uplink(uplink + 1, PAYLOAD, to, room);
+    case OSTROGOSZ_ID_OWNSHIP:
+        return ostrogosz_write_ownship(m->report, to, room);
+    case OSTROGOSZ_ID_GEOMETRIC_ALTITUDE:
+        return ostrogosz_write_geometric_altitude(m->geometric_altitude, to,
+                                                  room);
+    case OSTROGOSZ_ID_TRAFFIC:
+        return ostrogosz_write_traffic(m->report, to, room);
+    case OSTROGOSZ_ID_REQUEST:
+        return ostrogosz_write_request(m->request, to, room);
+    case OSTROGOSZ_ID_CONTROL:
+        return ostrogosz_write_control(m->control, to, room);
+    default:
+        return ostrogosz_write_initialization(m->initialization, to, room);
+    }
+}
+
+/* Sends the part of m that a kind has. */
+static struct ostrogosz_written send_frame(uint32_t id,
+                                           const struct ostrogosz_message *m)
+{
+    uint8_t *to = fresh_output();
+
+    switch (id) {
+    case OSTROGOSZ_ID_HEARTBEAT:
+        return ostrogosz_send_heartbeat(m->heartbeat, to);
+    case OSTROGOSZ_ID_UPLINK:
+        return ostrogosz_send_uplink(uplink + 1, PAYLOAD, to);
+    case OSTROGOSZ_ID_OWNSHIP:
+        return ostrogosz_send_ownship(m->report, to);
+    case OSTROGOSZ_ID_GEOMETRIC_ALTITUDE:
+        return ostrogosz_send_geometric_altitude(m->geometric_altitude, to);
+    case OSTROGOSZ_ID_TRAFFIC:
+        return ostrogosz_send_traffic(m->report, to);
+    case OSTROGOSZ_ID_REQUEST:
+        return ostrogosz_send_request(m->request, to);
+    case OSTROGOSZ_ID_CONTROL:
+        return ostrogosz_send_control(m->control, to);
+    default:
+        return ostrogosz_send_initialization(m->initialization, to);
+    }
+}
+
+/* Padding differs, so structs are compared field by field. */
+
+static int same_heartbeat(const struct ostrogosz_heartbeat *a,
+                          const struct ostrogosz_heartbeat *b)
+{
+    return a->status_1 == b->status_1 && a->status_2 == b->status_2 &&
+           a->time_stamp == b->time_stamp && a->counts == b->counts;
+}
+
+static int same_report(const struct ostrogosz_report *a,
+                       const struct ostrogosz_report *b)
+{
+    return a->alert == b->alert && a->address_type == b->address_type &&
+           a->address == b->address && a->latitude == b->latitude &&
+           a->longitude == b->longitude && a->altitude == b->altitude &&
+           a->miscellaneous == b->miscellaneous && a->nic == b->nic &&
+           a->nacp == b->nacp && a->speed == b->speed &&
+           a->vertical_rate == b->vertical_rate && a->track == b->track &&
+           a->emitter == b->emitter &&
+           memcmp(a->callsign, b->callsign, sizeof a->callsign) == 0 &&
+           a->emergency == b->emergency && a->spare == b->spare;
+}
+
+static int same_altitude(const struct ostrogosz_geometric_altitude *a,
+                         const struct ostrogosz_geometric_altitude *b)
+{
+    return a->altitude == b->altitude && a->metrics == b->metrics;
+}
+
+static int same_control(const struct ostrogosz_control *a,
+                        const struct ostrogosz_control *b)
+{
+    return a->es_enabled == b->es_enabled && a->mode_s == b->mode_s &&
+           a->mode_c == b->mode_c && a->mode_a == b->mode_a &&
+           a->ident == b->ident && a->air_ground == b->air_ground &&
+           a->baro_checked == b->baro_checked && a->altitude == b->altitude &&
+           a->squawk == b->squawk && a->emergency == b->emergency &&
+           memcmp(a->identity, b->identity, sizeof a->identity) == 0;
+}
+
+static int same_initialization(const struct ostrogosz_initialization *a,
+                               const struct ostrogosz_initialization *b)
+{
+    return a->version == b->version && a->address == b->address &&
+           a->emitter == b->emitter &&
+           memcmp(a->callsign, b->callsign, sizeof a->callsign) == 0 &&
+           a->stall_speed == b->stall_speed && a->size == b->size &&
+           a->lateral == b->lateral && a->longitudinal == b->longitudinal;
+}
+
+static int same_fields(const struct ostrogosz_message *a,
+                       const struct ostrogosz_message *b)
+{
+    return same_heartbeat(&a->heartbeat, &b->heartbeat) &&
+           same_report(&a->report, &b->report) &&
+           same_altitude(&a->geometric_altitude, &b->geometric_altitude) &&
+           a->request.requested_id == b->request.requested_id &&
+           same_control(&a->control, &b->control) &&
+           same_initialization(&a->initialization, &b->initialization);
+}
+
+/* The fields of m that a kind has; all others are 0. */
+static struct ostrogosz_message part(uint32_t id,
+                                     const struct ostrogosz_message *m)
+{
+    struct ostrogosz_message p;
+
+    memset(&p, 0, sizeof p);
+    switch (id) {
+    case OSTROGOSZ_ID_HEARTBEAT:
+        p.heartbeat = m->heartbeat;
+        break;
+    case OSTROGOSZ_ID_OWNSHIP:
+    case OSTROGOSZ_ID_TRAFFIC:
+        p.report = m->report;
+        break;
+    case OSTROGOSZ_ID_GEOMETRIC_ALTITUDE:
+        p.geometric_altitude = m->geometric_altitude;
+        break;
+    case OSTROGOSZ_ID_REQUEST:
+        p.request = m->request;
+        break;
+    case OSTROGOSZ_ID_CONTROL:
+        p.control = m->control;
+        break;
+    case OSTROGOSZ_ID_INITIALIZATION:
+        p.initialization = m->initialization;
+        break;
+    default:
+        break;
+    }
+    return p;
+}
+
+/* The body reads as the part of m that its kind has. */
+static int reads(const uint8_t *body, size_t length,
+                 const struct ostrogosz_message *m)
+{
+    struct ostrogosz_message read = ostrogosz_read_message(body, length);
+    struct ostrogosz_message due = part(body[0], m);
+
+    return read.refusal == 0 && read.id == body[0] && same_fields(&read, &due);
+}
+
+static int read_refused(const uint8_t *body, size_t length, uint32_t number)
+{
+    struct ostrogosz_message read = ostrogosz_read_message(body, length);
+    struct ostrogosz_message zero;
+
+    memset(&zero, 0, sizeof zero);
+    return read.refusal == number && read.id == 0 && same_fields(&read, &zero);
+}
+
+/* What is sent is the frame of the body. */
+static int sends(uint32_t id, const struct ostrogosz_message *m,
+                 const uint8_t *body, size_t length)
+{
+    uint8_t frame[OSTROGOSZ_LONGEST_FRAME];
+    struct ostrogosz_written due;
+
+    due = ostrogosz_write_frame(body, length, frame, sizeof frame);
+    return due.refusal == 0 && wrote(send_frame(id, m), frame, due.length);
+}
+
+/* Each way, and in room that is generous, exact, one short and none. */
+static void try_body(uint32_t id, const uint8_t *body, size_t length)
+{
+    EXPECT(reads(body, length, &sample));
+    EXPECT(wrote(write_body(id, &sample, ROOM), body, length));
+    EXPECT(wrote(write_body(id, &sample, length), body, length));
+    EXPECT(refused(write_body(id, &sample, length - 1), 8));
+    EXPECT(refused(write_body(id, &sample, 0), 8));
+    EXPECT(sends(id, &sample, body, length));
+}
+
+static void try_bodies(void)
+{
+    size_t i;
+
+    for (i = 0; i < KINDS; i++) {
+        try_body(kinds[i].id, kinds[i].body, kinds[i].length);
+    }
+    fill_uplink();
+    EXPECT(uplink[0] == OSTROGOSZ_ID_UPLINK);
+    try_body(OSTROGOSZ_ID_UPLINK, uplink, 1 + PAYLOAD);
+}
+
+/* Every octet of flags of a Control, each way. */
+static void try_flags(void)
+{
+    uint8_t body[18];
+    struct ostrogosz_message m = sample;
+    unsigned flags;
+    int held = 1;
+
+    memcpy(body, kinds[5].body, sizeof body);
+    for (flags = 0; flags < 256; flags++) {
+        body[2] = (uint8_t)flags;
+        m.control.es_enabled = (flags & 0x80) != 0;
+        m.control.mode_s = (flags & 0x40) != 0;
+        m.control.mode_c = (flags & 0x20) != 0;
+        m.control.mode_a = (flags & 0x10) != 0;
+        m.control.ident = (flags & 0x08) != 0;
+        m.control.air_ground = (uint8_t)(flags >> 1 & 3);
+        m.control.baro_checked = (flags & 0x01) != 0;
+        held = held && reads(body, sizeof body, &m);
+        held = held && wrote(write_body(45, &m, 18), body, sizeof body);
+    }
+    EXPECT(held);
+}
+
+/* 13, whatever the room: it is tested before 8. */
+static int field_refused(uint32_t id, const struct ostrogosz_message *m)
+{
+    return refused(write_body(id, m, ROOM), 13) &&
+           refused(write_body(id, m, 0), 13) && refused(send_frame(id, m), 13);
+}
+
+/* A field of a report, Ownship and Traffic: first a value that still fits. */
+#define TRY_REPORT(field, fits, wide)                                        \
+    do {                                                                     \
+        struct ostrogosz_message m = sample;                                 \
+        m.report.field = fits;                                               \
+        EXPECT(write_body(10, &m, 28).refusal == 0);                         \
+        EXPECT(write_body(20, &m, 28).refusal == 0);                         \
+        m.report.field = wide;                                               \
+        EXPECT(field_refused(10, &m) && field_refused(20, &m));              \
+    } while (0)
+
+static void try_report_fields(void)
+{
+    TRY_REPORT(alert, 15, 16);
+    TRY_REPORT(address_type, 15, 16);
+    TRY_REPORT(address, 0xFFFFFF, 0x1000000);
+    TRY_REPORT(latitude, 0x7FFFFF, 0x800000);
+    TRY_REPORT(latitude, -0x800000, -0x800001);
+    TRY_REPORT(longitude, 0x7FFFFF, 0x800000);
+    TRY_REPORT(longitude, -0x800000, -0x800001);
+    TRY_REPORT(altitude, 0xFFF, 0x1000);
+    TRY_REPORT(miscellaneous, 15, 16);
+    TRY_REPORT(nic, 15, 16);
+    TRY_REPORT(nacp, 15, 16);
+    TRY_REPORT(speed, 0xFFF, 0x1000);
+    TRY_REPORT(vertical_rate, 2047, 2048);
+    TRY_REPORT(vertical_rate, -2048, -2049);
+    TRY_REPORT(emergency, 15, 16);
+    TRY_REPORT(spare, 15, 16);
+}
+
+/* A field of another kind: first a value that still fits. */
+#define TRY_FIELD(id, field, fits, wide)                                     \
+    do {                                                                     \
+        struct ostrogosz_message m = sample;                                 \
+        m.field = fits;                                                      \
+        EXPECT(write_body(id, &m, ROOM).refusal == 0);                       \
+        m.field = wide;                                                      \
+        EXPECT(field_refused(id, &m));                                       \
+    } while (0)
+
+static void try_other_fields(void)
+{
+    TRY_FIELD(45, control.air_ground, 3, 4);
+    TRY_FIELD(45, control.squawk, 7777, 7778);
+    TRY_FIELD(45, control.identity[4], ' ', '_');
+    /* A space inside, before the Z. */
+    TRY_FIELD(45, control.identity[3], 'A', ' ');
+    TRY_FIELD(117, initialization.address, 0xFFFFFF, 0x1000000);
+    TRY_FIELD(117, initialization.emitter, 0, 20);
+    TRY_FIELD(117, initialization.callsign[7], ' ', 0);
+    TRY_FIELD(117, initialization.size, 0, 16);
+    TRY_FIELD(117, initialization.lateral, 7, 8);
+    TRY_FIELD(117, initialization.longitudinal, 31, 32);
+}
+
+/* A payload has 435 octets, no more and no fewer. */
+static void try_payloads(void)
+{
+    static const size_t lengths[] = {0, 1, PAYLOAD - 1, PAYLOAD + 1};
+    struct ostrogosz_written written;
+    size_t i;
+
+    for (i = 0; i < sizeof lengths / sizeof lengths[0]; i++) {
+        written = ostrogosz_write_uplink(uplink, lengths[i], fresh_output(), 0);
+        EXPECT(refused(written, 13));
+        written = ostrogosz_write_uplink(uplink, lengths[i], output, ROOM);
+        EXPECT(refused(written, 13));
+        written = ostrogosz_send_uplink(uplink, lengths[i], output);
+        EXPECT(refused(written, 13));
+    }
+}
+
+/* A body with one octet changed. */
+static int changed_refused(size_t kind, size_t place, uint8_t octet,
+                           uint32_t number)
+{
+    uint8_t body[28];
+
+    memcpy(body, kinds[kind].body, sizeof body);
+    body[place] = octet;
+    return read_refused(body, kinds[kind].length, number);
+}
+
+static void try_read_refusals(void)
+{
+    size_t i;
+
+    for (i = 0; i < KINDS; i++) {
+        EXPECT(changed_refused(i, 0, 1, OSTROGOSZ_REFUSAL_UNKNOWN_ID));
+        EXPECT(read_refused(kinds[i].body, kinds[i].length - 1, 11));
+        EXPECT(read_refused(kinds[i].body, 1, 11));
+    }
+    EXPECT(read_refused(kinds[0].body, kinds[0].length + 1, 11));
+    EXPECT(read_refused(uplink, PAYLOAD, OSTROGOSZ_REFUSAL_MESSAGE_LENGTH));
+    EXPECT(read_refused(uplink, sizeof uplink, 11));
+    EXPECT(changed_refused(4, 1, 1, OSTROGOSZ_REFUSAL_FIXED)); /* 44: version */
+    EXPECT(changed_refused(5, 1, 2, 12));                      /* 45: version */
+    EXPECT(changed_refused(6, 1, 64, 12)); /* 117: signature */
+    EXPECT(changed_refused(6, 2, 2, 12));  /* 117: subtype */
+    EXPECT(changed_refused(5, 8, 0x1F, OSTROGOSZ_REFUSAL_FIELD)); /* squawk */
+    EXPECT(changed_refused(5, 13, ' ', 13)); /* identity: space inside */
+    EXPECT(changed_refused(5, 17, 'a', 13)); /* identity: letter */
+    EXPECT(changed_refused(6, 7, 20, 13));   /* emitter */
+    EXPECT(changed_refused(6, 8, 'n', 13));  /* callsign */
+    EXPECT(changed_refused(6, 17, 16, 13));  /* size */
+}
+
+/* Where a length is 0 the pointer is never followed. */
+static void try_no_pointer(void)
+{
+    struct ostrogosz_written written;
+
+    EXPECT(read_refused(NULL, 0, OSTROGOSZ_REFUSAL_UNKNOWN_ID));
+    written = ostrogosz_write_request(sample.request, NULL, 0);
+    EXPECT(written.refusal == 8 && written.length == 0);
+    written = ostrogosz_write_uplink(uplink, PAYLOAD, NULL, 0);
+    EXPECT(written.refusal == 8 && written.length == 0);
+    EXPECT(refused(ostrogosz_write_uplink(NULL, 0, fresh_output(), ROOM), 13));
+    EXPECT(refused(ostrogosz_send_uplink(NULL, 0, fresh_output()), 13));
+}
+
+/* The structs as this compiler lays them out, on which a binding of another
+ * language may rely. */
+static void try_layout(void)
+{
+    EXPECT(sizeof(struct ostrogosz_written) == 16);
+    EXPECT(offsetof(struct ostrogosz_written, length) == 8);
+    EXPECT(sizeof(struct ostrogosz_heartbeat) == 6);
+    EXPECT(sizeof(struct ostrogosz_report) == 40);
+    EXPECT(offsetof(struct ostrogosz_report, callsign) == 28);
+    EXPECT(sizeof(struct ostrogosz_geometric_altitude) == 4);
+    EXPECT(sizeof(struct ostrogosz_request) == 1);
+    EXPECT(sizeof(struct ostrogosz_control) == 24);
+    EXPECT(offsetof(struct ostrogosz_control, identity) == 15);
+    EXPECT(sizeof(struct ostrogosz_initialization) == 24);
+    EXPECT(offsetof(struct ostrogosz_initialization, longitudinal) == 20);
+    EXPECT(sizeof(struct ostrogosz_message) == 112);
+    EXPECT(offsetof(struct ostrogosz_message, report) == 16);
+    EXPECT(offsetof(struct ostrogosz_message, control) == 64);
+}
+
+int main(void)
+{
+    try_bodies();
+    try_flags();
+    try_report_fields();
+    try_other_fields();
+    try_payloads();
+    try_read_refusals();
+    try_no_pointer();
+    try_layout();
+    return finish();
+}
