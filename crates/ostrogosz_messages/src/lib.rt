@@ -4,6 +4,7 @@ use ucp_messages::Control;
 use ucp_messages::GeometricAltitude;
 use ucp_messages::Heartbeat;
 use ucp_messages::Initialization;
+use ucp_messages::Kind;
 use ucp_messages::Message;
 use ucp_messages::Read;
 use ucp_messages::Report;
@@ -11,7 +12,7 @@ use ucp_messages::Request;
 use writer_answers::OstrogoszWritten;
 ghost use mathlib.Core.Path.{_≡_};
 ghost use mathlib.Core.List.{[]};
-ghost use Rattle.ucp_messages.specs.Reads.{answerDue};
+ghost use Rattle.ucp_messages.specs.Reads.{answerOf, answerAs, answerDue};
 ghost use Rattle.ostrogosz_messages.specs.Writers.{WritesBody, SendsFrame};
 ghost use Rattle.ostrogosz_messages.specs.Messages.{noText, noHeartbeat, noReport, noGeometric, noRequest, noControl, noInitialization, blank, meant, messageNumbers};
 
@@ -193,24 +194,92 @@ fn of_message(message: Message) -> OstrogoszMessage
     }
 }
 
-// What a body means.
-#[no_mangle]
-pub extern "C" fn ostrogosz_read_message(body: &[u8]) -> OstrogoszMessage
-    ensures { λ r. ⌜ r ≡ messageNumbers (answerDue (now (body .entry))) ⌝ }
+// A reader's answer, of any kind.
+fn of_read(read: Read) -> OstrogoszMessage
+    ensures { λ r. ⌜ r ≡ messageNumbers (answerOf read) ⌝ }
 {
-    match ucp_messages::read_message(body) {
+    match read {
         Read::Message(message) => of_message(message),
         Read::Refused(number) => blank(number, 0),
     }
 }
 
-// ---- writing a body: 13 for a field outside its range or too wide for its bits, then 8 for room
-
-fn write(message: Message, payload: &[u8], output: &mut [u8]) -> OstrogoszWritten
-    ensures { λ r. ⌜ WritesBody message (now (payload .entry)) (now (output .entry)) r (now (output .exit)) ⌝ }
+// The two that come most often have the fields put in place with no copy of a message between: 10 or 20, and 45.
+fn report(id: u8, body: &[u8]) -> OstrogoszMessage
+    ensures { λ r. ⌜ (id ≡ 10 → r ≡ messageNumbers (answerAs Kind.Ownship (now (body .entry)))) ⌝ }
+    ensures { λ r. ⌜ ((id ≡ 10 → ⊥) → r ≡ messageNumbers (answerAs Kind.Traffic (now (body .entry)))) ⌝ }
 {
-    writer_answers::in_numbers(ucp_messages::write_message(message, payload, output))
+    match ucp_messages::message_10::read(id, body) {
+        Read::Message(message) => of_report(message),
+        Read::Refused(number) => blank(number, 0),
+    }
 }
+
+fn of_report(message: Message) -> OstrogoszMessage
+    ensures { λ r. ⌜ r ≡ meant message ⌝ }
+{
+    let mut m = blank(0, 0);
+    match message {
+        Message::Ownship(report) => {
+            m.id = 10;
+            m.report = report;
+            m
+        }
+        Message::Traffic(report) => {
+            m.id = 20;
+            m.report = report;
+            m
+        }
+        _ => of_message(message),
+    }
+}
+
+fn control(body: &[u8]) -> OstrogoszMessage
+    ensures { λ r. ⌜ r ≡ messageNumbers (answerAs Kind.Control (now (body .entry))) ⌝ }
+{
+    match ucp_messages::message_45::read(body) {
+        Read::Message(message) => of_control(message),
+        Read::Refused(number) => blank(number, 0),
+    }
+}
+
+fn of_control(message: Message) -> OstrogoszMessage
+    ensures { λ r. ⌜ r ≡ meant message ⌝ }
+{
+    let mut m = blank(0, 0);
+    match message {
+        Message::Control(control) => {
+            m.id = 45;
+            m.control = control;
+            m
+        }
+        _ => of_message(message),
+    }
+}
+
+// What a body means.
+#[no_mangle]
+pub extern "C" fn ostrogosz_read_message(body: &[u8]) -> OstrogoszMessage
+    ensures { λ r. ⌜ r ≡ messageNumbers (answerDue (now (body .entry))) ⌝ }
+{
+    if body.len() == 0 {
+        return blank(10, 0);
+    }
+    match ucp_messages::kind_of(body[0]) {
+        Kind::Heartbeat => of_read(ucp_messages::message_0::read(body)),
+        Kind::Uplink => of_read(ucp_messages::message_7::read(body)),
+        Kind::Ownship => report(10, body),
+        Kind::GeometricAltitude => of_read(ucp_messages::message_11::read(body)),
+        Kind::Traffic => report(20, body),
+        Kind::Request => of_read(ucp_messages::message_44::read(body)),
+        Kind::Control => control(body),
+        Kind::Initialization => of_read(ucp_messages::message_117::read(body)),
+        Kind::Unknown => blank(10, 0),
+    }
+}
+
+// ---- writing a body: 13 for a field outside its range or too wide for its bits, then 8 for room. Each calls its kind's writer:
+// a message as an enum would be copied on the way.
 
 #[no_mangle]
 pub extern "C" fn ostrogosz_write_heartbeat(
@@ -219,7 +288,7 @@ pub extern "C" fn ostrogosz_write_heartbeat(
 ) -> OstrogoszWritten
     ensures { λ r. ⌜ WritesBody (Message.Heartbeat heartbeat) [] (now (output .entry)) r (now (output .exit)) ⌝ }
 {
-    write(Message::Heartbeat(heartbeat), &[], output)
+    writer_answers::in_numbers(ucp_messages::message_0::write(heartbeat, output))
 }
 
 // An uplink's payload has 435 octets, else 13.
@@ -227,14 +296,14 @@ pub extern "C" fn ostrogosz_write_heartbeat(
 pub extern "C" fn ostrogosz_write_uplink(payload: &[u8], output: &mut [u8]) -> OstrogoszWritten
     ensures { λ r. ⌜ WritesBody Message.Uplink (now (payload .entry)) (now (output .entry)) r (now (output .exit)) ⌝ }
 {
-    write(Message::Uplink, payload, output)
+    writer_answers::in_numbers(ucp_messages::message_7::write(payload, output))
 }
 
 #[no_mangle]
 pub extern "C" fn ostrogosz_write_ownship(report: Report, output: &mut [u8]) -> OstrogoszWritten
     ensures { λ r. ⌜ WritesBody (Message.Ownship report) [] (now (output .entry)) r (now (output .exit)) ⌝ }
 {
-    write(Message::Ownship(report), &[], output)
+    writer_answers::in_numbers(ucp_messages::message_10::write(10, report, output))
 }
 
 #[no_mangle]
@@ -244,28 +313,28 @@ pub extern "C" fn ostrogosz_write_geometric_altitude(
 ) -> OstrogoszWritten
     ensures { λ r. ⌜ WritesBody (Message.GeometricAltitude altitude) [] (now (output .entry)) r (now (output .exit)) ⌝ }
 {
-    write(Message::GeometricAltitude(altitude), &[], output)
+    writer_answers::in_numbers(ucp_messages::message_11::write(altitude, output))
 }
 
 #[no_mangle]
 pub extern "C" fn ostrogosz_write_traffic(report: Report, output: &mut [u8]) -> OstrogoszWritten
     ensures { λ r. ⌜ WritesBody (Message.Traffic report) [] (now (output .entry)) r (now (output .exit)) ⌝ }
 {
-    write(Message::Traffic(report), &[], output)
+    writer_answers::in_numbers(ucp_messages::message_10::write(20, report, output))
 }
 
 #[no_mangle]
 pub extern "C" fn ostrogosz_write_request(request: Request, output: &mut [u8]) -> OstrogoszWritten
     ensures { λ r. ⌜ WritesBody (Message.Request request) [] (now (output .entry)) r (now (output .exit)) ⌝ }
 {
-    write(Message::Request(request), &[], output)
+    writer_answers::in_numbers(ucp_messages::message_44::write(request, output))
 }
 
 #[no_mangle]
 pub extern "C" fn ostrogosz_write_control(control: Control, output: &mut [u8]) -> OstrogoszWritten
     ensures { λ r. ⌜ WritesBody (Message.Control control) [] (now (output .entry)) r (now (output .exit)) ⌝ }
 {
-    write(Message::Control(control), &[], output)
+    writer_answers::in_numbers(ucp_messages::message_45::write(control, output))
 }
 
 #[no_mangle]
@@ -275,7 +344,7 @@ pub extern "C" fn ostrogosz_write_initialization(
 ) -> OstrogoszWritten
     ensures { λ r. ⌜ WritesBody (Message.Initialization initialization) [] (now (output .entry)) r (now (output .exit)) ⌝ }
 {
-    write(Message::Initialization(initialization), &[], output)
+    writer_answers::in_numbers(ucp_messages::message_117::write(initialization, output))
 }
 
 // ---- sending a frame: 13, then 7 and 8 as the frame writer gives them

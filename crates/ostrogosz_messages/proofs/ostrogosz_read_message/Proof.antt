@@ -1,40 +1,161 @@
--- `ostrogosz_messages::ostrogosz_read_message` meets its contract, by the reader's. Assumes nothing.
-use mathlib.Core.Path.{_∙_, sym, ap}
-use Rattle.ucp_messages.specs.Reads.{answerOf}
+-- `ostrogosz_messages::ostrogosz_read_message` meets its contract, kind by kind. Assumes nothing.
+use mathlib.Core.Path.{refl, _∙_, ap}
+use native.Mathlib.Omega.{arith}
+use denote.Ref.{now}
+use Rattle.ucp_messages.specs.Reads.{answerAs}
+use Rattle.ucp_messages.proofs.Judged.{kind-so, kind-none}
 use Rattle.ostrogosz_messages.specs.Messages.{messageNumbers}
 use borrow.Author.Needs.{needs}
 use Rattle.ostrogosz_messages.proofs.ostrogosz_read_message.Statement.{statement}
 use Rattle.ostrogosz_messages.proofs.ostrogosz_read_message.Tie as tie
 
-read-message-requires : tie.Need-read-message-requires
-read-message-requires c κs = search needs
-
-enum-known-message : tie.Need-enum-known-message
-enum-known-message c = search needs
-
-of-message-requires : tie.Need-of-message-requires
-of-message-requires c κs = search needs
-
-enum-known-number : tie.Need-enum-known-number
-enum-known-number c = search needs
-
 blank-requires : tie.Need-blank-requires
 blank-requires c κs = search needs
 
 returns : tie.Need-returns
-returns c = c .of-message .ensures ∙ ap messageNumbers (ap answerOf (sym (c .before .before .message .given .1)) ∙ c .before .before .before .before .read-message .ensures)
+unfolding answerAs
+returns c = rw (kind-none (now (c .before .before .before .args .body)) (c .before .if1 .taken)) (c .blank .ensures)
+
+shared-slice-read-kind-of : tie.Need-shared-slice-read-kind-of
+shared-slice-read-kind-of c = search needs
+
+kind-of-requires : tie.Need-kind-of-requires
+kind-of-requires c κs = search needs
+
+enum-told : tie.Need-enum-told
+enum-told c = search needs
+
+read-requires : tie.Need-read-requires
+read-requires c κs = search needs
+
+of-read-requires : tie.Need-of-read-requires
+of-read-requires c κs = search needs
+
+enum-told-2 : tie.Need-enum-told-2
+enum-told-2 c = search needs
+
+read-requires-2 : tie.Need-read-requires-2
+read-requires-2 c κs = search needs
+
+of-read-requires-2 : tie.Need-of-read-requires-2
+of-read-requires-2 c κs = search needs
+
+enum-told-3 : tie.Need-enum-told-3
+enum-told-3 c = search needs
+
+report-requires : tie.Need-report-requires
+report-requires c κs = search needs
+
+enum-told-4 : tie.Need-enum-told-4
+enum-told-4 c = search needs
+
+read-requires-3 : tie.Need-read-requires-3
+read-requires-3 c κs = search needs
+
+of-read-requires-3 : tie.Need-of-read-requires-3
+of-read-requires-3 c κs = search needs
+
+enum-told-5 : tie.Need-enum-told-5
+enum-told-5 c = search needs
+
+report-requires-2 : tie.Need-report-requires-2
+report-requires-2 c κs = search needs
+
+enum-told-6 : tie.Need-enum-told-6
+enum-told-6 c = search needs
+
+read-requires-4 : tie.Need-read-requires-4
+read-requires-4 c κs = search needs
+
+of-read-requires-4 : tie.Need-of-read-requires-4
+of-read-requires-4 c κs = search needs
+
+enum-told-7 : tie.Need-enum-told-7
+enum-told-7 c = search needs
+
+control-requires : tie.Need-control-requires
+control-requires c κs = search needs
+
+enum-told-8 : tie.Need-enum-told-8
+enum-told-8 c = search needs
+
+read-requires-5 : tie.Need-read-requires-5
+read-requires-5 c κs = search needs
+
+of-read-requires-5 : tie.Need-of-read-requires-5
+of-read-requires-5 c κs = search needs
+
+enum-told-9 : tie.Need-enum-told-9
+enum-told-9 c = search needs
+
+blank-requires-2 : tie.Need-blank-requires-2
+blank-requires-2 c κs = search needs
 
 returns-2 : tie.Need-returns-2
-returns-2 c = c .blank .ensures ∙ ap messageNumbers (ap answerOf (sym (c .before .before .number .given .1)) ∙ c .before .before .before .before .read-message .ensures)
+returns-2 c = rw (kind-so (now (c .before .before .before .before .before .before .before .before .args .body)) (omega arith) (c .before .before .before .before .kind-of .ensures) (c .before .before .enum-told .given .1)) (c .of-read .ensures ∙ ap messageNumbers (c .before .read .ensures))
+
+returns-3 : tie.Need-returns-3
+returns-3 c = rw (kind-so (now (c .before .before .before .before .before .before .before .before .args .body)) (omega arith) (c .before .before .before .before .kind-of .ensures) (c .before .before .enum-told2 .given .1)) (c .of-read2 .ensures ∙ ap messageNumbers (c .before .read2 .ensures))
+
+returns-4 : tie.Need-returns-4
+returns-4 c = rw (kind-so (now (c .before .before .before .before .before .before .before .args .body)) (omega arith) (c .before .before .before .kind-of .ensures) (c .before .enum-told3 .given .1)) (c .report .ensures .0 refl)
+
+returns-5 : tie.Need-returns-5
+returns-5 c = rw (kind-so (now (c .before .before .before .before .before .before .before .before .args .body)) (omega arith) (c .before .before .before .before .kind-of .ensures) (c .before .before .enum-told4 .given .1)) (c .of-read3 .ensures ∙ ap messageNumbers (c .before .read3 .ensures))
+
+returns-6 : tie.Need-returns-6
+returns-6 c = rw (kind-so (now (c .before .before .before .before .before .before .before .args .body)) (omega arith) (c .before .before .before .kind-of .ensures) (c .before .enum-told5 .given .1)) (c .report2 .ensures .1 (λ h. omega arith))
+
+returns-7 : tie.Need-returns-7
+returns-7 c = rw (kind-so (now (c .before .before .before .before .before .before .before .before .args .body)) (omega arith) (c .before .before .before .before .kind-of .ensures) (c .before .before .enum-told6 .given .1)) (c .of-read4 .ensures ∙ ap messageNumbers (c .before .read4 .ensures))
+
+returns-8 : tie.Need-returns-8
+returns-8 c = rw (kind-so (now (c .before .before .before .before .before .before .before .args .body)) (omega arith) (c .before .before .before .kind-of .ensures) (c .before .enum-told7 .given .1)) (c .control .ensures)
+
+returns-9 : tie.Need-returns-9
+returns-9 c = rw (kind-so (now (c .before .before .before .before .before .before .before .before .args .body)) (omega arith) (c .before .before .before .before .kind-of .ensures) (c .before .before .enum-told8 .given .1)) (c .of-read5 .ensures ∙ ap messageNumbers (c .before .read5 .ensures))
+
+returns-10 : tie.Need-returns-10
+unfolding answerAs
+returns-10 c = rw (kind-so (now (c .before .before .before .before .before .before .before .args .body)) (omega arith) (c .before .before .before .kind-of .ensures) (c .before .enum-told9 .given .1)) (c .blank2 .ensures)
 
 pub ostrogosz-read-message-spec : {M : Type 1} → statement M
 ostrogosz-read-message-spec =
     tie.close
     (tie.spec
-    read-message-requires
-    enum-known-message
-    of-message-requires
-    enum-known-number
     blank-requires
     returns
-    returns-2)
+    shared-slice-read-kind-of
+    kind-of-requires
+    enum-told
+    read-requires
+    of-read-requires
+    enum-told-2
+    read-requires-2
+    of-read-requires-2
+    enum-told-3
+    report-requires
+    enum-told-4
+    read-requires-3
+    of-read-requires-3
+    enum-told-5
+    report-requires-2
+    enum-told-6
+    read-requires-4
+    of-read-requires-4
+    enum-told-7
+    control-requires
+    enum-told-8
+    read-requires-5
+    of-read-requires-5
+    enum-told-9
+    blank-requires-2
+    returns-2
+    returns-3
+    returns-4
+    returns-5
+    returns-6
+    returns-7
+    returns-8
+    returns-9
+    returns-10)

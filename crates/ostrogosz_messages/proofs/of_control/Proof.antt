@@ -1,0 +1,25 @@
+-- `ostrogosz_messages::of_control` meets its contract. Assumes nothing.
+use Rattle.ostrogosz_messages.specs.Messages.{meant, blank}
+use borrow.Author.Needs.{needs}
+use Rattle.ostrogosz_messages.proofs.of_control.Statement.{statement}
+use Rattle.ostrogosz_messages.proofs.of_control.Tie as tie
+
+blank-requires : tie.Need-blank-requires
+blank-requires c κs = search needs
+
+enum-known-message : tie.Need-enum-known-message
+enum-known-message c = search needs
+
+of-message-requires : tie.Need-of-message-requires
+of-message-requires c κs = search needs
+
+returns : tie.Need-returns
+unfolding meant blank
+returns c = rw (c .before .message .given .1, c .before .before .before .blank .ensures)
+
+returns-2 : tie.Need-returns-2
+returns-2 c = c .of-message .ensures
+
+pub of-control-spec : {M : Type 1} → statement M
+of-control-spec =
+    tie.close (tie.spec blank-requires enum-known-message of-message-requires returns returns-2)
