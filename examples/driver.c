@@ -6,7 +6,8 @@
  * It keeps the line's record, hears the messages, says in a line each what was
  * heard, and answers a Message Request for the Control message with the last
  * one heard: the answering frames are written to the file ANSWERS. Before it
- * ends it clears every room that a private identity passed through.
+ * ends it clears the rooms that a private identity passed through, and the
+ * stack below main, where calls that take or give a message by value leave it.
  *
  * A firmware driver differs in where the octets come from: an interrupt hands
  * them over, and ostrogosz_line_receive takes them one by one.
@@ -32,6 +33,13 @@ static void clear(void *memory, size_t length)
         length--;
         octets[length] = 0;
     }
+}
+
+/* Covers the stack that the calls before it used, and clears that. */
+static void clear_stack(void)
+{
+    uint8_t below[4096];
+    clear(below, sizeof below);
 }
 
 static void say_report(const char *kind, const struct ostrogosz_report *report)
@@ -142,6 +150,7 @@ int main(int argc, char **argv)
     ostrogosz_line_start(&line.receiver);
     failed = run(&line, capture, answers);
     clear(&line, sizeof line);
+    clear_stack();
     fclose(capture);
     if (fclose(answers) != 0 || failed) {
         fputs("driver: reading or writing failed\n", stderr);
