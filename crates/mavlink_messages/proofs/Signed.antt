@@ -10,8 +10,8 @@ use Rattle.octet_fields.specs.Layout.{low, runOctets}
 use Rattle.octet_fields.specs.Signed.{signed, complement}
 
 -- put into a struct
-pub taken : (w : Width) (half : ℕ) {a b : ℕ} (z : ℤ) → SFits w z → z ≡ signed half a → a ≡ b → toZ w (ofZ w z) ≡ signed half b
-taken w half z f e q = toZ-ofZ w z f ∙ e ∙ ap (signed half) q
+pub taken : (w : Width) (half : ℕ) {a b : ℕ} {z : ℤ} → z ≡ signed half a → SFits w z → a ≡ b → toZ w (ofZ w z) ≡ signed half b
+taken w half {z = z} e f q = toZ-ofZ w z f ∙ e ∙ ap (signed half) q
 
 -- and its octets, where it is taken from one
 pub put : (w : Width) (n half : ℕ) {xs : List ℕ} (z : ℤ) → SFits w z → xs ≡ runOctets (low n) (complement half (toZ w (ofZ w z)) ∷ [])

@@ -11,10 +11,46 @@ use Rattle.mavlink_messages.specs.declared.Dynamic.{Dynamic}
 -- velocity north, signed; 32: velocity east, signed; 34: state; 36: squawk; 38: fix; 39: satellites; 40: emergency;
 -- 41: control
 abbrev pub dynamicLayout : List Run
-dynamicLayout = low 4 ∷ low 4 ∷ low 4 ∷ low 4 ∷ low 4 ∷ low 4 ∷ low 2 ∷ low 2 ∷ low 2 ∷ low 2 ∷ low 2 ∷ low 2 ∷ low 2 ∷ octet ∷ octet ∷ octet ∷ octet ∷ []
+dynamicLayout =
+    low 4
+    ∷ low 4
+    ∷ low 4
+    ∷ low 4
+    ∷ low 4
+    ∷ low 4
+    ∷ low 2
+    ∷ low 2
+    ∷ low 2
+    ∷ low 2
+    ∷ low 2
+    ∷ low 2
+    ∷ low 2
+    ∷ octet
+    ∷ octet
+    ∷ octet
+    ∷ octet
+    ∷ []
 
 abbrev pub dynamicFields : Dynamic → List ℕ
-dynamicFields d = d .utc ∷ complement 2147483648 (d .latitude) ∷ complement 2147483648 (d .longitude) ∷ complement 2147483648 (d .pressure) ∷ complement 2147483648 (d .gnss) ∷ d .horizontal ∷ d .vertical ∷ d .velocity ∷ complement 32768 (d .climb) ∷ complement 32768 (d .north) ∷ complement 32768 (d .east) ∷ d .state ∷ d .squawk ∷ d .fix ∷ d .satellites ∷ d .emergency ∷ d .control ∷ []
+dynamicFields d =
+    d .utc
+    ∷ complement 2147483648 (d .latitude)
+    ∷ complement 2147483648 (d .longitude)
+    ∷ complement 2147483648 (d .pressure)
+    ∷ complement 2147483648 (d .gnss)
+    ∷ d .horizontal
+    ∷ d .vertical
+    ∷ d .velocity
+    ∷ complement 32768 (d .climb)
+    ∷ complement 32768 (d .north)
+    ∷ complement 32768 (d .east)
+    ∷ d .state
+    ∷ d .squawk
+    ∷ d .fix
+    ∷ d .satellites
+    ∷ d .emergency
+    ∷ d .control
+    ∷ []
 
 abbrev pub dynamicOf : List ℕ → Dynamic
 dynamicOf vs = record {

@@ -12,7 +12,17 @@ abbrev pub staticLayout : List Run
 staticLayout = low 3 ∷ octet ∷ low 2 ∷ text ++ octet ∷ octet ∷ octet ∷ octet ∷ octet ∷ []
 
 abbrev pub staticFields : Static → List ℕ
-staticFields s = s .address ∷ s .integrity ∷ s .stall ∷ textOctets (s .callsign) ++ s .capability ∷ s .emitter ∷ s .size ∷ s .lateral ∷ s .longitudinal ∷ []
+staticFields s =
+    s .address
+    ∷ s .integrity
+    ∷ s .stall
+    ∷ textOctets (s .callsign)
+    ++ s .capability
+    ∷ s .emitter
+    ∷ s .size
+    ∷ s .lateral
+    ∷ s .longitudinal
+    ∷ []
 
 abbrev pub staticOf : List ℕ → Static
 staticOf vs = record {

@@ -11,10 +11,40 @@ use Rattle.mavlink_messages.specs.declared.Traffic.{Traffic}
 -- horizontal velocity; 20: vertical velocity, signed; 22: valid fields; 24: squawk; 26: altitude type; 27: callsign;
 -- 35: its ninth character; 36: emitter; 37: time since last communication
 abbrev pub trafficLayout : List Run
-trafficLayout = low 4 ∷ low 4 ∷ low 4 ∷ low 4 ∷ low 2 ∷ low 2 ∷ low 2 ∷ low 2 ∷ low 2 ∷ octet ∷ text ++ octet ∷ octet ∷ octet ∷ []
+trafficLayout =
+    low 4
+    ∷ low 4
+    ∷ low 4
+    ∷ low 4
+    ∷ low 2
+    ∷ low 2
+    ∷ low 2
+    ∷ low 2
+    ∷ low 2
+    ∷ octet
+    ∷ text
+    ++ octet
+    ∷ octet
+    ∷ octet
+    ∷ []
 
 abbrev pub trafficFields : Traffic → List ℕ
-trafficFields t = t .address ∷ complement 2147483648 (t .latitude) ∷ complement 2147483648 (t .longitude) ∷ complement 2147483648 (t .altitude) ∷ t .heading ∷ t .speed ∷ complement 32768 (t .climb) ∷ t .valid ∷ t .squawk ∷ t .datum ∷ textOctets (t .callsign) ++ t .ninth ∷ t .emitter ∷ t .age ∷ []
+trafficFields t =
+    t .address
+    ∷ complement 2147483648 (t .latitude)
+    ∷ complement 2147483648 (t .longitude)
+    ∷ complement 2147483648 (t .altitude)
+    ∷ t .heading
+    ∷ t .speed
+    ∷ complement 32768 (t .climb)
+    ∷ t .valid
+    ∷ t .squawk
+    ∷ t .datum
+    ∷ textOctets (t .callsign)
+    ++ t .ninth
+    ∷ t .emitter
+    ∷ t .age
+    ∷ []
 
 abbrev pub trafficOf : List ℕ → Traffic
 trafficOf vs = record {

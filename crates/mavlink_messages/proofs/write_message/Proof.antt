@@ -82,40 +82,60 @@ same-length c = search needs
 
 returns-2 : tie.Need-returns-2
 returns-2 c =
-    written (c .before .before .before .before .before .before .before .before .before .before .before .before .args .header) (c .before .before .before .before .before .before .before .message .given .1) (sym (c .before .before .before .before .before .before .before .before .before .before .in-range .ensures) ∙ not-false _ (c .before .before .before .before .before .before .before .before .before .if1 .left))
-    (c .before .before .before .before .before .octets .ensures) (c .before .before .write-frame .ensures)
+    let o = c .before .before .before .before .before in
+    let m = o .before .before in
+    let l = m .before .before in
+    let s = l .before .before .before in
+    written (s .args .header) (m .message .given .1) (sym (l .before .in-range .ensures) ∙ not-false _ (l .if1 .left)) (o .octets .ensures)
+    (c .before .before .write-frame .ensures)
 
 same-length-2 : tie.Need-same-length-2
 same-length-2 c = search needs
 
 returns-3 : tie.Need-returns-3
 returns-3 c =
-    written (c .before .before .before .before .before .before .before .before .before .before .before .before .args .header) (c .before .before .before .before .before .before .before .message2 .given .1) (sym (c .before .before .before .before .before .before .before .before .before .before .in-range .ensures) ∙ not-false _ (c .before .before .before .before .before .before .before .before .before .if1 .left))
-    (c .before .before .before .before .before .octets2 .ensures) (c .before .before .write-frame2 .ensures)
+    let o = c .before .before .before .before .before in
+    let m = o .before .before in
+    let l = m .before .before in
+    let s = l .before .before .before in
+    written (s .args .header) (m .message2 .given .1) (sym (l .before .in-range .ensures) ∙ not-false _ (l .if1 .left)) (o .octets2 .ensures)
+    (c .before .before .write-frame2 .ensures)
 
 same-length-3 : tie.Need-same-length-3
 same-length-3 c = search needs
 
 returns-4 : tie.Need-returns-4
 returns-4 c =
-    written (c .before .before .before .before .before .before .before .before .before .before .before .before .args .header) (c .before .before .before .before .before .before .before .message3 .given .1) (sym (c .before .before .before .before .before .before .before .before .before .before .in-range .ensures) ∙ not-false _ (c .before .before .before .before .before .before .before .before .before .if1 .left))
-    (c .before .before .before .before .before .octets3 .ensures) (c .before .before .write-frame3 .ensures)
+    let o = c .before .before .before .before .before in
+    let m = o .before .before in
+    let l = m .before .before in
+    let s = l .before .before .before in
+    written (s .args .header) (m .message3 .given .1) (sym (l .before .in-range .ensures) ∙ not-false _ (l .if1 .left)) (o .octets3 .ensures)
+    (c .before .before .write-frame3 .ensures)
 
 same-length-4 : tie.Need-same-length-4
 same-length-4 c = search needs
 
 returns-5 : tie.Need-returns-5
 returns-5 c =
-    written (c .before .before .before .before .before .before .before .before .before .before .before .before .args .header) (c .before .before .before .before .before .before .before .message4 .given .1) (sym (c .before .before .before .before .before .before .before .before .before .before .in-range .ensures) ∙ not-false _ (c .before .before .before .before .before .before .before .before .before .if1 .left))
-    (c .before .before .before .before .before .octets4 .ensures) (c .before .before .write-frame4 .ensures)
+    let o = c .before .before .before .before .before in
+    let m = o .before .before in
+    let l = m .before .before in
+    let s = l .before .before .before in
+    written (s .args .header) (m .message4 .given .1) (sym (l .before .in-range .ensures) ∙ not-false _ (l .if1 .left)) (o .octets4 .ensures)
+    (c .before .before .write-frame4 .ensures)
 
 same-length-5 : tie.Need-same-length-5
 same-length-5 c = search needs
 
 returns-6 : tie.Need-returns-6
 returns-6 c =
-    written (c .before .before .before .before .before .before .before .before .before .before .before .before .args .header) (c .before .before .before .before .before .before .before .message5 .given .1) (sym (c .before .before .before .before .before .before .before .before .before .before .in-range .ensures) ∙ not-false _ (c .before .before .before .before .before .before .before .before .before .if1 .left))
-    (c .before .before .before .before .before .octets5 .ensures) (c .before .before .write-frame5 .ensures)
+    let o = c .before .before .before .before .before in
+    let m = o .before .before in
+    let l = m .before .before in
+    let s = l .before .before .before in
+    written (s .args .header) (m .message5 .given .1) (sym (l .before .in-range .ensures) ∙ not-false _ (l .if1 .left)) (o .octets5 .ensures)
+    (c .before .before .write-frame5 .ensures)
 
 pub write-message-spec : {M : Type 1} → statement M
 write-message-spec =

@@ -111,16 +111,16 @@ returns c =
     in
     λ i. record {
       utc = (at-utc .little-32 .ensures ∙ at 0) i;
-      latitude = taken w32 2147483648 (at-latitude .signed-32 .result) (record { sfits = at-latitude .signed-32 .ok }) (at-latitude .signed-32 .ensures) (at-latitude .before .little-322 .ensures ∙ at 1) i;
-      longitude = taken w32 2147483648 (at-longitude .signed-322 .result) (record { sfits = at-longitude .signed-322 .ok }) (at-longitude .signed-322 .ensures) (at-longitude .before .little-323 .ensures ∙ at 2) i;
-      pressure = taken w32 2147483648 (at-pressure .signed-323 .result) (record { sfits = at-pressure .signed-323 .ok }) (at-pressure .signed-323 .ensures) (at-pressure .before .little-324 .ensures ∙ at 3) i;
-      gnss = taken w32 2147483648 (at-gnss .signed-324 .result) (record { sfits = at-gnss .signed-324 .ok }) (at-gnss .signed-324 .ensures) (at-gnss .before .little-325 .ensures ∙ at 4) i;
+      latitude = taken w32 2147483648 (at-latitude .signed-32 .ensures) (record { sfits = at-latitude .signed-32 .ok }) (at-latitude .before .little-322 .ensures ∙ at 1) i;
+      longitude = taken w32 2147483648 (at-longitude .signed-322 .ensures) (record { sfits = at-longitude .signed-322 .ok }) (at-longitude .before .little-323 .ensures ∙ at 2) i;
+      pressure = taken w32 2147483648 (at-pressure .signed-323 .ensures) (record { sfits = at-pressure .signed-323 .ok }) (at-pressure .before .little-324 .ensures ∙ at 3) i;
+      gnss = taken w32 2147483648 (at-gnss .signed-324 .ensures) (record { sfits = at-gnss .signed-324 .ok }) (at-gnss .before .little-325 .ensures ∙ at 4) i;
       horizontal = (at-horizontal .little-326 .ensures ∙ at 5) i;
       vertical = (at-vertical .little-16 .ensures ∙ at 6) i;
       velocity = (at-velocity .little-162 .ensures ∙ at 7) i;
-      climb = taken w16 32768 (at-climb .signed-16 .result) (record { sfits = at-climb .signed-16 .ok }) (at-climb .signed-16 .ensures) (at-climb .before .little-163 .ensures ∙ at 8) i;
-      north = taken w16 32768 (at-north .signed-162 .result) (record { sfits = at-north .signed-162 .ok }) (at-north .signed-162 .ensures) (at-north .before .little-164 .ensures ∙ at 9) i;
-      east = taken w16 32768 (at-east .signed-163 .result) (record { sfits = at-east .signed-163 .ok }) (at-east .signed-163 .ensures) (at-east .before .little-165 .ensures ∙ at 10) i;
+      climb = taken w16 32768 (at-climb .signed-16 .ensures) (record { sfits = at-climb .signed-16 .ok }) (at-climb .before .little-163 .ensures ∙ at 8) i;
+      north = taken w16 32768 (at-north .signed-162 .ensures) (record { sfits = at-north .signed-162 .ok }) (at-north .before .little-164 .ensures ∙ at 9) i;
+      east = taken w16 32768 (at-east .signed-163 .ensures) (record { sfits = at-east .signed-163 .ok }) (at-east .before .little-165 .ensures ∙ at 10) i;
       state = (at-state .little-166 .ensures ∙ at 11) i;
       squawk = (at-squawk .little-167 .ensures ∙ at 12) i;
       fix = (at-fix .octet .ensures ∙ at 13) i;

@@ -1,7 +1,6 @@
 -- `mavlink_messages::message_203::octets` meets its contract. Assumes nothing.
 use mathlib.Core.Path.{refl}
 use Rattle.mavlink_messages.specs.Status.{statusPayload}
-use borrow.Author.Needs.{needs}
 use Rattle.mavlink_messages.proofs.message_203.octets.Statement.{statement}
 use Rattle.mavlink_messages.proofs.message_203.octets.Tie as tie
 

@@ -90,12 +90,12 @@ returns c =
     in
     λ i. record {
       address = (at-address .little-32 .ensures ∙ at 0) i;
-      latitude = taken w32 2147483648 (at-latitude .signed-32 .result) (record { sfits = at-latitude .signed-32 .ok }) (at-latitude .signed-32 .ensures) (at-latitude .before .little-322 .ensures ∙ at 1) i;
-      longitude = taken w32 2147483648 (at-longitude .signed-322 .result) (record { sfits = at-longitude .signed-322 .ok }) (at-longitude .signed-322 .ensures) (at-longitude .before .little-323 .ensures ∙ at 2) i;
-      altitude = taken w32 2147483648 (at-altitude .signed-323 .result) (record { sfits = at-altitude .signed-323 .ok }) (at-altitude .signed-323 .ensures) (at-altitude .before .little-324 .ensures ∙ at 3) i;
+      latitude = taken w32 2147483648 (at-latitude .signed-32 .ensures) (record { sfits = at-latitude .signed-32 .ok }) (at-latitude .before .little-322 .ensures ∙ at 1) i;
+      longitude = taken w32 2147483648 (at-longitude .signed-322 .ensures) (record { sfits = at-longitude .signed-322 .ok }) (at-longitude .before .little-323 .ensures ∙ at 2) i;
+      altitude = taken w32 2147483648 (at-altitude .signed-323 .ensures) (record { sfits = at-altitude .signed-323 .ok }) (at-altitude .before .little-324 .ensures ∙ at 3) i;
       heading = (at-heading .little-16 .ensures ∙ at 4) i;
       speed = (at-speed .little-162 .ensures ∙ at 5) i;
-      climb = taken w16 32768 (at-climb .signed-16 .result) (record { sfits = at-climb .signed-16 .ok }) (at-climb .signed-16 .ensures) (at-climb .before .little-163 .ensures ∙ at 6) i;
+      climb = taken w16 32768 (at-climb .signed-16 .ensures) (record { sfits = at-climb .signed-16 .ok }) (at-climb .before .little-163 .ensures ∙ at 6) i;
       valid = (at-valid .little-164 .ensures ∙ at 7) i;
       squawk = (at-squawk .little-165 .ensures ∙ at 8) i;
       datum = (at-datum .octet .ensures ∙ at 9) i;
