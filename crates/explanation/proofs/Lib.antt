@@ -5,3 +5,4 @@ pub mod Numerals
 pub mod Parts
 pub mod Longest
 pub mod Verdicts
+pub mod Onward

@@ -30,7 +30,7 @@ returns c =
     let v = run (stateOf (a .rest) (now (a .store))) (a .counts) (now (a .line)) bodyRoom .verdict in
     let few = line-most v (verdict-fits (t .ensures) long (t .kept .1 .1 .1 .1 .0)) in
     let puts = all-put (rw (verdict-told (t .ensures) long) at (c .put-answer .ensures)) (omega (arith, few, c .before .before .before .put-answer-arg .given .0 .1)) in
-    record { takes = t .ensures; puts = puts; within = omega (arith, few, puts .ends) }
+    record { long = long; takes = t .ensures; puts = puts; within = omega (arith, few, puts .ends) }
 
 pub explain-next-spec : {M : Type 1} → statement M
 explain-next-spec = tie.close (tie.spec receive-slice-requires put-answer-requires returns)

@@ -1,4 +1,4 @@
--- `line_lister::zero` meets its contract. The loop's invariant: what was passed is zero, and the rest as it was. Assumes nothing.
+-- `standard_streams::zero` meets its contract. The loop's invariant: what was passed is zero, and the rest as it was. Assumes nothing.
 use mathlib.Core.Path.{_≡_, refl, _∙_, ap}
 use mathlib.Core.List.{List, [], _++_, append-nil}
 use Prim.Native.Nat.{ℕ, _-_, _≤_}
@@ -7,8 +7,8 @@ use borrow.Author.Fill.{fill-none, fill-more}
 use denote.Ref.{now}
 use lib.ListN.{length, drop, replicate, length-set, drop-of-length-le}
 use borrow.Author.Needs.{needs}
-use Rattle.line_lister.proofs.zero.Statement.{statement}
-use Rattle.line_lister.proofs.zero.Tie as tie
+use Rattle.standard_streams.proofs.zero.Statement.{statement}
+use Rattle.standard_streams.proofs.zero.Tie as tie
 
 abbrev Inv-loop : tie.InvT-loop
 Inv-loop memory₀ i₀ memory i =

@@ -1,10 +1,10 @@
--- `line_lister::write_out` is safe and ends: each turn writes some of what is left. Assumes nothing.
+-- `standard_streams::write_out` is safe and ends: each turn writes some of what is left. Assumes nothing.
 use Prim.Native.Nat.{_-_, _≤_}
 use native.Mathlib.Omega.{arith}
 use lib.ListN.{length, length-take, length-drop}
 use borrow.Author.Needs.{needs}
-use Rattle.line_lister.proofs.write_out.Statement.{statement}
-use Rattle.line_lister.proofs.write_out.Tie as tie
+use Rattle.standard_streams.proofs.write_out.Statement.{statement}
+use Rattle.standard_streams.proofs.write_out.Tie as tie
 
 abbrev Inv-loop : tie.InvT-loop
 Inv-loop text done₀ done = done ≤ length text
