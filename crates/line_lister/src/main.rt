@@ -9,45 +9,12 @@ ghost use lib.ListN.{length};
 ghost use Rattle.listing.specs.Listing.{longestLine};
 ghost use Rattle.receiver.specs.Step.{stateOf};
 ghost use Rattle.listing.specs.Lists.{behindAll};
-ghost use Rattle.line_lister.specs.Blocks.{Leaves, Zeroed};
-use libc::STDIN_FILENO;
-use libc::STDOUT_FILENO;
+ghost use Rattle.standard_streams.specs.Blocks.{Leaves};
 use receiver::Counts;
 use receiver::Rest;
-
-// How far the input is listed.
-enum Input {
-    More,
-    Ended,
-    Failed,
-}
-
-// The receiver's record besides its store, from block to block.
-struct Progress {
-    rest: Rest,
-    counts: Counts,
-    input: Input,
-}
-
-fn write_failed() {
-    os::fail(&[b'w', b'r', b'i', b't', b'e']);
-}
-
-// Writes all of text, or says that it failed. `io::write_all` would copy what a short write leaves over: here the octets of
-// a frame stay in the memory that main lends.
-fn write_out(text: &[u8]) -> bool {
-    let mut done = 0;
-    while done < text.len() {
-        let left = &text[done..];
-        let put = io::count(libc::write(STDOUT_FILENO, left), left);
-        if put == 0 {
-            write_failed();
-            return false;
-        }
-        done += put;
-    }
-    true
-}
+use standard_streams::Got;
+use standard_streams::Input;
+use standard_streams::Progress;
 
 // Lists the octets of a block, and writes the text out each time that it is full, and at the block's end.
 fn list_block(
@@ -70,7 +37,7 @@ fn list_block(
         counts = listed.counts;
         taken += listed.taken;
         let n = listed.written;
-        if !write_out(&text[..n]) {
+        if !standard_streams::write_out(&text[..n]) {
             return Progress {
                 rest: rest,
                 counts: counts,
@@ -96,29 +63,20 @@ fn list_next(
 ) -> Progress
     requires { ⌜ longestLine ≤ length (now text) ⌝ }
 {
-    let got = libc::read(STDIN_FILENO, block);
-    if got < 0 {
-        os::fail(&[b'r', b'e', b'a', b'd']);
-        return Progress {
-            rest: rest,
-            counts: counts,
-            input: Input::Failed,
-        };
-    }
-    if got == 0 {
-        return Progress {
+    let got = standard_streams::read_block(block);
+    match got {
+        Got::Octets(n) => list_block(rest, counts, store, room, &block[..n], text),
+        Got::Ended => Progress {
             rest: rest,
             counts: counts,
             input: Input::Ended,
-        };
+        },
+        Got::Failed => Progress {
+            rest: rest,
+            counts: counts,
+            input: Input::Failed,
+        },
     }
-    let n = io::count(got, block);
-    list_block(rest, counts, store, room, &block[..n], text)
-}
-
-fn write_closing(text: &mut [u8], counts: Counts) -> bool {
-    let n = listing::put_closing(text, 0, counts);
-    write_out(&text[..n])
 }
 
 // Lists all of the input, and answers whether it came to its end and all was written. A proved loop has to end, and nothing
@@ -141,45 +99,12 @@ fn list_input(
         let input = progress.input;
         match input {
             Input::More => {}
-            Input::Ended => return write_closing(text, counts),
+            Input::Ended => return standard_streams::write_closing(text, counts),
             Input::Failed => return false,
         }
         turns -= 1;
     }
     false
-}
-
-fn zero(memory: &mut [u8])
-    ensures { λ r. ⌜ Zeroed (now (memory .entry)) (now (memory .exit)) ⌝ }
-{
-    let mut i = 0;
-    while i < memory.len() {
-        memory[i] = 0;
-        i += 1;
-    }
-}
-
-// Clears memory that was lent. A compiler drops stores to memory that nothing reads again, and this language has no way to
-// forbid that. C may read what it is handed, so the stores before such a call stay: there is no descriptor -1, and nothing is
-// written.
-fn clear(memory: &mut [u8])
-    ensures { λ r. ⌜ Zeroed (now (memory .entry)) (now (memory .exit)) ⌝ }
-{
-    zero(memory);
-    libc::write(-1, memory);
-}
-
-// Frames passed through all of these.
-fn clear_lent(store: &mut [u8; 438], room: &mut [u8; 436], block: &mut [u8], text: &mut [u8])
-    ensures { λ r. ⌜ Zeroed (now (store .entry)) (now (store .exit)) ⌝ }
-    ensures { λ r. ⌜ Zeroed (now (room .entry)) (now (room .exit)) ⌝ }
-    ensures { λ r. ⌜ Zeroed (now (block .entry)) (now (block .exit)) ⌝ }
-    ensures { λ r. ⌜ Zeroed (now (text .entry)) (now (text .exit)) ⌝ }
-{
-    clear(store);
-    clear(room);
-    clear(block);
-    clear(text);
 }
 
 fn main() {
@@ -188,9 +113,8 @@ fn main() {
     let mut block = io::large_buffer();
     let mut text = io::large_buffer();
     let whole = list_input(&mut store, &mut room, &mut block, &mut text);
-    clear_lent(&mut store, &mut room, &mut block, &mut text);
-    // Some file systems say only here that a write failed.
-    if whole && libc::close(STDOUT_FILENO) < 0 {
-        write_failed();
+    standard_streams::clear_lent(&mut store, &mut room, &mut block, &mut text);
+    if whole {
+        standard_streams::close_output();
     }
 }

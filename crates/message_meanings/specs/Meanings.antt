@@ -3,6 +3,7 @@ use mathlib.Core.Bool.{Bool, false, cond}
 use Prim.Native.Nat.{ℕ, _*_}
 use lib.Dec.{eqb}
 use lib.IntN.{ℤ, pos, negsuc, _-ℤ_, _*ℤ_}
+use lib.Signed.{quotZ}
 use Rattle.message_meanings.specs.declared.Altitude.{Altitude}
 use Rattle.message_meanings.specs.declared.Altitude.the-variants.{NoData as NoAltitude, Feet}
 use Rattle.message_meanings.specs.declared.Rate.{Rate}
@@ -24,3 +25,7 @@ rateMeans z = cond (isNoRate z) NoRate (FeetPerMinute (z *ℤ pos 64))
 -- steps of 5 feet
 unfoldable pub geometricMeans : ℤ → ℤ
 geometricMeans z = z *ℤ pos 5
+
+-- 180 degrees in 2^23 steps (document 003, section 6.2.2), in whole units of 1E-7 degree: n * 180 / 2^23 * 10^7, toward zero
+unfoldable pub degreesE7 : ℤ → ℤ
+degreesE7 z = quotZ (z *ℤ pos 1800000000) (pos 8388608)

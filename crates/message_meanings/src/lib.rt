@@ -1,6 +1,6 @@
-// What the raw numbers of messages 10, 11 and 20 mean in feet and feet per minute.
+// What the raw numbers of messages 10, 11 and 20 mean in feet, feet per minute and degrees.
 ghost use mathlib.Core.Path.{_≡_};
-ghost use Rattle.message_meanings.specs.Meanings.{altitudeMeans, rateMeans, geometricMeans};
+ghost use Rattle.message_meanings.specs.Meanings.{altitudeMeans, rateMeans, geometricMeans, degreesE7};
 
 // A pressure altitude.
 pub enum Altitude {
@@ -40,4 +40,11 @@ pub fn geometric_altitude_in_feet(number: i16) -> i32
     ensures { λ r. ⌜ r ≡ geometricMeans number ⌝ }
 {
     number as i32 * 5
+}
+
+// The angle that messages 10 and 20 carry as a number, in whole units of 1E-7 degree, toward zero.
+pub fn degrees_e7(number: i32) -> i64
+    ensures { λ r. ⌜ r ≡ degreesE7 number ⌝ }
+{
+    number as i64 * 1800000000 / 8388608
 }

@@ -1,4 +1,4 @@
--- A signed number of 32 bits and its magnitude, by its sign. Assumes nothing.
+-- A signed number and its magnitude, by its sign. Assumes nothing.
 use mathlib.Core.Path.{_≡_, refl, ap, _∙_, subst⁻¹}
 use mathlib.Core.Bool.{true, false}
 use Prim.Native.Nat.{ℕ, zero, suc, _-_, _<_, _≤_}
@@ -7,14 +7,14 @@ use native.Mathlib.Omega.{arith}
 use borrow.Author.Tests.{ltb-true, le-ltb}
 use lib.IntN.{ℤ, pos, negsuc, _-ℤ_}
 use lib.Signed.{mag, ltZ}
-use mir.Syntax.{w16, w32}
+use mir.Syntax.{Width, w16, w32}
 use mir.Val.{SFits, toZ, ofZ}
 use mir.ValLaws.{toZ-ofZ}
 use Rattle.octet_fields.specs.Signed.{signed, complement}
 use Rattle.octet_fields.proofs.Signed.{magnitude-signed}
 
 -- the magnitude fits as the number does
-pub magnitude-fits : (z : ℤ) → SFits w32 z → SFits w32 (pos (mag z))
+pub magnitude-fits : {w : Width} (z : ℤ) → SFits w z → SFits w (pos (mag z))
 magnitude-fits z f = record { sfits = f .sfits }
 
 -- -1 less a number
@@ -35,19 +35,19 @@ positive : (z : ℤ) → ltZ z (pos 0) ≡ false → z ≡ pos (mag z)
 positive (pos n) h = refl
 positive (negsuc n) h = let e : _≡_ {A = ℕ} 0 1 = cc in absurd (omega arith)
 
-module _ (z : ℤ) (f : SFits w32 z) where
-  pub below-zero : ltZ (toZ w32 (ofZ w32 z)) (pos 0) ≡ true → z ≡ negsuc (mag z)
-  below-zero h = negative z (rw (toZ-ofZ w32 z f) at h)
+module _ {w : Width} (z : ℤ) (f : SFits w z) where
+  pub below-zero : ltZ (toZ w (ofZ w z)) (pos 0) ≡ true → z ≡ negsuc (mag z)
+  below-zero h = negative z (rw (toZ-ofZ w z f) at h)
 
-  pub from-zero : ltZ (toZ w32 (ofZ w32 z)) (pos 0) ≡ false → z ≡ pos (mag z)
-  from-zero h = positive z (rw (toZ-ofZ w32 z f) at h)
+  pub from-zero : ltZ (toZ w (ofZ w z)) (pos 0) ≡ false → z ≡ pos (mag z)
+  from-zero h = positive z (rw (toZ-ofZ w z f) at h)
 
   -- -1 less a number below 0
-  pub turned : ltZ (toZ w32 (ofZ w32 z)) (pos 0) ≡ true → negsuc 0 -ℤ toZ w32 (ofZ w32 z) ≡ pos (mag z)
-  turned h = ap (λ (y : ℤ). negsuc 0 -ℤ y) (toZ-ofZ w32 z f ∙ below-zero h) ∙ less-negative (mag z)
+  pub turned : ltZ (toZ w (ofZ w z)) (pos 0) ≡ true → negsuc 0 -ℤ toZ w (ofZ w z) ≡ pos (mag z)
+  turned h = ap (λ (y : ℤ). negsuc 0 -ℤ y) (toZ-ofZ w z f ∙ below-zero h) ∙ less-negative (mag z)
 
-  pub kept : ltZ (toZ w32 (ofZ w32 z)) (pos 0) ≡ false → toZ w32 (ofZ w32 z) ≡ pos (mag z)
-  kept h = toZ-ofZ w32 z f ∙ from-zero h
+  pub kept : ltZ (toZ w (ofZ w z)) (pos 0) ≡ false → toZ w (ofZ w z) ≡ pos (mag z)
+  kept h = toZ-ofZ w z f ∙ from-zero h
 
 -- ---- 16 bits, carried through 32
 pub wider : (z : ℤ) → SFits w16 z → SFits w32 z

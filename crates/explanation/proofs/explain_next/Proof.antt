@@ -1,0 +1,36 @@
+-- `explanation::explain_next` meets its contract. Assumes nothing.
+use mathlib.Core.Path.{_∙_}
+use native.Mathlib.Omega.{arith}
+use Rattle.listing.proofs.Runs.{body-fits}
+use Rattle.explanation.specs.Explanation.{explanation}
+use Rattle.receiver.specs.Step.{run, stateOf}
+use Rattle.listing.specs.Listing.{bodyRoom}
+use Rattle.explanation.proofs.Clipped.{all-put}
+use Rattle.explanation.proofs.Longest.{line-most}
+use Rattle.explanation.proofs.Verdicts.{verdict-told, verdict-fits}
+use denote.Ref.{now}
+use borrow.Author.Needs.{needs}
+use Rattle.explanation.proofs.explain_next.Statement.{statement}
+use Rattle.explanation.proofs.explain_next.Tie as tie
+
+receive-slice-requires : tie.Need-receive-slice-requires
+receive-slice-requires c κs = search needs
+
+put-answer-requires : tie.Need-put-answer-requires
+put-answer-requires c κs =
+    let t = c .before .before .before .receive-slice in
+    let long = c .before .before .before .before .receive-slice-arg2 .given .0 .1 in
+    (t .kept .1 .1 .1 .1 .0 ∙ long, body-fits _ _ _ _ _ _ _ _ (t .ensures) long (t .kept .1 .1 .1 .1 .0))
+
+returns : tie.Need-returns
+returns c =
+    let a = c .before .before .before .before .before .before .before .before .args in
+    let t = c .before .before .before .before .receive-slice in
+    let long = c .before .before .before .before .before .receive-slice-arg2 .given .0 .1 in
+    let v = run (stateOf (a .rest) (now (a .store))) (a .counts) (now (a .line)) bodyRoom .verdict in
+    let few = line-most v (verdict-fits (t .ensures) long (t .kept .1 .1 .1 .1 .0)) in
+    let puts = all-put (rw (verdict-told (t .ensures) long) at (c .put-answer .ensures)) (omega (arith, few, c .before .before .before .put-answer-arg .given .0 .1)) in
+    record { long = long; takes = t .ensures; puts = puts; within = omega (arith, few, puts .ends) }
+
+pub explain-next-spec : {M : Type 1} → statement M
+explain-next-spec = tie.close (tie.spec receive-slice-requires put-answer-requires returns)

@@ -1,0 +1,56 @@
+-- `explanation::kinds::put_airframe` meets its contract. Assumes nothing.
+use Rattle.explanation.specs.Values.{fields}
+use Rattle.explanation.proofs.Clipped.{then, last-piece}
+use borrow.Author.Needs.{needs}
+use Rattle.explanation.proofs.kinds.put_airframe.Statement.{statement}
+use Rattle.explanation.proofs.kinds.put_airframe.Tie as tie
+
+slice-aggregate-put-knots : tie.Need-slice-aggregate-put-knots
+slice-aggregate-put-knots c = search needs
+
+cast-put-knots : tie.Need-cast-put-knots
+cast-put-knots c = search needs
+
+put-knots-requires : tie.Need-put-knots-requires
+put-knots-requires c κs = search needs
+
+slice-aggregate-put-number : tie.Need-slice-aggregate-put-number
+slice-aggregate-put-number c = search needs
+
+put-number-requires : tie.Need-put-number-requires
+put-number-requires c κs = search needs
+
+slice-aggregate-put-number-2 : tie.Need-slice-aggregate-put-number-2
+slice-aggregate-put-number-2 c = search needs
+
+put-number-requires-2 : tie.Need-put-number-requires-2
+put-number-requires-2 c κs = search needs
+
+slice-aggregate-put-number-3 : tie.Need-slice-aggregate-put-number-3
+slice-aggregate-put-number-3 c = search needs
+
+put-number-requires-3 : tie.Need-put-number-requires-3
+put-number-requires-3 c κs = search needs
+
+same-length : tie.Need-same-length
+same-length c = search needs
+
+returns : tie.Need-returns
+unfolding fields
+returns c = then (c .before .before .before .before .before .before .before .before .before .before .before .before .before .before .before .before .before .put-knots .ensures) (then (c .before .before .before .before .before .before .before .before .before .before .before .before .put-number .ensures) (then (c .before .before .before .before .before .before .before .put-number2 .ensures) (last-piece (c .before .before .put-number3 .ensures))))
+
+pub put-airframe-spec : {M : Type 1} → statement M
+put-airframe-spec =
+    tie.close
+    (tie.spec
+    slice-aggregate-put-knots
+    cast-put-knots
+    put-knots-requires
+    slice-aggregate-put-number
+    put-number-requires
+    slice-aggregate-put-number-2
+    put-number-requires-2
+    slice-aggregate-put-number-3
+    put-number-requires-3
+    same-length
+    returns)

@@ -1,0 +1,37 @@
+-- `explanation::kinds::put_control` meets its contract. Assumes nothing.
+use Rattle.explanation.proofs.Parts.{fields-split}
+use Rattle.explanation.specs.Kinds.{controlParts, messageShown}
+use Rattle.explanation.proofs.Clipped.{then}
+use borrow.Author.Needs.{needs}
+use Rattle.explanation.proofs.kinds.put_control.Statement.{statement}
+use Rattle.explanation.proofs.kinds.put_control.Tie as tie
+
+slice-aggregate-put-word : tie.Need-slice-aggregate-put-word
+slice-aggregate-put-word c = search needs
+
+put-word-requires : tie.Need-put-word-requires
+put-word-requires c κs = search needs
+
+put-modes-requires : tie.Need-put-modes-requires
+put-modes-requires c κs = search needs
+
+put-flight-requires : tie.Need-put-flight-requires
+put-flight-requires c κs = search needs
+
+same-length : tie.Need-same-length
+same-length c = search needs
+
+returns : tie.Need-returns
+unfolding messageShown
+returns c = then (c .before .before .before .before .before .before .before .before .before .before .put-word .ensures) (rw (fields-split 5 (controlParts (c .before .before .before .before .before .before .before .before .before .before .before .before .before .before .args .control))) at (then (c .before .before .before .before .before .before .put-modes .ensures) (c .before .before .put-flight .ensures)))
+
+pub put-control-spec : {M : Type 1} → statement M
+put-control-spec =
+    tie.close
+    (tie.spec
+    slice-aggregate-put-word
+    put-word-requires
+    put-modes-requires
+    put-flight-requires
+    same-length
+    returns)

@@ -1,0 +1,65 @@
+-- `explanation::kinds::put_initialization` meets its contract. Assumes nothing.
+use Rattle.explanation.specs.Values.{fields}
+use Rattle.explanation.specs.Kinds.{messageShown}
+use Rattle.explanation.proofs.Clipped.{then}
+use borrow.Author.Needs.{needs}
+use Rattle.explanation.proofs.kinds.put_initialization.Statement.{statement}
+use Rattle.explanation.proofs.kinds.put_initialization.Tie as tie
+
+slice-aggregate-put-word : tie.Need-slice-aggregate-put-word
+slice-aggregate-put-word c = search needs
+
+put-word-requires : tie.Need-put-word-requires
+put-word-requires c κs = search needs
+
+slice-aggregate-put-number : tie.Need-slice-aggregate-put-number
+slice-aggregate-put-number c = search needs
+
+put-number-requires : tie.Need-put-number-requires
+put-number-requires c κs = search needs
+
+slice-aggregate-put-hexadecimal : tie.Need-slice-aggregate-put-hexadecimal
+slice-aggregate-put-hexadecimal c = search needs
+
+put-hexadecimal-requires : tie.Need-put-hexadecimal-requires
+put-hexadecimal-requires c κs = search needs
+
+slice-aggregate-put-number-2 : tie.Need-slice-aggregate-put-number-2
+slice-aggregate-put-number-2 c = search needs
+
+put-number-requires-2 : tie.Need-put-number-requires-2
+put-number-requires-2 c κs = search needs
+
+slice-aggregate-put-quoted : tie.Need-slice-aggregate-put-quoted
+slice-aggregate-put-quoted c = search needs
+
+put-quoted-requires : tie.Need-put-quoted-requires
+put-quoted-requires c κs = search needs
+
+put-airframe-requires : tie.Need-put-airframe-requires
+put-airframe-requires c κs = search needs
+
+same-length : tie.Need-same-length
+same-length c = search needs
+
+returns : tie.Need-returns
+unfolding messageShown fields
+returns c = then (c .before .before .before .before .before .before .before .before .before .before .before .before .before .before .before .before .before .before .before .before .before .before .before .before .before .before .put-word .ensures) (then (c .before .before .before .before .before .before .before .before .before .before .before .before .before .before .before .before .before .before .before .before .before .put-number .ensures) (then (c .before .before .before .before .before .before .before .before .before .before .before .before .before .before .before .before .put-hexadecimal .ensures) (then (c .before .before .before .before .before .before .before .before .before .before .before .put-number2 .ensures) (then (c .before .before .before .before .before .before .put-quoted .ensures) (c .before .before .put-airframe .ensures)))))
+
+pub put-initialization-spec : {M : Type 1} → statement M
+put-initialization-spec =
+    tie.close
+    (tie.spec
+    slice-aggregate-put-word
+    put-word-requires
+    slice-aggregate-put-number
+    put-number-requires
+    slice-aggregate-put-hexadecimal
+    put-hexadecimal-requires
+    slice-aggregate-put-number-2
+    put-number-requires-2
+    slice-aggregate-put-quoted
+    put-quoted-requires
+    put-airframe-requires
+    same-length
+    returns)

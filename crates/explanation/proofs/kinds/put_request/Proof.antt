@@ -1,0 +1,37 @@
+-- `explanation::kinds::put_request` meets its contract. Assumes nothing.
+use Rattle.explanation.specs.Values.{fields}
+use Rattle.explanation.specs.Kinds.{messageShown}
+use Rattle.explanation.proofs.Clipped.{then, last-piece}
+use borrow.Author.Needs.{needs}
+use Rattle.explanation.proofs.kinds.put_request.Statement.{statement}
+use Rattle.explanation.proofs.kinds.put_request.Tie as tie
+
+slice-aggregate-put-word : tie.Need-slice-aggregate-put-word
+slice-aggregate-put-word c = search needs
+
+put-word-requires : tie.Need-put-word-requires
+put-word-requires c κs = search needs
+
+slice-aggregate-put-number : tie.Need-slice-aggregate-put-number
+slice-aggregate-put-number c = search needs
+
+put-number-requires : tie.Need-put-number-requires
+put-number-requires c κs = search needs
+
+same-length : tie.Need-same-length
+same-length c = search needs
+
+returns : tie.Need-returns
+unfolding messageShown fields
+returns c = then (c .before .before .before .before .before .before .before .put-word .ensures) (last-piece (c .before .before .put-number .ensures))
+
+pub put-request-spec : {M : Type 1} → statement M
+put-request-spec =
+    tie.close
+    (tie.spec
+    slice-aggregate-put-word
+    put-word-requires
+    slice-aggregate-put-number
+    put-number-requires
+    same-length
+    returns)

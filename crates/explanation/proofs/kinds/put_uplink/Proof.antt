@@ -1,0 +1,30 @@
+-- `explanation::kinds::put_uplink` meets its contract. Assumes nothing.
+use denote.Ref.{now}
+use lib.ListN.{drop}
+use Rattle.explanation.proofs.Spelled.{hex-same}
+use Rattle.explanation.specs.Kinds.{messageShown}
+use Rattle.explanation.proofs.Clipped.{then}
+use borrow.Author.Needs.{needs}
+use Rattle.explanation.proofs.kinds.put_uplink.Statement.{statement}
+use Rattle.explanation.proofs.kinds.put_uplink.Tie as tie
+
+slice-aggregate-put-word : tie.Need-slice-aggregate-put-word
+slice-aggregate-put-word c = search needs
+
+put-word-requires : tie.Need-put-word-requires
+put-word-requires c κs = search needs
+
+put-spelled-requires : tie.Need-put-spelled-requires
+put-spelled-requires c κs = search needs
+
+same-length : tie.Need-same-length
+same-length c = search needs
+
+returns : tie.Need-returns
+unfolding messageShown
+returns c = then (c .before .before .before .before .before .before .put-word .ensures) (rw (hex-same (drop 1 (now (c .before .before .before .before .before .before .before .before .before .before .before .args .body)))) at (c .before .before .put-spelled .ensures))
+
+pub put-uplink-spec : {M : Type 1} → statement M
+put-uplink-spec =
+    tie.close
+    (tie.spec slice-aggregate-put-word put-word-requires put-spelled-requires same-length returns)

@@ -1,0 +1,63 @@
+-- `explanation::put_answer` meets its contract, by the answer. Assumes nothing.
+use mathlib.Core.Path.{refl, sym}
+use native.Mathlib.Omega.{arith}
+use denote.Ref.{now}
+use lib.ListN.{length}
+use lib.Seq.{length-take-le}
+use Prim.Native.Nat.{_≤_}
+use Rattle.listing.specs.Listing.{bodyRoom}
+use borrow.Author.Needs.{needs}
+use Rattle.explanation.proofs.put_answer.Statement.{statement}
+use Rattle.explanation.proofs.put_answer.Tie as tie
+
+enum-told : tie.Need-enum-told
+enum-told c = search needs
+
+enum-known-answer : tie.Need-enum-known-answer
+enum-known-answer c = search needs
+
+slice-aggregate-put-body : tie.Need-slice-aggregate-put-body
+slice-aggregate-put-body c =
+    let s = c .before .before .before .before .before .before .before in
+    let h : c .before .before .before .answer .given .0 .0 ≤ bodyRoom = rw (c .before .before .before .answer .given .1) at (s .pre .1) in
+    sym (length-take-le _ _ (omega (arith, s .pre .0)))
+
+put-body-requires : tie.Need-put-body-requires
+put-body-requires c κs = search needs
+
+enum-known-answer-2 : tie.Need-enum-known-answer-2
+enum-known-answer-2 c = search needs
+
+put-refused-requires : tie.Need-put-refused-requires
+put-refused-requires c κs = search needs
+
+returns : tie.Need-returns
+returns c = rw (c .enum-told .given .1) (record { ends = omega arith; leaves = refl })
+
+same-length : tie.Need-same-length
+same-length c = search needs
+
+returns-2 : tie.Need-returns-2
+returns-2 c = rw (c .before .before .before .before .before .before .answer .given .1) (c .before .before .put-body .ensures)
+
+same-length-2 : tie.Need-same-length-2
+same-length-2 c = search needs
+
+returns-3 : tie.Need-returns-3
+returns-3 c = rw (c .before .before .before .before .before .answer2 .given .1) (c .before .before .put-refused .ensures)
+
+pub put-answer-spec : {M : Type 1} → statement M
+put-answer-spec =
+    tie.close
+    (tie.spec
+    enum-told
+    enum-known-answer
+    slice-aggregate-put-body
+    put-body-requires
+    enum-known-answer-2
+    put-refused-requires
+    returns
+    same-length
+    returns-2
+    same-length-2
+    returns-3)

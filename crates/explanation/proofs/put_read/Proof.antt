@@ -1,0 +1,40 @@
+-- `explanation::put_read` meets its contract. Assumes nothing.
+use Rattle.explanation.specs.Explanation.{readLine}
+use Rattle.explanation.proofs.Clipped.{then}
+use borrow.Author.Needs.{needs}
+use Rattle.explanation.proofs.put_read.Statement.{statement}
+use Rattle.explanation.proofs.put_read.Tie as tie
+
+slice-aggregate-put-word : tie.Need-slice-aggregate-put-word
+slice-aggregate-put-word c = search needs
+
+put-word-requires : tie.Need-put-word-requires
+put-word-requires c κs = search needs
+
+put-natural-requires : tie.Need-put-natural-requires
+put-natural-requires c κs = search needs
+
+put-message-requires : tie.Need-put-message-requires
+put-message-requires c κs = search needs
+
+put-octet-requires : tie.Need-put-octet-requires
+put-octet-requires c κs = search needs
+
+same-length : tie.Need-same-length
+same-length c = search needs
+
+returns : tie.Need-returns
+unfolding readLine
+returns c = then (c .before .before .before .before .before .before .before .before .before .before .before .before .before .before .put-word .ensures) (then (c .before .before .before .before .before .before .before .before .before .before .put-natural .ensures) (then (c .before .before .before .before .before .before .put-message .ensures) (c .before .before .put-octet .ensures)))
+
+pub put-read-spec : {M : Type 1} → statement M
+put-read-spec =
+    tie.close
+    (tie.spec
+    slice-aggregate-put-word
+    put-word-requires
+    put-natural-requires
+    put-message-requires
+    put-octet-requires
+    same-length
+    returns)

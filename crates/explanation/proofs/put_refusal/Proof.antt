@@ -1,0 +1,36 @@
+-- `explanation::put_refusal` meets its contract. Assumes nothing.
+use Rattle.explanation.specs.Explanation.{refusal}
+use Rattle.explanation.proofs.Clipped.{then}
+use borrow.Author.Needs.{needs}
+use Rattle.explanation.proofs.put_refusal.Statement.{statement}
+use Rattle.explanation.proofs.put_refusal.Tie as tie
+
+slice-aggregate-put-word : tie.Need-slice-aggregate-put-word
+slice-aggregate-put-word c = search needs
+
+put-word-requires : tie.Need-put-word-requires
+put-word-requires c κs = search needs
+
+put-natural-requires : tie.Need-put-natural-requires
+put-natural-requires c κs = search needs
+
+put-reason-requires : tie.Need-put-reason-requires
+put-reason-requires c κs = search needs
+
+same-length : tie.Need-same-length
+same-length c = search needs
+
+returns : tie.Need-returns
+unfolding refusal
+returns c = then (c .before .before .before .before .before .before .before .before .before .before .put-word .ensures) (then (c .before .before .before .before .before .before .put-natural .ensures) (c .before .before .put-reason .ensures))
+
+pub put-refusal-spec : {M : Type 1} → statement M
+put-refusal-spec =
+    tie.close
+    (tie.spec
+    slice-aggregate-put-word
+    put-word-requires
+    put-natural-requires
+    put-reason-requires
+    same-length
+    returns)

@@ -1,0 +1,20 @@
+-- `explanation::put_refused` meets its contract. Assumes nothing.
+use Rattle.explanation.proofs.Clipped.{then}
+use borrow.Author.Needs.{needs}
+use Rattle.explanation.proofs.put_refused.Statement.{statement}
+use Rattle.explanation.proofs.put_refused.Tie as tie
+
+put-refusal-requires : tie.Need-put-refusal-requires
+put-refusal-requires c κs = search needs
+
+put-octet-requires : tie.Need-put-octet-requires
+put-octet-requires c κs = search needs
+
+same-length : tie.Need-same-length
+same-length c = search needs
+
+returns : tie.Need-returns
+returns c = then (c .before .before .before .before .before .before .put-refusal .ensures) (c .before .before .put-octet .ensures)
+
+pub put-refused-spec : {M : Type 1} → statement M
+put-refused-spec = tie.close (tie.spec put-refusal-requires put-octet-requires same-length returns)

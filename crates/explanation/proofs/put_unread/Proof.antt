@@ -1,0 +1,46 @@
+-- `explanation::put_unread` meets its contract. Assumes nothing.
+use denote.Ref.{now}
+use Rattle.explanation.proofs.Spelled.{hex-same}
+use Rattle.explanation.specs.Explanation.{readLine}
+use Rattle.explanation.proofs.Clipped.{then}
+use borrow.Author.Needs.{needs}
+use Rattle.explanation.proofs.put_unread.Statement.{statement}
+use Rattle.explanation.proofs.put_unread.Tie as tie
+
+put-refusal-requires : tie.Need-put-refusal-requires
+put-refusal-requires c κs = search needs
+
+slice-aggregate-put-word : tie.Need-slice-aggregate-put-word
+slice-aggregate-put-word c = search needs
+
+put-word-requires : tie.Need-put-word-requires
+put-word-requires c κs = search needs
+
+put-natural-requires : tie.Need-put-natural-requires
+put-natural-requires c κs = search needs
+
+put-spelled-requires : tie.Need-put-spelled-requires
+put-spelled-requires c κs = search needs
+
+put-octet-requires : tie.Need-put-octet-requires
+put-octet-requires c κs = search needs
+
+same-length : tie.Need-same-length
+same-length c = search needs
+
+returns : tie.Need-returns
+unfolding readLine
+returns c = then (c .before .before .before .before .before .before .before .before .before .before .before .before .before .before .before .before .before .before .before .put-refusal .ensures) (then (c .before .before .before .before .before .before .before .before .before .before .before .before .before .before .put-word .ensures) (then (c .before .before .before .before .before .before .before .before .before .before .put-natural .ensures) (then (rw (hex-same (now (c .before .before .before .before .before .before .before .before .before .before .before .before .before .before .before .before .before .before .before .before .before .before .before .args .body))) at (c .before .before .before .before .before .before .put-spelled .ensures)) (c .before .before .put-octet .ensures))))
+
+pub put-unread-spec : {M : Type 1} → statement M
+put-unread-spec =
+    tie.close
+    (tie.spec
+    put-refusal-requires
+    slice-aggregate-put-word
+    put-word-requires
+    put-natural-requires
+    put-spelled-requires
+    put-octet-requires
+    same-length
+    returns)

@@ -1,0 +1,5 @@
+pub mod Clips
+pub mod Values
+pub mod Kinds
+pub mod Explanation
+pub mod Calls

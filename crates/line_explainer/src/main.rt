@@ -1,0 +1,122 @@
+// The line explainer: reads standard input to its end, and writes a line for each answer of the receiver that says what it
+// means, and a last line with the counts. `explanation` has the text, `standard_streams` the reading and the writing.
+//
+// Where a read or a write fails the line lister's rules hold: what was explained has been written out, the failure is said on
+// standard error, and no closing line follows.
+ghost use Rattle.receiver.specs.Step.{stateOf};
+ghost use Rattle.listing.specs.Lists.{behindAll};
+ghost use Rattle.standard_streams.specs.Blocks.{Leaves, Zeroed};
+use receiver::Counts;
+use receiver::Rest;
+use standard_streams::Got;
+use standard_streams::Input;
+use standard_streams::Progress;
+
+// Explains the octets of a block, and writes each line out.
+fn explain_block(
+    rest: Rest,
+    counts: Counts,
+    store: &mut [u8; 438],
+    room: &mut [u8; 436],
+    block: &[u8],
+    text: &mut [u8; 1536],
+) -> Progress
+    ensures { λ r. ⌜ Leaves (r .input) (stateOf (r .rest) (now (store .exit))) (r .counts) (behindAll (stateOf rest (now (store .entry))) counts (now (block .entry))) ⌝ }
+{
+    let mut rest = rest;
+    let mut counts = counts;
+    let mut taken = 0;
+    while taken < block.len() {
+        let explained = explanation::explain_next(rest, counts, store, room, &block[taken..], text);
+        let more = explained.taken;
+        rest = more.rest;
+        counts = more.counts;
+        taken += more.taken;
+        let n = explained.written;
+        if !standard_streams::write_first(text, n) {
+            return Progress {
+                rest: rest,
+                counts: counts,
+                input: Input::Failed,
+            };
+        }
+    }
+    Progress {
+        rest: rest,
+        counts: counts,
+        input: Input::More,
+    }
+}
+
+// One block: read, explained and written out.
+fn explain_more(
+    rest: Rest,
+    counts: Counts,
+    store: &mut [u8; 438],
+    room: &mut [u8; 436],
+    block: &mut [u8],
+    text: &mut [u8; 1536],
+) -> Progress {
+    let got = standard_streams::read_block(block);
+    match got {
+        Got::Octets(n) => explain_block(rest, counts, store, room, &block[..n], text),
+        Got::Ended => Progress {
+            rest: rest,
+            counts: counts,
+            input: Input::Ended,
+        },
+        Got::Failed => Progress {
+            rest: rest,
+            counts: counts,
+            input: Input::Failed,
+        },
+    }
+}
+
+// Explains all of the input, and answers whether it came to its end and all was written. The turns are counted down as the
+// line lister counts them.
+fn explain_input(
+    store: &mut [u8; 438],
+    room: &mut [u8; 436],
+    block: &mut [u8],
+    text: &mut [u8; 1536],
+) -> bool {
+    let mut rest = receiver::fresh_rest();
+    let mut counts = receiver::zero_counts();
+    let mut turns = u64::MAX;
+    while turns > 0 {
+        let progress = explain_more(rest, counts, store, room, block, text);
+        rest = progress.rest;
+        counts = progress.counts;
+        let input = progress.input;
+        match input {
+            Input::More => {}
+            Input::Ended => return standard_streams::write_closing(text, counts),
+            Input::Failed => return false,
+        }
+        turns -= 1;
+    }
+    false
+}
+
+// Frames, and what they say, passed through all of these.
+fn clear_lent(store: &mut [u8; 438], room: &mut [u8; 436], block: &mut [u8], text: &mut [u8; 1536])
+    ensures { λ r. ⌜ Zeroed (now (store .entry)) (now (store .exit)) ⌝ }
+    ensures { λ r. ⌜ Zeroed (now (room .entry)) (now (room .exit)) ⌝ }
+    ensures { λ r. ⌜ Zeroed (now (block .entry)) (now (block .exit)) ⌝ }
+    ensures { λ r. ⌜ Zeroed (now (text .entry)) (now (text .exit)) ⌝ }
+{
+    standard_streams::clear_lent(store, room, block, text);
+}
+
+fn main() {
+    let mut store = [0u8; 438];
+    let mut room = [0u8; 436];
+    let mut block = io::large_buffer();
+    let mut text = [0u8; 1536];
+    let whole = explain_input(&mut store, &mut room, &mut block, &mut text);
+    clear_lent(&mut store, &mut room, &mut block, &mut text);
+    if whole {
+        standard_streams::close_output();
+    }
+}

@@ -1,0 +1,57 @@
+-- `standard_streams::write_closing` is safe: the closing line ends within the text. Assumes nothing.
+use mathlib.Core.Path.{sym}
+use mathlib.Core.Bool.{Bool, true, false}
+use mathlib.Core.List.{List}
+use Prim.Native.Nat.{ℕ, _+_, _≤_}
+use native.Mathlib.Omega.{arith}
+use denote.Ref.{now}
+use lib.Dec.{leb}
+use lib.ListN.{length}
+use lib.Seq.{length-take-le}
+use Rattle.receiver.specs.declared.Counts.{Counts}
+use Rattle.listing.specs.Listing.{longestClosing}
+use Rattle.listing.specs.Lists.{ClosesIf, Closes}
+use borrow.Author.Needs.{needs}
+use Rattle.standard_streams.proofs.write_closing.Statement.{statement}
+use Rattle.standard_streams.proofs.write_closing.Tie as tie
+
+within : (before : List ℕ) (counts : Counts) (next : ℕ) (after : List ℕ) → Closes before 0 counts next after → next ≤ length before
+within before counts next after = go (leb (0 + longestClosing) (length before))
+  where
+    go : (b : Bool) → ClosesIf b before 0 counts next after → next ≤ length before
+    go true e = e .within
+    go false e = omega (arith, e .0)
+
+closed-within : (c : tie.After-put-closing) → c .put-closing .result ≤ length (c .put-closing .last .0)
+closed-within c =
+    let s = c .before .before .before in
+    omega (arith, within (now (s .args .text)) (s .args .counts) (c .put-closing .result) (c .put-closing .last .0) (c .put-closing .ensures), c .put-closing .kept .0)
+
+put-closing-requires : tie.Need-put-closing-requires
+put-closing-requires c κs = search needs
+
+slice-reshare-prefix-write-out : tie.Need-slice-reshare-prefix-write-out
+slice-reshare-prefix-write-out c = closed-within (c .before .before)
+
+slice-aggregate-write-out : tie.Need-slice-aggregate-write-out
+slice-aggregate-write-out c = sym (length-take-le _ _ (closed-within (c .before .before .before)))
+
+write-out-requires : tie.Need-write-out-requires
+write-out-requires c κs = search needs
+
+same-length : tie.Need-same-length
+same-length c = search needs
+
+returns : tie.Need-returns
+returns c = search needs
+
+pub write-closing-spec : {M : Type 1} → statement M
+write-closing-spec =
+    tie.close
+    (tie.spec
+    put-closing-requires
+    slice-reshare-prefix-write-out
+    slice-aggregate-write-out
+    write-out-requires
+    same-length
+    returns)

@@ -1,0 +1,28 @@
+-- What a block of the input leaves of the receiver's record, and cleared memory. Assumes nothing.
+use mathlib.Core.Path.{_≡_}
+use mathlib.Core.List.{List}
+use Prim.Native.Nat.{ℕ, _≤_}
+use lib.ListN.{length, replicate}
+use Rattle.receiver.specs.declared.Counts.{Counts}
+use Rattle.receiver.specs.Step.{State}
+use Rattle.listing.specs.Lists.{Behind}
+use Rattle.standard_streams.specs.declared.Got.{Got}
+use Rattle.standard_streams.specs.declared.Got.the-variants.{Octets, Ended as NoMore, Failed as ReadFailed}
+use Rattle.standard_streams.specs.declared.Input.{Input}
+use Rattle.standard_streams.specs.declared.Input.the-variants.{More, Ended, Failed}
+
+-- the input goes on: the record is the one behind the whole block. It does not end in a block; a write may have failed
+abbrev pub Leaves : Input → State → Counts → Behind → Type 0
+Leaves More s c b = (s ≡ b .state) × (c ≡ b .counts)
+Leaves Ended s c b = ⊥
+Leaves Failed s c b = Unit {0}
+
+-- as many octets as before, and all of them 0
+abbrev pub Zeroed : List ℕ → List ℕ → Type 0
+Zeroed before after = after ≡ replicate (length before) 0
+
+-- octets that were read are within the block
+abbrev pub Within : Got → ℕ → Type 0
+Within (Octets n) block = n ≤ block
+Within NoMore block = Unit {0}
+Within ReadFailed block = Unit {0}
