@@ -9,12 +9,11 @@ use Rattle.explanation.proofs.Clipped.{all-put}
 use Rattle.explanation.proofs.Longest.{line-most}
 use Rattle.explanation.proofs.Verdicts.{verdict-told, verdict-fits}
 use denote.Ref.{now}
-use borrow.Author.Needs.{needs}
 use Rattle.explanation.proofs.explain_next.Statement.{statement}
 use Rattle.explanation.proofs.explain_next.Tie as tie
 
 receive-slice-requires : tie.Need-receive-slice-requires
-receive-slice-requires c κs = search needs
+receive-slice-requires c κs = tt
 
 put-answer-requires : tie.Need-put-answer-requires
 put-answer-requires c κs =

@@ -23,13 +23,13 @@ slice-aggregate-put-body c =
     sym (length-take-le _ _ (omega (arith, s .pre .0)))
 
 put-body-requires : tie.Need-put-body-requires
-put-body-requires c κs = search needs
+put-body-requires c κs = tt
 
 enum-known-answer-2 : tie.Need-enum-known-answer-2
 enum-known-answer-2 c = search needs
 
 put-refused-requires : tie.Need-put-refused-requires
-put-refused-requires c κs = search needs
+put-refused-requires c κs = tt
 
 returns : tie.Need-returns
 returns c = rw (c .enum-told .given .1) (record { ends = omega arith; leaves = refl })

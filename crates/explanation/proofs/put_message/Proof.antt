@@ -1,4 +1,5 @@
 -- `explanation::put_message` meets its contract, kind by kind. Assumes nothing.
+use mathlib.Core.Path.{refl}
 use Rattle.explanation.specs.Kinds.{messageShown}
 use borrow.Author.Needs.{needs}
 use Rattle.explanation.proofs.put_message.Statement.{statement}
@@ -8,55 +9,55 @@ enum-known-message : tie.Need-enum-known-message
 enum-known-message c = search needs
 
 put-heartbeat-requires : tie.Need-put-heartbeat-requires
-put-heartbeat-requires c κs = search needs
+put-heartbeat-requires c κs = tt
 
 enum-told : tie.Need-enum-told
 enum-told c = search needs
 
 put-uplink-requires : tie.Need-put-uplink-requires
-put-uplink-requires c κs = search needs
+put-uplink-requires c κs = tt
 
 enum-known-message-2 : tie.Need-enum-known-message-2
 enum-known-message-2 c = search needs
 
 slice-aggregate-put-report : tie.Need-slice-aggregate-put-report
-slice-aggregate-put-report c = search needs
+slice-aggregate-put-report c = refl
 
 put-report-requires : tie.Need-put-report-requires
-put-report-requires c κs = search needs
+put-report-requires c κs = tt
 
 enum-known-message-3 : tie.Need-enum-known-message-3
 enum-known-message-3 c = search needs
 
 put-geometric-requires : tie.Need-put-geometric-requires
-put-geometric-requires c κs = search needs
+put-geometric-requires c κs = tt
 
 enum-known-message-4 : tie.Need-enum-known-message-4
 enum-known-message-4 c = search needs
 
 slice-aggregate-put-report-2 : tie.Need-slice-aggregate-put-report-2
-slice-aggregate-put-report-2 c = search needs
+slice-aggregate-put-report-2 c = refl
 
 put-report-requires-2 : tie.Need-put-report-requires-2
-put-report-requires-2 c κs = search needs
+put-report-requires-2 c κs = tt
 
 enum-known-message-5 : tie.Need-enum-known-message-5
 enum-known-message-5 c = search needs
 
 put-request-requires : tie.Need-put-request-requires
-put-request-requires c κs = search needs
+put-request-requires c κs = tt
 
 enum-known-message-6 : tie.Need-enum-known-message-6
 enum-known-message-6 c = search needs
 
 put-control-requires : tie.Need-put-control-requires
-put-control-requires c κs = search needs
+put-control-requires c κs = tt
 
 enum-known-message-7 : tie.Need-enum-known-message-7
 enum-known-message-7 c = search needs
 
 put-initialization-requires : tie.Need-put-initialization-requires
-put-initialization-requires c κs = search needs
+put-initialization-requires c κs = tt
 
 same-length : tie.Need-same-length
 same-length c = search needs

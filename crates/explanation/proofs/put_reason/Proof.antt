@@ -1,4 +1,5 @@
 -- `explanation::put_reason` meets its contract, by its eleven answers. Assumes nothing.
+use mathlib.Core.Path.{refl}
 use borrow.Author.Tests.{ne-eqb}
 use Rattle.explanation.specs.Explanation.{reason}
 use borrow.Author.Needs.{needs}
@@ -6,70 +7,70 @@ use Rattle.explanation.proofs.put_reason.Statement.{statement}
 use Rattle.explanation.proofs.put_reason.Tie as tie
 
 slice-aggregate-put-word : tie.Need-slice-aggregate-put-word
-slice-aggregate-put-word c = search needs
+slice-aggregate-put-word c = refl
 
 put-word-requires : tie.Need-put-word-requires
-put-word-requires c κs = search needs
+put-word-requires c κs = tt
 
 slice-aggregate-put-word-2 : tie.Need-slice-aggregate-put-word-2
-slice-aggregate-put-word-2 c = search needs
+slice-aggregate-put-word-2 c = refl
 
 put-word-requires-2 : tie.Need-put-word-requires-2
-put-word-requires-2 c κs = search needs
+put-word-requires-2 c κs = tt
 
 slice-aggregate-put-word-3 : tie.Need-slice-aggregate-put-word-3
-slice-aggregate-put-word-3 c = search needs
+slice-aggregate-put-word-3 c = refl
 
 put-word-requires-3 : tie.Need-put-word-requires-3
-put-word-requires-3 c κs = search needs
+put-word-requires-3 c κs = tt
 
 slice-aggregate-put-word-4 : tie.Need-slice-aggregate-put-word-4
-slice-aggregate-put-word-4 c = search needs
+slice-aggregate-put-word-4 c = refl
 
 put-word-requires-4 : tie.Need-put-word-requires-4
-put-word-requires-4 c κs = search needs
+put-word-requires-4 c κs = tt
 
 slice-aggregate-put-word-5 : tie.Need-slice-aggregate-put-word-5
-slice-aggregate-put-word-5 c = search needs
+slice-aggregate-put-word-5 c = refl
 
 put-word-requires-5 : tie.Need-put-word-requires-5
-put-word-requires-5 c κs = search needs
+put-word-requires-5 c κs = tt
 
 slice-aggregate-put-word-6 : tie.Need-slice-aggregate-put-word-6
-slice-aggregate-put-word-6 c = search needs
+slice-aggregate-put-word-6 c = refl
 
 put-word-requires-6 : tie.Need-put-word-requires-6
-put-word-requires-6 c κs = search needs
+put-word-requires-6 c κs = tt
 
 slice-aggregate-put-word-7 : tie.Need-slice-aggregate-put-word-7
-slice-aggregate-put-word-7 c = search needs
+slice-aggregate-put-word-7 c = refl
 
 put-word-requires-7 : tie.Need-put-word-requires-7
-put-word-requires-7 c κs = search needs
+put-word-requires-7 c κs = tt
 
 slice-aggregate-put-word-8 : tie.Need-slice-aggregate-put-word-8
-slice-aggregate-put-word-8 c = search needs
+slice-aggregate-put-word-8 c = refl
 
 put-word-requires-8 : tie.Need-put-word-requires-8
-put-word-requires-8 c κs = search needs
+put-word-requires-8 c κs = tt
 
 slice-aggregate-put-word-9 : tie.Need-slice-aggregate-put-word-9
-slice-aggregate-put-word-9 c = search needs
+slice-aggregate-put-word-9 c = refl
 
 put-word-requires-9 : tie.Need-put-word-requires-9
-put-word-requires-9 c κs = search needs
+put-word-requires-9 c κs = tt
 
 slice-aggregate-put-word-10 : tie.Need-slice-aggregate-put-word-10
-slice-aggregate-put-word-10 c = search needs
+slice-aggregate-put-word-10 c = refl
 
 put-word-requires-10 : tie.Need-put-word-requires-10
-put-word-requires-10 c κs = search needs
+put-word-requires-10 c κs = tt
 
 slice-aggregate-put-word-11 : tie.Need-slice-aggregate-put-word-11
-slice-aggregate-put-word-11 c = search needs
+slice-aggregate-put-word-11 c = refl
 
 put-word-requires-11 : tie.Need-put-word-requires-11
-put-word-requires-11 c κs = search needs
+put-word-requires-11 c κs = tt
 
 same-length : tie.Need-same-length
 same-length c = search needs

@@ -1,4 +1,5 @@
 -- `explanation::put_refusal` meets its contract. Assumes nothing.
+use mathlib.Core.Path.{refl}
 use Rattle.explanation.specs.Explanation.{refusal}
 use Rattle.explanation.proofs.Clipped.{then}
 use borrow.Author.Needs.{needs}
@@ -6,16 +7,16 @@ use Rattle.explanation.proofs.put_refusal.Statement.{statement}
 use Rattle.explanation.proofs.put_refusal.Tie as tie
 
 slice-aggregate-put-word : tie.Need-slice-aggregate-put-word
-slice-aggregate-put-word c = search needs
+slice-aggregate-put-word c = refl
 
 put-word-requires : tie.Need-put-word-requires
-put-word-requires c κs = search needs
+put-word-requires c κs = tt
 
 put-natural-requires : tie.Need-put-natural-requires
-put-natural-requires c κs = search needs
+put-natural-requires c κs = tt
 
 put-reason-requires : tie.Need-put-reason-requires
-put-reason-requires c κs = search needs
+put-reason-requires c κs = tt
 
 same-length : tie.Need-same-length
 same-length c = search needs

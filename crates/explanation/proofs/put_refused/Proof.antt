@@ -5,10 +5,10 @@ use Rattle.explanation.proofs.put_refused.Statement.{statement}
 use Rattle.explanation.proofs.put_refused.Tie as tie
 
 put-refusal-requires : tie.Need-put-refusal-requires
-put-refusal-requires c κs = search needs
+put-refusal-requires c κs = tt
 
 put-octet-requires : tie.Need-put-octet-requires
-put-octet-requires c κs = search needs
+put-octet-requires c κs = tt
 
 same-length : tie.Need-same-length
 same-length c = search needs

@@ -1,4 +1,5 @@
 -- `explanation::kinds::put_control` meets its contract. Assumes nothing.
+use mathlib.Core.Path.{refl}
 use Rattle.explanation.proofs.Parts.{fields-split}
 use Rattle.explanation.specs.Kinds.{controlParts, messageShown}
 use Rattle.explanation.proofs.Clipped.{then}
@@ -7,16 +8,16 @@ use Rattle.explanation.proofs.kinds.put_control.Statement.{statement}
 use Rattle.explanation.proofs.kinds.put_control.Tie as tie
 
 slice-aggregate-put-word : tie.Need-slice-aggregate-put-word
-slice-aggregate-put-word c = search needs
+slice-aggregate-put-word c = refl
 
 put-word-requires : tie.Need-put-word-requires
-put-word-requires c κs = search needs
+put-word-requires c κs = tt
 
 put-modes-requires : tie.Need-put-modes-requires
-put-modes-requires c κs = search needs
+put-modes-requires c κs = tt
 
 put-flight-requires : tie.Need-put-flight-requires
-put-flight-requires c κs = search needs
+put-flight-requires c κs = tt
 
 same-length : tie.Need-same-length
 same-length c = search needs

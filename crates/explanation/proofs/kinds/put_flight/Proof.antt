@@ -1,4 +1,5 @@
 -- `explanation::kinds::put_flight` meets its contract. Assumes nothing.
+use mathlib.Core.Path.{refl}
 use mir.Syntax.{w32}
 use mir.ValLaws.{toZ-ofZ}
 use Rattle.explanation.specs.Values.{fields}
@@ -8,40 +9,40 @@ use Rattle.explanation.proofs.kinds.put_flight.Statement.{statement}
 use Rattle.explanation.proofs.kinds.put_flight.Tie as tie
 
 slice-aggregate-put-number : tie.Need-slice-aggregate-put-number
-slice-aggregate-put-number c = search needs
+slice-aggregate-put-number c = refl
 
 put-number-requires : tie.Need-put-number-requires
-put-number-requires c κs = search needs
+put-number-requires c κs = tt
 
 slice-aggregate-put-truth : tie.Need-slice-aggregate-put-truth
-slice-aggregate-put-truth c = search needs
+slice-aggregate-put-truth c = refl
 
 put-truth-requires : tie.Need-put-truth-requires
-put-truth-requires c κs = search needs
+put-truth-requires c κs = tt
 
 slice-aggregate-put-millimetres : tie.Need-slice-aggregate-put-millimetres
-slice-aggregate-put-millimetres c = search needs
+slice-aggregate-put-millimetres c = refl
 
 put-millimetres-requires : tie.Need-put-millimetres-requires
-put-millimetres-requires c κs = search needs
+put-millimetres-requires c κs = tt
 
 slice-aggregate-put-squawk : tie.Need-slice-aggregate-put-squawk
-slice-aggregate-put-squawk c = search needs
+slice-aggregate-put-squawk c = refl
 
 put-squawk-requires : tie.Need-put-squawk-requires
-put-squawk-requires c κs = search needs
+put-squawk-requires c κs = tt
 
 slice-aggregate-put-number-2 : tie.Need-slice-aggregate-put-number-2
-slice-aggregate-put-number-2 c = search needs
+slice-aggregate-put-number-2 c = refl
 
 put-number-requires-2 : tie.Need-put-number-requires-2
-put-number-requires-2 c κs = search needs
+put-number-requires-2 c κs = tt
 
 slice-aggregate-put-quoted : tie.Need-slice-aggregate-put-quoted
-slice-aggregate-put-quoted c = search needs
+slice-aggregate-put-quoted c = refl
 
 put-quoted-requires : tie.Need-put-quoted-requires
-put-quoted-requires c κs = search needs
+put-quoted-requires c κs = tt
 
 same-length : tie.Need-same-length
 same-length c = search needs

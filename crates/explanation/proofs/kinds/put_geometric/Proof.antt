@@ -1,4 +1,5 @@
 -- `explanation::kinds::put_geometric` meets its contract. Assumes nothing.
+use mathlib.Core.Path.{refl}
 use mir.Syntax.{w16, w32}
 use mir.ValLaws.{toZ-ofZ}
 use Rattle.explanation.specs.Values.{fields}
@@ -9,31 +10,31 @@ use Rattle.explanation.proofs.kinds.put_geometric.Statement.{statement}
 use Rattle.explanation.proofs.kinds.put_geometric.Tie as tie
 
 slice-aggregate-put-word : tie.Need-slice-aggregate-put-word
-slice-aggregate-put-word c = search needs
+slice-aggregate-put-word c = refl
 
 put-word-requires : tie.Need-put-word-requires
-put-word-requires c κs = search needs
+put-word-requires c κs = tt
 
 geometric-altitude-in-feet-requires : tie.Need-geometric-altitude-in-feet-requires
-geometric-altitude-in-feet-requires c κs = search needs
+geometric-altitude-in-feet-requires c κs = tt
 
 slice-aggregate-put-measure : tie.Need-slice-aggregate-put-measure
-slice-aggregate-put-measure c = search needs
+slice-aggregate-put-measure c = refl
 
 slice-aggregate-put-measure-2 : tie.Need-slice-aggregate-put-measure-2
-slice-aggregate-put-measure-2 c = search needs
+slice-aggregate-put-measure-2 c = refl
 
 put-measure-requires : tie.Need-put-measure-requires
-put-measure-requires c κs = search needs
+put-measure-requires c κs = tt
 
 slice-aggregate-put-hexadecimal : tie.Need-slice-aggregate-put-hexadecimal
-slice-aggregate-put-hexadecimal c = search needs
+slice-aggregate-put-hexadecimal c = refl
 
 cast-put-hexadecimal : tie.Need-cast-put-hexadecimal
 cast-put-hexadecimal c = search needs
 
 put-hexadecimal-requires : tie.Need-put-hexadecimal-requires
-put-hexadecimal-requires c κs = search needs
+put-hexadecimal-requires c κs = tt
 
 same-length : tie.Need-same-length
 same-length c = search needs

@@ -1,4 +1,5 @@
 -- `explanation::kinds::put_heartbeat` meets its contract. Assumes nothing.
+use mathlib.Core.Path.{refl}
 use Rattle.explanation.specs.Values.{fields}
 use Rattle.explanation.specs.Kinds.{messageShown}
 use Rattle.explanation.proofs.Clipped.{clips-long, then, last-piece}
@@ -7,49 +8,49 @@ use Rattle.explanation.proofs.kinds.put_heartbeat.Statement.{statement}
 use Rattle.explanation.proofs.kinds.put_heartbeat.Tie as tie
 
 slice-aggregate-put-word : tie.Need-slice-aggregate-put-word
-slice-aggregate-put-word c = search needs
+slice-aggregate-put-word c = refl
 
 put-word-requires : tie.Need-put-word-requires
-put-word-requires c κs = search needs
+put-word-requires c κs = tt
 
 slice-aggregate-put-hexadecimal : tie.Need-slice-aggregate-put-hexadecimal
-slice-aggregate-put-hexadecimal c = search needs
+slice-aggregate-put-hexadecimal c = refl
 
 cast-put-hexadecimal : tie.Need-cast-put-hexadecimal
 cast-put-hexadecimal c = search needs
 
 put-hexadecimal-requires : tie.Need-put-hexadecimal-requires
-put-hexadecimal-requires c κs = search needs
+put-hexadecimal-requires c κs = tt
 
 slice-aggregate-put-hexadecimal-2 : tie.Need-slice-aggregate-put-hexadecimal-2
-slice-aggregate-put-hexadecimal-2 c = search needs
+slice-aggregate-put-hexadecimal-2 c = refl
 
 cast-put-hexadecimal-2 : tie.Need-cast-put-hexadecimal-2
 cast-put-hexadecimal-2 c = search needs
 
 put-hexadecimal-requires-2 : tie.Need-put-hexadecimal-requires-2
-put-hexadecimal-requires-2 c κs = search needs
+put-hexadecimal-requires-2 c κs = tt
 
 slice-aggregate-put-amount : tie.Need-slice-aggregate-put-amount
-slice-aggregate-put-amount c = search needs
+slice-aggregate-put-amount c = refl
 
 since-midnight-requires : tie.Need-since-midnight-requires
-since-midnight-requires c κs = search needs
+since-midnight-requires c κs = tt
 
 slice-aggregate-put-amount-2 : tie.Need-slice-aggregate-put-amount-2
-slice-aggregate-put-amount-2 c = search needs
+slice-aggregate-put-amount-2 c = refl
 
 put-amount-requires : tie.Need-put-amount-requires
-put-amount-requires c κs = search needs
+put-amount-requires c κs = tt
 
 slice-aggregate-put-hexadecimal-3 : tie.Need-slice-aggregate-put-hexadecimal-3
-slice-aggregate-put-hexadecimal-3 c = search needs
+slice-aggregate-put-hexadecimal-3 c = refl
 
 cast-put-hexadecimal-3 : tie.Need-cast-put-hexadecimal-3
 cast-put-hexadecimal-3 c = search needs
 
 put-hexadecimal-requires-3 : tie.Need-put-hexadecimal-requires-3
-put-hexadecimal-requires-3 c κs = search needs
+put-hexadecimal-requires-3 c κs = tt
 
 returns : tie.Need-returns
 unfolding messageShown fields

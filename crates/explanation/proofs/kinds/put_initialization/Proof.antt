@@ -1,4 +1,5 @@
 -- `explanation::kinds::put_initialization` meets its contract. Assumes nothing.
+use mathlib.Core.Path.{refl}
 use Rattle.explanation.specs.Values.{fields}
 use Rattle.explanation.specs.Kinds.{messageShown}
 use Rattle.explanation.proofs.Clipped.{then}
@@ -7,37 +8,37 @@ use Rattle.explanation.proofs.kinds.put_initialization.Statement.{state
 use Rattle.explanation.proofs.kinds.put_initialization.Tie as tie
 
 slice-aggregate-put-word : tie.Need-slice-aggregate-put-word
-slice-aggregate-put-word c = search needs
+slice-aggregate-put-word c = refl
 
 put-word-requires : tie.Need-put-word-requires
-put-word-requires c κs = search needs
+put-word-requires c κs = tt
 
 slice-aggregate-put-number : tie.Need-slice-aggregate-put-number
-slice-aggregate-put-number c = search needs
+slice-aggregate-put-number c = refl
 
 put-number-requires : tie.Need-put-number-requires
-put-number-requires c κs = search needs
+put-number-requires c κs = tt
 
 slice-aggregate-put-hexadecimal : tie.Need-slice-aggregate-put-hexadecimal
-slice-aggregate-put-hexadecimal c = search needs
+slice-aggregate-put-hexadecimal c = refl
 
 put-hexadecimal-requires : tie.Need-put-hexadecimal-requires
-put-hexadecimal-requires c κs = search needs
+put-hexadecimal-requires c κs = tt
 
 slice-aggregate-put-number-2 : tie.Need-slice-aggregate-put-number-2
-slice-aggregate-put-number-2 c = search needs
+slice-aggregate-put-number-2 c = refl
 
 put-number-requires-2 : tie.Need-put-number-requires-2
-put-number-requires-2 c κs = search needs
+put-number-requires-2 c κs = tt
 
 slice-aggregate-put-quoted : tie.Need-slice-aggregate-put-quoted
-slice-aggregate-put-quoted c = search needs
+slice-aggregate-put-quoted c = refl
 
 put-quoted-requires : tie.Need-put-quoted-requires
-put-quoted-requires c κs = search needs
+put-quoted-requires c κs = tt
 
 put-airframe-requires : tie.Need-put-airframe-requires
-put-airframe-requires c κs = search needs
+put-airframe-requires c κs = tt
 
 same-length : tie.Need-same-length
 same-length c = search needs

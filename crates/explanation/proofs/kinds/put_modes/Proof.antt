@@ -1,4 +1,5 @@
 -- `explanation::kinds::put_modes` meets its contract. Assumes nothing.
+use mathlib.Core.Path.{refl}
 use Rattle.explanation.specs.Values.{fields}
 use Rattle.explanation.proofs.Clipped.{then, last-piece}
 use borrow.Author.Needs.{needs}
@@ -6,34 +7,34 @@ use Rattle.explanation.proofs.kinds.put_modes.Statement.{statement}
 use Rattle.explanation.proofs.kinds.put_modes.Tie as tie
 
 slice-aggregate-put-truth : tie.Need-slice-aggregate-put-truth
-slice-aggregate-put-truth c = search needs
+slice-aggregate-put-truth c = refl
 
 put-truth-requires : tie.Need-put-truth-requires
-put-truth-requires c κs = search needs
+put-truth-requires c κs = tt
 
 slice-aggregate-put-truth-2 : tie.Need-slice-aggregate-put-truth-2
-slice-aggregate-put-truth-2 c = search needs
+slice-aggregate-put-truth-2 c = refl
 
 put-truth-requires-2 : tie.Need-put-truth-requires-2
-put-truth-requires-2 c κs = search needs
+put-truth-requires-2 c κs = tt
 
 slice-aggregate-put-truth-3 : tie.Need-slice-aggregate-put-truth-3
-slice-aggregate-put-truth-3 c = search needs
+slice-aggregate-put-truth-3 c = refl
 
 put-truth-requires-3 : tie.Need-put-truth-requires-3
-put-truth-requires-3 c κs = search needs
+put-truth-requires-3 c κs = tt
 
 slice-aggregate-put-truth-4 : tie.Need-slice-aggregate-put-truth-4
-slice-aggregate-put-truth-4 c = search needs
+slice-aggregate-put-truth-4 c = refl
 
 put-truth-requires-4 : tie.Need-put-truth-requires-4
-put-truth-requires-4 c κs = search needs
+put-truth-requires-4 c κs = tt
 
 slice-aggregate-put-truth-5 : tie.Need-slice-aggregate-put-truth-5
-slice-aggregate-put-truth-5 c = search needs
+slice-aggregate-put-truth-5 c = refl
 
 put-truth-requires-5 : tie.Need-put-truth-requires-5
-put-truth-requires-5 c κs = search needs
+put-truth-requires-5 c κs = tt
 
 same-length : tie.Need-same-length
 same-length c = search needs

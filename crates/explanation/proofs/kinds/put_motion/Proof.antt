@@ -1,53 +1,53 @@
 -- `explanation::kinds::put_motion` meets its contract. Assumes nothing.
+use mathlib.Core.Path.{refl}
 use mir.Syntax.{w16}
 use mir.ValLaws.{toZ-ofZ}
 use Rattle.explanation.specs.Values.{fields}
 use Rattle.explanation.proofs.Clipped.{clips-long, then, last-piece}
-use borrow.Author.Needs.{needs}
 use Rattle.explanation.proofs.kinds.put_motion.Statement.{statement}
 use Rattle.explanation.proofs.kinds.put_motion.Tie as tie
 
 slice-aggregate-put-altitude : tie.Need-slice-aggregate-put-altitude
-slice-aggregate-put-altitude c = search needs
+slice-aggregate-put-altitude c = refl
 
 put-altitude-requires : tie.Need-put-altitude-requires
-put-altitude-requires c κs = search needs
+put-altitude-requires c κs = tt
 
 slice-aggregate-put-number : tie.Need-slice-aggregate-put-number
-slice-aggregate-put-number c = search needs
+slice-aggregate-put-number c = refl
 
 put-number-requires : tie.Need-put-number-requires
-put-number-requires c κs = search needs
+put-number-requires c κs = tt
 
 slice-aggregate-put-number-2 : tie.Need-slice-aggregate-put-number-2
-slice-aggregate-put-number-2 c = search needs
+slice-aggregate-put-number-2 c = refl
 
 put-number-requires-2 : tie.Need-put-number-requires-2
-put-number-requires-2 c κs = search needs
+put-number-requires-2 c κs = tt
 
 slice-aggregate-put-number-3 : tie.Need-slice-aggregate-put-number-3
-slice-aggregate-put-number-3 c = search needs
+slice-aggregate-put-number-3 c = refl
 
 put-number-requires-3 : tie.Need-put-number-requires-3
-put-number-requires-3 c κs = search needs
+put-number-requires-3 c κs = tt
 
 slice-aggregate-put-knots : tie.Need-slice-aggregate-put-knots
-slice-aggregate-put-knots c = search needs
+slice-aggregate-put-knots c = refl
 
 put-knots-requires : tie.Need-put-knots-requires
-put-knots-requires c κs = search needs
+put-knots-requires c κs = tt
 
 slice-aggregate-put-rate : tie.Need-slice-aggregate-put-rate
-slice-aggregate-put-rate c = search needs
+slice-aggregate-put-rate c = refl
 
 put-rate-requires : tie.Need-put-rate-requires
-put-rate-requires c κs = search needs
+put-rate-requires c κs = tt
 
 slice-aggregate-put-track : tie.Need-slice-aggregate-put-track
-slice-aggregate-put-track c = search needs
+slice-aggregate-put-track c = refl
 
 put-track-requires : tie.Need-put-track-requires
-put-track-requires c κs = search needs
+put-track-requires c κs = tt
 
 returns : tie.Need-returns
 unfolding fields

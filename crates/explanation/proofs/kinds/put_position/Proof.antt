@@ -1,41 +1,41 @@
 -- `explanation::kinds::put_position` meets its contract. Assumes nothing.
+use mathlib.Core.Path.{refl}
 use mir.Syntax.{w32}
 use mir.ValLaws.{toZ-ofZ}
 use Rattle.explanation.specs.Values.{fields}
 use Rattle.explanation.proofs.Clipped.{clips-long, then, last-piece}
-use borrow.Author.Needs.{needs}
 use Rattle.explanation.proofs.kinds.put_position.Statement.{statement}
 use Rattle.explanation.proofs.kinds.put_position.Tie as tie
 
 slice-aggregate-put-number : tie.Need-slice-aggregate-put-number
-slice-aggregate-put-number c = search needs
+slice-aggregate-put-number c = refl
 
 put-number-requires : tie.Need-put-number-requires
-put-number-requires c κs = search needs
+put-number-requires c κs = tt
 
 slice-aggregate-put-number-2 : tie.Need-slice-aggregate-put-number-2
-slice-aggregate-put-number-2 c = search needs
+slice-aggregate-put-number-2 c = refl
 
 put-number-requires-2 : tie.Need-put-number-requires-2
-put-number-requires-2 c κs = search needs
+put-number-requires-2 c κs = tt
 
 slice-aggregate-put-hexadecimal : tie.Need-slice-aggregate-put-hexadecimal
-slice-aggregate-put-hexadecimal c = search needs
+slice-aggregate-put-hexadecimal c = refl
 
 put-hexadecimal-requires : tie.Need-put-hexadecimal-requires
-put-hexadecimal-requires c κs = search needs
+put-hexadecimal-requires c κs = tt
 
 slice-aggregate-put-angle : tie.Need-slice-aggregate-put-angle
-slice-aggregate-put-angle c = search needs
+slice-aggregate-put-angle c = refl
 
 put-angle-requires : tie.Need-put-angle-requires
-put-angle-requires c κs = search needs
+put-angle-requires c κs = tt
 
 slice-aggregate-put-angle-2 : tie.Need-slice-aggregate-put-angle-2
-slice-aggregate-put-angle-2 c = search needs
+slice-aggregate-put-angle-2 c = refl
 
 put-angle-requires-2 : tie.Need-put-angle-requires-2
-put-angle-requires-2 c κs = search needs
+put-angle-requires-2 c κs = tt
 
 returns : tie.Need-returns
 unfolding fields

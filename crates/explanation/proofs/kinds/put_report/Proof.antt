@@ -8,16 +8,16 @@ use Rattle.explanation.proofs.kinds.put_report.Statement.{statement}
 use Rattle.explanation.proofs.kinds.put_report.Tie as tie
 
 put-word-requires : tie.Need-put-word-requires
-put-word-requires c κs = search needs
+put-word-requires c κs = tt
 
 put-position-requires : tie.Need-put-position-requires
-put-position-requires c κs = search needs
+put-position-requires c κs = tt
 
 put-motion-requires : tie.Need-put-motion-requires
-put-motion-requires c κs = search needs
+put-motion-requires c κs = tt
 
 put-vehicle-requires : tie.Need-put-vehicle-requires
-put-vehicle-requires c κs = search needs
+put-vehicle-requires c κs = tt
 
 same-length : tie.Need-same-length
 same-length c = search needs

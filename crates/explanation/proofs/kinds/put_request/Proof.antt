@@ -1,4 +1,5 @@
 -- `explanation::kinds::put_request` meets its contract. Assumes nothing.
+use mathlib.Core.Path.{refl}
 use Rattle.explanation.specs.Values.{fields}
 use Rattle.explanation.specs.Kinds.{messageShown}
 use Rattle.explanation.proofs.Clipped.{then, last-piece}
@@ -7,16 +8,16 @@ use Rattle.explanation.proofs.kinds.put_request.Statement.{statement}
 use Rattle.explanation.proofs.kinds.put_request.Tie as tie
 
 slice-aggregate-put-word : tie.Need-slice-aggregate-put-word
-slice-aggregate-put-word c = search needs
+slice-aggregate-put-word c = refl
 
 put-word-requires : tie.Need-put-word-requires
-put-word-requires c κs = search needs
+put-word-requires c κs = tt
 
 slice-aggregate-put-number : tie.Need-slice-aggregate-put-number
-slice-aggregate-put-number c = search needs
+slice-aggregate-put-number c = refl
 
 put-number-requires : tie.Need-put-number-requires
-put-number-requires c κs = search needs
+put-number-requires c κs = tt
 
 same-length : tie.Need-same-length
 same-length c = search needs

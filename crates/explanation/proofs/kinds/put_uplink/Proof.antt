@@ -1,4 +1,5 @@
 -- `explanation::kinds::put_uplink` meets its contract. Assumes nothing.
+use mathlib.Core.Path.{refl}
 use denote.Ref.{now}
 use lib.ListN.{drop}
 use Rattle.explanation.proofs.Spelled.{hex-same}
@@ -9,13 +10,13 @@ use Rattle.explanation.proofs.kinds.put_uplink.Statement.{statement}
 use Rattle.explanation.proofs.kinds.put_uplink.Tie as tie
 
 slice-aggregate-put-word : tie.Need-slice-aggregate-put-word
-slice-aggregate-put-word c = search needs
+slice-aggregate-put-word c = refl
 
 put-word-requires : tie.Need-put-word-requires
-put-word-requires c κs = search needs
+put-word-requires c κs = tt
 
 put-spelled-requires : tie.Need-put-spelled-requires
-put-spelled-requires c κs = search needs
+put-spelled-requires c κs = tt
 
 same-length : tie.Need-same-length
 same-length c = search needs

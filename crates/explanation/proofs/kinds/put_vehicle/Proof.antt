@@ -1,4 +1,5 @@
 -- `explanation::kinds::put_vehicle` meets its contract. Assumes nothing.
+use mathlib.Core.Path.{refl}
 use Rattle.explanation.specs.Values.{fields}
 use Rattle.explanation.proofs.Clipped.{then, last-piece}
 use borrow.Author.Needs.{needs}
@@ -6,28 +7,28 @@ use Rattle.explanation.proofs.kinds.put_vehicle.Statement.{statement}
 use Rattle.explanation.proofs.kinds.put_vehicle.Tie as tie
 
 slice-aggregate-put-number : tie.Need-slice-aggregate-put-number
-slice-aggregate-put-number c = search needs
+slice-aggregate-put-number c = refl
 
 put-number-requires : tie.Need-put-number-requires
-put-number-requires c κs = search needs
+put-number-requires c κs = tt
 
 slice-aggregate-put-quoted : tie.Need-slice-aggregate-put-quoted
-slice-aggregate-put-quoted c = search needs
+slice-aggregate-put-quoted c = refl
 
 put-quoted-requires : tie.Need-put-quoted-requires
-put-quoted-requires c κs = search needs
+put-quoted-requires c κs = tt
 
 slice-aggregate-put-number-2 : tie.Need-slice-aggregate-put-number-2
-slice-aggregate-put-number-2 c = search needs
+slice-aggregate-put-number-2 c = refl
 
 put-number-requires-2 : tie.Need-put-number-requires-2
-put-number-requires-2 c κs = search needs
+put-number-requires-2 c κs = tt
 
 slice-aggregate-put-number-3 : tie.Need-slice-aggregate-put-number-3
-slice-aggregate-put-number-3 c = search needs
+slice-aggregate-put-number-3 c = refl
 
 put-number-requires-3 : tie.Need-put-number-requires-3
-put-number-requires-3 c κs = search needs
+put-number-requires-3 c κs = tt
 
 same-length : tie.Need-same-length
 same-length c = search needs

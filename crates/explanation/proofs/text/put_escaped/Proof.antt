@@ -7,10 +7,10 @@ use Rattle.explanation.proofs.text.put_escaped.Statement.{statement}
 use Rattle.explanation.proofs.text.put_escaped.Tie as tie
 
 is-plain-requires : tie.Need-is-plain-requires
-is-plain-requires c κs = search needs
+is-plain-requires c κs = tt
 
 put-octet-requires : tie.Need-put-octet-requires
-put-octet-requires c κs = search needs
+put-octet-requires c κs = tt
 
 same-length : tie.Need-same-length
 same-length c = search needs
@@ -20,13 +20,13 @@ unfolding escaped
 returns c = rw (sym (c .before .before .before .before .before .is-plain .ensures) ∙ c .before .before .before .before .if1 .taken) (c .before .before .put-octet .ensures)
 
 put-octet-requires-2 : tie.Need-put-octet-requires-2
-put-octet-requires-2 c κs = search needs
+put-octet-requires-2 c κs = tt
 
 put-octet-requires-3 : tie.Need-put-octet-requires-3
-put-octet-requires-3 c κs = search needs
+put-octet-requires-3 c κs = tt
 
 put-pair-requires : tie.Need-put-pair-requires
-put-pair-requires c κs = search needs
+put-pair-requires c κs = tt
 
 same-length-2 : tie.Need-same-length-2
 same-length-2 c = search needs

@@ -6,10 +6,10 @@ use Rattle.explanation.proofs.text.put_hex.Statement.{statement}
 use Rattle.explanation.proofs.text.put_hex.Tie as tie
 
 put-octet-requires : tie.Need-put-octet-requires
-put-octet-requires c κs = search needs
+put-octet-requires c κs = tt
 
 put-pair-requires : tie.Need-put-pair-requires
-put-pair-requires c κs = search needs
+put-pair-requires c κs = tt
 
 same-length : tie.Need-same-length
 same-length c = search needs

@@ -8,13 +8,13 @@ use Rattle.explanation.proofs.text.put_integer.Statement.{statement}
 use Rattle.explanation.proofs.text.put_integer.Tie as tie
 
 put-minus-requires : tie.Need-put-minus-requires
-put-minus-requires c κs = search needs
+put-minus-requires c κs = tt
 
 size-requires : tie.Need-size-requires
-size-requires c κs = search needs
+size-requires c κs = tt
 
 put-natural-requires : tie.Need-put-natural-requires
-put-natural-requires c κs = search needs
+put-natural-requires c κs = tt
 
 same-length : tie.Need-same-length
 same-length c = search needs

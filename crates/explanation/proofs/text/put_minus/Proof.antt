@@ -5,7 +5,7 @@ use Rattle.explanation.proofs.text.put_minus.Statement.{statement}
 use Rattle.explanation.proofs.text.put_minus.Tie as tie
 
 put-octet-requires : tie.Need-put-octet-requires
-put-octet-requires c κs = search needs
+put-octet-requires c κs = tt
 
 same-length : tie.Need-same-length
 same-length c = search needs
@@ -14,7 +14,7 @@ returns : tie.Need-returns
 returns c = rw (minus-negative (c .before .before .before .before .before .before .args .n) (c .before .before .before .before .before .before .fits .n) (c .before .before .before .before .if1 .taken)) (c .before .before .put-octet .ensures)
 
 put-nothing-requires : tie.Need-put-nothing-requires
-put-nothing-requires c κs = search needs
+put-nothing-requires c κs = tt
 
 same-length-2 : tie.Need-same-length-2
 same-length-2 c = search needs

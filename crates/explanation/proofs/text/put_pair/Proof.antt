@@ -8,13 +8,13 @@ digit-requires : tie.Need-digit-requires
 digit-requires c κs = search needs
 
 put-octet-requires : tie.Need-put-octet-requires
-put-octet-requires c κs = search needs
+put-octet-requires c κs = tt
 
 digit-requires-2 : tie.Need-digit-requires-2
 digit-requires-2 c κs = search needs
 
 put-octet-requires-2 : tie.Need-put-octet-requires-2
-put-octet-requires-2 c κs = search needs
+put-octet-requires-2 c κs = tt
 
 same-length : tie.Need-same-length
 same-length c = search needs

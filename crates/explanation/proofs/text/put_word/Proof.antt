@@ -6,7 +6,7 @@ use Rattle.explanation.proofs.text.put_word.Statement.{statement}
 use Rattle.explanation.proofs.text.put_word.Tie as tie
 
 put-spelled-requires : tie.Need-put-spelled-requires
-put-spelled-requires c κs = search needs
+put-spelled-requires c κs = tt
 
 same-length : tie.Need-same-length
 same-length c = search needs

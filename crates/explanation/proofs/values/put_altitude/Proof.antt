@@ -6,13 +6,13 @@ use Rattle.explanation.proofs.values.put_altitude.Statement.{statement}
 use Rattle.explanation.proofs.values.put_altitude.Tie as tie
 
 put-label-requires : tie.Need-put-label-requires
-put-label-requires c κs = search needs
+put-label-requires c κs = tt
 
 altitude-in-feet-requires : tie.Need-altitude-in-feet-requires
-altitude-in-feet-requires c κs = search needs
+altitude-in-feet-requires c κs = tt
 
 put-feet-requires : tie.Need-put-feet-requires
-put-feet-requires c κs = search needs
+put-feet-requires c κs = tt
 
 same-length : tie.Need-same-length
 same-length c = search needs

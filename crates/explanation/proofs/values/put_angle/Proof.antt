@@ -8,10 +8,10 @@ use Rattle.explanation.proofs.values.put_angle.Statement.{statement}
 use Rattle.explanation.proofs.values.put_angle.Tie as tie
 
 put-label-requires : tie.Need-put-label-requires
-put-label-requires c κs = search needs
+put-label-requires c κs = tt
 
 degrees-e7-requires : tie.Need-degrees-e7-requires
-degrees-e7-requires c κs = search needs
+degrees-e7-requires c κs = tt
 
 put-point-requires : tie.Need-put-point-requires
 put-point-requires c κs = search needs

@@ -5,13 +5,13 @@ use Rattle.explanation.proofs.values.put_label.Statement.{statement}
 use Rattle.explanation.proofs.values.put_label.Tie as tie
 
 put-octet-requires : tie.Need-put-octet-requires
-put-octet-requires c κs = search needs
+put-octet-requires c κs = tt
 
 put-word-requires : tie.Need-put-word-requires
-put-word-requires c κs = search needs
+put-word-requires c κs = tt
 
 put-octet-requires-2 : tie.Need-put-octet-requires-2
-put-octet-requires-2 c κs = search needs
+put-octet-requires-2 c κs = tt
 
 same-length : tie.Need-same-length
 same-length c = search needs

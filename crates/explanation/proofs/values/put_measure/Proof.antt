@@ -8,10 +8,10 @@ use Rattle.explanation.proofs.values.put_measure.Statement.{statement}
 use Rattle.explanation.proofs.values.put_measure.Tie as tie
 
 put-label-requires : tie.Need-put-label-requires
-put-label-requires c κs = search needs
+put-label-requires c κs = tt
 
 put-integer-in-requires : tie.Need-put-integer-in-requires
-put-integer-in-requires c κs = search needs
+put-integer-in-requires c κs = tt
 
 same-length : tie.Need-same-length
 same-length c = search needs

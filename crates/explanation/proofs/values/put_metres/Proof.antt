@@ -1,4 +1,5 @@
 -- `explanation::values::put_metres` meets its contract, with data and without. Assumes nothing.
+use mathlib.Core.Path.{refl}
 use mir.Syntax.{w32, w64}
 use mir.ValLaws.{toZ-ofZ}
 use Rattle.message_meanings.proofs.Scaled.{wider}
@@ -10,10 +11,10 @@ use Rattle.explanation.proofs.values.put_metres.Statement.{statement}
 use Rattle.explanation.proofs.values.put_metres.Tie as tie
 
 slice-aggregate-put-word : tie.Need-slice-aggregate-put-word
-slice-aggregate-put-word c = search needs
+slice-aggregate-put-word c = refl
 
 put-word-requires : tie.Need-put-word-requires
-put-word-requires c κs = search needs
+put-word-requires c κs = tt
 
 same-length : tie.Need-same-length
 same-length c = search needs
@@ -32,10 +33,10 @@ put-point-requires : tie.Need-put-point-requires
 put-point-requires c κs = search needs
 
 slice-aggregate-put-unit : tie.Need-slice-aggregate-put-unit
-slice-aggregate-put-unit c = search needs
+slice-aggregate-put-unit c = refl
 
 put-unit-requires : tie.Need-put-unit-requires
-put-unit-requires c κs = search needs
+put-unit-requires c κs = tt
 
 same-length-2 : tie.Need-same-length-2
 same-length-2 c = search needs

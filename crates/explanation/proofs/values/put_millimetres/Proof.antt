@@ -8,10 +8,10 @@ use Rattle.explanation.proofs.values.put_millimetres.Statement.{stateme
 use Rattle.explanation.proofs.values.put_millimetres.Tie as tie
 
 put-label-requires : tie.Need-put-label-requires
-put-label-requires c κs = search needs
+put-label-requires c κs = tt
 
 put-metres-requires : tie.Need-put-metres-requires
-put-metres-requires c κs = search needs
+put-metres-requires c κs = tt
 
 same-length : tie.Need-same-length
 same-length c = search needs

@@ -1,4 +1,5 @@
 -- `explanation::values::put_quoted` meets its contract. Assumes nothing.
+use mathlib.Core.Path.{refl}
 use Rattle.explanation.specs.Values.{shown}
 use Rattle.explanation.proofs.Clipped.{then}
 use borrow.Author.Needs.{needs}
@@ -6,19 +7,19 @@ use Rattle.explanation.proofs.values.put_quoted.Statement.{statement}
 use Rattle.explanation.proofs.values.put_quoted.Tie as tie
 
 put-label-requires : tie.Need-put-label-requires
-put-label-requires c κs = search needs
+put-label-requires c κs = tt
 
 put-octet-requires : tie.Need-put-octet-requires
-put-octet-requires c κs = search needs
+put-octet-requires c κs = tt
 
 slice-aggregate-put-spelled : tie.Need-slice-aggregate-put-spelled
-slice-aggregate-put-spelled c = search needs
+slice-aggregate-put-spelled c = refl
 
 put-spelled-requires : tie.Need-put-spelled-requires
-put-spelled-requires c κs = search needs
+put-spelled-requires c κs = tt
 
 put-octet-requires-2 : tie.Need-put-octet-requires-2
-put-octet-requires-2 c κs = search needs
+put-octet-requires-2 c κs = tt
 
 same-length : tie.Need-same-length
 same-length c = search needs

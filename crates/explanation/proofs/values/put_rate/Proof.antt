@@ -8,13 +8,13 @@ use Rattle.explanation.proofs.values.put_rate.Statement.{statement}
 use Rattle.explanation.proofs.values.put_rate.Tie as tie
 
 put-label-requires : tie.Need-put-label-requires
-put-label-requires c κs = search needs
+put-label-requires c κs = tt
 
 rate-in-feet-per-minute-requires : tie.Need-rate-in-feet-per-minute-requires
-rate-in-feet-per-minute-requires c κs = search needs
+rate-in-feet-per-minute-requires c κs = tt
 
 put-climb-requires : tie.Need-put-climb-requires
-put-climb-requires c κs = search needs
+put-climb-requires c κs = tt
 
 same-length : tie.Need-same-length
 same-length c = search needs

@@ -15,7 +15,7 @@ cast-put-angle : tie.Need-cast-put-angle
 cast-put-angle c = search needs
 
 put-angle-requires : tie.Need-put-angle-requires
-put-angle-requires c κs = search needs
+put-angle-requires c κs = tt
 
 same-length : tie.Need-same-length
 same-length c = search needs

@@ -1,4 +1,5 @@
 -- `explanation::values::put_truth` meets its contract, by the value. Assumes nothing.
+use mathlib.Core.Path.{refl}
 use Rattle.explanation.specs.Values.{shown}
 use Rattle.explanation.proofs.Clipped.{then}
 use borrow.Author.Needs.{needs}
@@ -6,13 +7,13 @@ use Rattle.explanation.proofs.values.put_truth.Statement.{statement}
 use Rattle.explanation.proofs.values.put_truth.Tie as tie
 
 put-label-requires : tie.Need-put-label-requires
-put-label-requires c κs = search needs
+put-label-requires c κs = tt
 
 slice-aggregate-put-word : tie.Need-slice-aggregate-put-word
-slice-aggregate-put-word c = search needs
+slice-aggregate-put-word c = refl
 
 put-word-requires : tie.Need-put-word-requires
-put-word-requires c κs = search needs
+put-word-requires c κs = tt
 
 same-length : tie.Need-same-length
 same-length c = search needs
@@ -22,10 +23,10 @@ unfolding shown
 returns c = rw (c .before .before .before .before .before .if1 .taken) (then (c .before .before .before .before .before .before .before .before .put-label .ensures) (c .before .before .put-word .ensures))
 
 slice-aggregate-put-word-2 : tie.Need-slice-aggregate-put-word-2
-slice-aggregate-put-word-2 c = search needs
+slice-aggregate-put-word-2 c = refl
 
 put-word-requires-2 : tie.Need-put-word-requires-2
-put-word-requires-2 c κs = search needs
+put-word-requires-2 c κs = tt
 
 same-length-2 : tie.Need-same-length-2
 same-length-2 c = search needs

@@ -5,10 +5,10 @@ use Rattle.explanation.proofs.values.put_unit.Statement.{statement}
 use Rattle.explanation.proofs.values.put_unit.Tie as tie
 
 put-octet-requires : tie.Need-put-octet-requires
-put-octet-requires c κs = search needs
+put-octet-requires c κs = tt
 
 put-word-requires : tie.Need-put-word-requires
-put-word-requires c κs = search needs
+put-word-requires c κs = tt
 
 same-length : tie.Need-same-length
 same-length c = search needs
