@@ -418,6 +418,28 @@ struct ostrogosz_written ostrogosz_send_initialization(
     struct ostrogosz_initialization initialization,
     uint8_t buffer[OSTROGOSZ_LONGEST_FRAME]);
 
+/* What the raw numbers of 10, 11 and 20 mean. Bad input: none. */
+
+/* A value, or no data. */
+struct ostrogosz_measure {
+    uint32_t known; /* 1, or 0 for no data */
+    int32_t value;  /* 0 for no data */
+};
+
+/* altitude of 10 and 20: 25 n - 1000 feet; 0xFFF is no data. */
+struct ostrogosz_measure ostrogosz_altitude_in_feet(uint16_t altitude);
+
+/* vertical_rate of 10 and 20: 64 n feet per minute; -2048 is no data. */
+struct ostrogosz_measure
+ostrogosz_rate_in_feet_per_minute(int16_t vertical_rate);
+
+/* altitude of 11: 5 n feet. */
+int32_t ostrogosz_geometric_altitude_in_feet(int16_t altitude);
+
+/* latitude and longitude of 10 and 20: n * 180 / 2^23 degrees, in whole units
+ * of 1E-7 degree, toward zero. */
+int64_t ostrogosz_degrees_e7(int32_t angle);
+
 /* ---- MAVLink version 1 ---- */
 
 /* Octets of the longest frame of the five kinds: the Dynamic one. */
