@@ -7,33 +7,28 @@ use Rattle.frame_format.specs.Stretch.{Verdict, silent, refused, delivered}
 use Rattle.receiver.specs.declared.Rest.{Rest}
 use Rattle.receiver.specs.declared.Counts.{Counts}
 use Rattle.receiver.specs.Step.{stateOf, stateAfter, countsAfter, answerDue, outputAfter}
-use Rattle.ucp_messages.specs.declared.Message.{Message}
-use Rattle.ucp_messages.specs.Reads.{Answer, refused as unread, means, answerDue as messageDue}
+use Rattle.ucp_messages.specs.Reads.{Answer, answerOf, answerDue as messageDue}
 use Rattle.ucp_receive.specs.declared.Event.{Event}
-use Rattle.ucp_receive.specs.declared.Event.the-variants.{Nothing, Message as Means, Refused}
+use Rattle.ucp_receive.specs.declared.Event.the-variants.{Nothing, Delivered, Refused}
 use Rattle.ucp_receive.specs.declared.Heard.{Heard}
 
--- an outcome in the paper's terms: none, a refusal's number, or the message
+-- an outcome in the paper's terms: none, a frame's refusal by its number, or a body's length and what the body means
 pub data Outcome : Type 0 where
   none : Outcome
   refusal : ℕ → Outcome
-  message : Message → Outcome
+  heard : ℕ → Answer → Outcome
 
 -- the paper's number and values of each case
 abbrev pub outcomeOf : Event → Outcome
 outcomeOf Nothing = none
-outcomeOf (Means m) = message m
+outcomeOf (Delivered octets read) = heard octets (answerOf read)
 outcomeOf (Refused number) = refusal number
-
-abbrev pub outcomeOfRead : Answer → Outcome
-outcomeOfRead (unread number) = refusal number
-outcomeOfRead (means m) = message m
 
 -- the outcome that is due: the receiver's, and of a delivered body the message reader's
 abbrev pub outcomeDue : Verdict → Outcome
 outcomeDue silent = none
 outcomeDue (refused number) = refusal number
-outcomeDue (delivered body) = outcomeOfRead (messageDue body)
+outcomeDue (delivered body) = heard (length body) (messageDue body)
 
 -- one call, whole: the record, the octet and the output as at entry; what is given back, the store and the output as at return
 pub record Hears (rest : Rest) (counts : Counts) (store : List ℕ) (octet : ℕ) (output : List ℕ)

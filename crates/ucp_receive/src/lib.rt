@@ -2,20 +2,17 @@
 use receiver::Answer;
 use receiver::Counts;
 use receiver::Rest;
-use ucp_messages::Message;
 use ucp_messages::Read;
-ghost use mathlib.Core.Path.{_≡_};
-ghost use Rattle.ucp_receive.specs.Hears.{Hears, outcomeOf, outcomeOfRead};
-ghost use Rattle.ucp_messages.specs.Reads.{answerOf};
+ghost use Rattle.ucp_receive.specs.Hears.{Hears};
 
 // What an octet brought. `outcomeOf` of specs/Hears.antt gives the paper's number and values of each case.
 pub enum Event {
     // No answer is due.
     Nothing,
-    // The body that stands at the start of the output is this message. Of an uplink, the payload is that body without its
-    // first octet.
-    Message(Message),
-    // Refused, by its number: 1 to 6, the frame; 10 to 13, the message in it.
+    // A body of so many octets stands at the start of the output, and this is what it means: a message, or why it is none, by
+    // its number, 10 to 13. Of an uplink, the payload is that body without its first octet.
+    Delivered(usize, Read),
+    // The frame is refused, by its number: 1 to 6. Nothing is written.
     Refused(u8),
 }
 
@@ -24,15 +21,6 @@ pub struct Heard {
     pub rest: Rest,
     pub counts: Counts,
     pub event: Event,
-}
-
-fn event_of(read: Read) -> Event
-    ensures { λ r. ⌜ outcomeOf r ≡ outcomeOfRead (answerOf read) ⌝ }
-{
-    match read {
-        Read::Message(message) => Event::Message(message),
-        Read::Refused(number) => Event::Refused(number),
-    }
 }
 
 // One octet of the line, from any value of the record.
@@ -56,11 +44,11 @@ pub fn hear(
             event: Event::Nothing,
         },
         Answer::Delivered(octets) => {
-            let event = event_of(ucp_messages::read_message(&output[..octets]));
+            let read = ucp_messages::read_message(&output[..octets]);
             Heard {
                 rest: rest,
                 counts: counts,
-                event: event,
+                event: Event::Delivered(octets, read),
             }
         }
         Answer::Refused(number) => Heard {

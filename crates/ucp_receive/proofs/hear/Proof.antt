@@ -4,7 +4,7 @@ use denote.Ref.{now}
 use lib.ListN.{length}
 use lib.Seq.{length-take-le}
 use Rattle.receiver.specs.Step.{answerOf, answerDue}
-use Rattle.ucp_receive.specs.Hears.{outcomeOfRead}
+use Rattle.ucp_receive.specs.Hears.{heard}
 use Rattle.ucp_receive.proofs.Delivered.{none-due, refusal-due, body-due}
 use borrow.Author.Needs.{needs}
 use Rattle.ucp_receive.proofs.hear.Statement.{statement}
@@ -37,9 +37,6 @@ slice-aggregate-read-message c =
 read-message-requires : tie.Need-read-message-requires
 read-message-requires c κs = search needs
 
-event-of-requires : tie.Need-event-of-requires
-event-of-requires c κs = search needs
-
 enum-known-answer-2 : tie.Need-enum-known-answer-2
 enum-known-answer-2 c = search needs
 
@@ -63,16 +60,14 @@ same-length-2 c = search needs
 
 returns-2 : tie.Need-returns-2
 returns-2 c =
-    let a = c .before .before .before .before .before .before .before .before .before .before .before .before .before .before .args in
+    let a = c .before .before .before .before .before .before .before .before .before .before .before .before .before .args in
     let v = answerDue (record { rest = a .rest; store = now (a .store) }) (a .octet) (length (now (a .output))) in
-    let r = c .before .before .before .before .before .before .before .before .before .before .receive .ensures in
-    let b =
-    body-due (now (a .output)) v (ap answerOf (sym (c .before .before .before .before .answer .given .1)) ∙ r .answers) (r .puts)
-    in
+    let r = c .before .before .before .before .before .before .before .before .before .receive .ensures in
+    let b = body-due (now (a .output)) v (ap answerOf (sym (c .before .before .before .answer .given .1)) ∙ r .answers) (r .puts) in
     record {
       state = r .state;
       account = r .account;
-      answers = c .event-of .ensures ∙ ap outcomeOfRead (c .before .read-message .ensures) ∙ b .1;
+      answers = ap (heard (c .before .before .before .answer .given .0 .0)) (c .read-message .ensures) ∙ b .1;
       puts = r .puts;
     }
 
@@ -101,7 +96,6 @@ hear-spec =
     slice-reshare-prefix-read-message
     slice-aggregate-read-message
     read-message-requires
-    event-of-requires
     enum-known-answer-2
     same-length
     returns
