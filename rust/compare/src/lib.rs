@@ -14,6 +14,8 @@ pub mod edges;
 pub mod generator;
 pub mod lines;
 pub mod lockstep;
+pub mod mavlink;
+pub mod mavlink_sides;
 pub mod messages;
 pub mod rooms;
 pub mod tally;
