@@ -5,14 +5,14 @@ static TABLE: [u16; 256] = table();
 /// The check of some octets and one extra octet behind them.
 #[inline]
 pub fn x25(octets: &[u8], extra: u8) -> u16 {
-    next(octets.iter().copied().fold(0xFFFF, next), extra)
+    next(octets.iter().copied().fold(0xFFFF, next), extra) as u16
 }
 
-/// One octet further.
+/// One octet further, in a word: 16 bits would be widened at each octet.
 #[inline]
-fn next(check: u16, octet: u8) -> u16 {
-    let [low, _] = check.to_le_bytes();
-    check >> 8 ^ TABLE[usize::from(low ^ octet)]
+fn next(check: u32, octet: u8) -> u32 {
+    let [low, ..] = check.to_le_bytes();
+    check >> 8 ^ u32::from(TABLE[usize::from(low ^ octet)])
 }
 
 /// For each octet, the check that it alone leads to from 0.
