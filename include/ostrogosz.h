@@ -259,7 +259,8 @@ ostrogosz_line_octets(const struct ostrogosz_receiver *receiver)
  * tested in reading and in writing, else 13. A text has no zero at its end.
  */
 
-/* 0, Heartbeat: all bits are carried. */
+/* 0, Heartbeat: all bits are carried. On the line counts has its high octet
+ * first, while time_stamp has its low octet first. */
 struct ostrogosz_heartbeat {
     uint8_t status_1;
     uint8_t status_2;    /* bit 7: bit 16 of the time stamp */
@@ -389,9 +390,10 @@ struct ostrogosz_written ostrogosz_write_initialization(
  * Write the frame of a message at the start of buffer: body and frame in one
  * call.
  *
- * Bad input: 13, as above; then what ostrogosz_write_frame answers to the body.
- * A refusal writes nothing; the octets of buffer behind the frame keep what
- * they held. The body passes through the call's stack, which is not cleared.
+ * Bad input: 13, as above, and no other: the body of every message has a frame,
+ * and the buffer has room for it. A refusal writes nothing; the octets of
+ * buffer behind the frame keep what they held. The body passes through the
+ * call's stack, which is not cleared.
  */
 struct ostrogosz_written
 ostrogosz_send_heartbeat(struct ostrogosz_heartbeat heartbeat,

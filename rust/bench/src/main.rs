@@ -6,6 +6,8 @@
 mod check;
 mod lister;
 mod lister_rows;
+mod mavlink;
+mod mavlink_rows;
 mod messages;
 mod messages_rows;
 mod receiver;
@@ -13,6 +15,7 @@ mod receiver_rows;
 mod timing;
 mod writer;
 mod writer_rows;
+mod x25;
 
 fn main() -> std::io::Result<()> {
     // So started it is one of the listers that the rows time.
@@ -24,6 +27,8 @@ fn main() -> std::io::Result<()> {
     receiver_rows::print();
     println!();
     messages_rows::print();
+    println!();
+    mavlink_rows::print();
     println!();
     lister_rows::print()
 }

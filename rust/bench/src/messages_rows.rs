@@ -18,7 +18,7 @@ const MESSAGES: usize = 64;
 /// Prints the table of the messages.
 pub fn print() {
     println!("messages, ns per message (best of many; ratio: Rust / ours, second / ours)");
-    println!("  message            ours    Rust  second  ratio  ratio");
+    println!("  message              ours    Rust  second  ratio  ratio");
     for kind in [Kind::Ownship, Kind::Control] {
         print_rows(kind);
     }

@@ -1,8 +1,8 @@
 //! What the comparisons of the proved library with the second program share.
 //!
 //! The comparisons are the tests of this crate. Each prints how many inputs of
-//! each kind it tried and how many differed; to see that, run
-//! `cargo test --release -p compare -- --show-output`.
+//! each kind it tried and how many differed; `scripts/compare` at the root of
+//! the repository runs them, shows that and adds it up.
 
 #![forbid(unsafe_code)]
 #![deny(missing_docs)]
@@ -14,6 +14,8 @@ pub mod edges;
 pub mod generator;
 pub mod lines;
 pub mod lockstep;
+pub mod mavlink;
+pub mod mavlink_sides;
 pub mod messages;
 pub mod rooms;
 pub mod tally;

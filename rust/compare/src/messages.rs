@@ -7,7 +7,7 @@ use second::messages::{
 
 use crate::edges::{put_one_wild, put_within, Edges, Field};
 use crate::generator::Generator;
-use crate::texts::{Characters, Text, TextField};
+use crate::texts::{Characters, TextField};
 
 /// A kind of message.
 #[derive(Clone, Copy, Debug, PartialEq, Eq)]
@@ -124,7 +124,7 @@ impl Kind {
         let mut message = self.message(generator);
         put_one_wild(&mut message, self.fields(), generator);
         if let (Some(text), 0) = (self.text(), generator.below(4)) {
-            (text.put)(&mut message, wild_text(text.characters, generator));
+            (text.put)(&mut message, text.characters.wild(generator));
         }
         if let Message::Uplink(uplink) = &mut message {
             uplink.octets.resize(any_payload(generator), 0x7D);
@@ -181,13 +181,6 @@ pub fn body_of(message: &Message) -> Vec<u8> {
     let length = second::messages::write(message, &mut body).expect("a message in range");
     body.truncate(length);
     body
-}
-
-/// A text with one octet at random.
-fn wild_text(characters: Characters, generator: &mut Generator) -> Text {
-    let mut text = characters.within(generator);
-    text[generator.below(text.len())] = generator.number() as u8;
-    text
 }
 
 /// About as long as a payload, in most cases exactly.

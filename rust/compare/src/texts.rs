@@ -10,7 +10,7 @@ pub type Text = [u8; 8];
 pub struct TextField<M> {
     /// What it may hold.
     pub characters: Characters,
-    /// Where it begins in the body.
+    /// Where it begins in the body or frame.
     pub place: usize,
     /// Puts it.
     pub put: fn(&mut M, Text),
@@ -38,6 +38,13 @@ impl Characters {
             Self::Spaced => spaced(letters, generator.number() as u8),
             Self::SpacesAtEnd => spaced(letters, 0xFF << generator.below(9)),
         }
+    }
+
+    /// A text that may be held but for one octet, which is at random.
+    pub fn wild(self, generator: &mut Generator) -> Text {
+        let mut text = self.within(generator);
+        text[generator.below(text.len())] = generator.number() as u8;
+        text
     }
 }
 

@@ -1,5 +1,6 @@
 //! The declarations of `include/ostrogosz.h`.
 
+use crate::mavlink::{DataStream, Dynamic, Header, Static, Status, Traffic};
 use crate::messages::{Control, GeometricAltitude, Heartbeat, Initialization, Report, Request};
 use crate::{Refusal, LONGEST_FRAME};
 
@@ -55,6 +56,26 @@ pub struct ReadMessage {
     pub request: Request,
     pub control: Control,
     pub initialization: Initialization,
+}
+
+/// A MAVLink frame that was read. The struct that `id` names is filled; all
+/// others, and everything but `refusal` on a refusal, are 0.
+#[repr(C)]
+pub struct ReadFrame {
+    /// 0, or 20 to 25.
+    pub refusal: u32,
+    pub id: u32,
+    /// Octets of the frame.
+    pub used: usize,
+    pub header: Header,
+    pub failures: u32,
+    /// 0 for none.
+    pub lowest_failure: u32,
+    pub data_stream: DataStream,
+    pub static_data: Static,
+    pub dynamic: Dynamic,
+    pub status: Status,
+    pub traffic: Traffic,
 }
 
 /// What a frame is sent in.
@@ -146,5 +167,38 @@ extern "C" {
     pub fn ostrogosz_send_initialization(
         initialization: Initialization,
         buffer: *mut Buffer,
+    ) -> Written;
+
+    pub fn ostrogosz_mavlink_read(input: *const u8, input_length: usize) -> ReadFrame;
+
+    pub fn ostrogosz_mavlink_write_data_stream(
+        data_stream: DataStream,
+        header: Header,
+        output: *mut u8,
+        output_length: usize,
+    ) -> Written;
+    pub fn ostrogosz_mavlink_write_static(
+        static_data: Static,
+        header: Header,
+        output: *mut u8,
+        output_length: usize,
+    ) -> Written;
+    pub fn ostrogosz_mavlink_write_dynamic(
+        dynamic: Dynamic,
+        header: Header,
+        output: *mut u8,
+        output_length: usize,
+    ) -> Written;
+    pub fn ostrogosz_mavlink_write_status(
+        status: Status,
+        header: Header,
+        output: *mut u8,
+        output_length: usize,
+    ) -> Written;
+    pub fn ostrogosz_mavlink_write_traffic(
+        traffic: Traffic,
+        header: Header,
+        output: *mut u8,
+        output_length: usize,
     ) -> Written;
 }

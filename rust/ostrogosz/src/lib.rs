@@ -1,4 +1,4 @@
-//! Safe calls into the proved UCP/GDL90 line codec.
+//! Safe calls into the proved UCP/GDL90 and MAVLink line codec.
 //!
 //! The work is done by `libostrogosz.a`, whose functions are proved to give
 //! these answers for every input; this crate only turns slices into pointers
@@ -9,6 +9,7 @@
 #![deny(missing_docs)]
 
 mod boundary;
+pub mod mavlink;
 pub mod messages;
 mod receiver;
 mod refusal;

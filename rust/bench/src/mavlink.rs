@@ -1,0 +1,362 @@
+//! MAVLink frames as Rust would have them: slices of the kind's length,
+//! `from_le_bytes`, the check by a table, and an enum by value.
+//!
+//! It answers as the proved library does. Its calls are not inlined, since one
+//! through the C boundary can't be.
+
+use ostrogosz::mavlink::{DataStream, Dynamic, Frame, Header, Message, Static, Status, Traffic};
+use ostrogosz::Refusal;
+
+use crate::x25::x25;
+
+/// The octet that starts a frame.
+const START: u8 = 0xFE;
+
+/// Octets before the payload.
+const HEAD: usize = 6;
+
+/// Octets of the check.
+const CHECK: usize = 2;
+
+/// Reads the frame at the start of `input`.
+#[inline(never)]
+pub fn read(input: &[u8]) -> Result<Frame, Refusal> {
+    let start = input.first().ok_or(Refusal::MavlinkTooShort)?;
+    ensure(*start == START, Refusal::MavlinkStart)?;
+    let &[_, _, sequence, system, component, id, ..] = input else {
+        return Err(Refusal::MavlinkTooShort);
+    };
+    let header = Header {
+        sequence,
+        system,
+        component,
+    };
+    match id {
+        66 => Ok(frame(header, data_stream(payload(input, 148)?))),
+        201 => Ok(frame(header, static_data(payload(input, 126)?)?)),
+        202 => Ok(frame(header, dynamic(payload(input, 7)?)?)),
+        203 => Ok(status_frame(header, payload(input, 85)?)),
+        246 => Ok(frame(header, traffic(payload(input, 184)?)?)),
+        _ => Err(Refusal::MavlinkUnknownId),
+    }
+}
+
+/// Writes the frame of a message at the start of `output`.
+#[inline(never)]
+pub fn write(message: &Message, header: Header, output: &mut [u8]) -> Result<usize, Refusal> {
+    match message {
+        Message::DataStream(of) => put(66, 148, header, output, |at| put_data_stream(of, at)),
+        Message::Static(of) if static_fits(of) => {
+            put(201, 126, header, output, |at| put_static(of, at))
+        }
+        Message::Dynamic(of) if dynamic_fits(of) => {
+            put(202, 7, header, output, |at| put_dynamic(of, at))
+        }
+        Message::Status(of) => put(203, 85, header, output, |at: &mut [u8; 1]| {
+            *at = [of.status];
+        }),
+        Message::Traffic(of) if traffic_fits(of) => {
+            put(246, 184, header, output, |at| put_traffic(of, at))
+        }
+        _ => Err(Refusal::MavlinkField),
+    }
+}
+
+#[inline]
+fn ensure(holds: bool, refusal: Refusal) -> Result<(), Refusal> {
+    if holds {
+        Ok(())
+    } else {
+        Err(refusal)
+    }
+}
+
+/// The payload of a kind that has so many octets of it, behind a right check.
+#[inline]
+fn payload<const N: usize>(input: &[u8], extra: u8) -> Result<&[u8; N], Refusal> {
+    ensure(usize::from(input[1]) == N, Refusal::MavlinkLength)?;
+    let frame = input.get(..HEAD + N + CHECK);
+    let (checked, check) = frame.ok_or(Refusal::MavlinkTooShort)?.split_at(HEAD + N);
+    let right = x25(&checked[1..], extra).to_le_bytes() == check;
+    ensure(right, Refusal::MavlinkCheck)?;
+    Ok(checked[HEAD..].try_into().expect("N octets"))
+}
+
+/// Puts the frame of a kind that has so many octets of payload.
+#[inline]
+fn put<const N: usize>(
+    id: u8,
+    extra: u8,
+    header: Header,
+    output: &mut [u8],
+    put_payload: impl FnOnce(&mut [u8; N]),
+) -> Result<usize, Refusal> {
+    let frame = output.get_mut(..HEAD + N + CHECK);
+    let frame = frame.ok_or(Refusal::OutputLength)?;
+    let Header {
+        sequence,
+        system,
+        component,
+    } = header;
+    let (checked, check) = frame.split_at_mut(HEAD + N);
+    let (head, payload) = checked.split_at_mut(HEAD);
+    head.copy_from_slice(&[START, N as u8, sequence, system, component, id]);
+    put_payload(payload.try_into().expect("N octets"));
+    check.copy_from_slice(&x25(&checked[1..], extra).to_le_bytes());
+    Ok(HEAD + N + CHECK)
+}
+
+/// The octets at this place.
+#[inline]
+fn at<const N: usize>(octets: &[u8], place: usize) -> [u8; N] {
+    octets[place..place + N].try_into().expect("N octets")
+}
+
+/// Puts octets at this place.
+#[inline]
+fn put_at<const N: usize>(octets: &mut [u8], place: usize, value: [u8; N]) {
+    octets[place..place + N].copy_from_slice(&value);
+}
+
+/// The frame of a message without failures.
+#[inline]
+fn frame(header: Header, message: Message) -> Frame {
+    let payload = match message {
+        Message::DataStream(_) => 6,
+        Message::Static(_) => 19,
+        Message::Dynamic(_) => 42,
+        Message::Status(_) => 1,
+        Message::Traffic(_) => 38,
+    };
+    Frame {
+        header,
+        message,
+        used: HEAD + payload + CHECK,
+        failures: 0,
+        lowest_failure: None,
+    }
+}
+
+#[inline]
+fn status_frame(header: Header, &[status]: &[u8; 1]) -> Frame {
+    let failures = status & 0b1_1110;
+    Frame {
+        failures: failures.count_ones(),
+        lowest_failure: (failures != 0).then(|| failures.trailing_zeros()),
+        ..frame(header, Message::Status(Status { status }))
+    }
+}
+
+#[inline]
+fn data_stream(octets: &[u8; 6]) -> Message {
+    let [r0, r1, system, component, stream, start] = *octets;
+    Message::DataStream(DataStream {
+        rate: u16::from_le_bytes([r0, r1]),
+        system,
+        component,
+        stream,
+        start,
+    })
+}
+
+#[inline]
+fn put_data_stream(of: &DataStream, octets: &mut [u8; 6]) {
+    let [r0, r1] = of.rate.to_le_bytes();
+    *octets = [r0, r1, of.system, of.component, of.stream, of.start];
+}
+
+#[inline]
+fn static_data(octets: &[u8; 19]) -> Result<Message, Refusal> {
+    let [a0, a1, a2, integrity, s0, s1, callsign @ .., capability, emitter, size, lateral, longitudinal] =
+        *octets;
+    let of = Static {
+        address: u32::from_le_bytes([a0, a1, a2, 0]),
+        integrity,
+        stall: u16::from_le_bytes([s0, s1]),
+        callsign,
+        capability,
+        emitter,
+        size,
+        lateral,
+        longitudinal,
+    };
+    ensure(static_fits(&of), Refusal::MavlinkField)?;
+    Ok(Message::Static(of))
+}
+
+#[inline]
+fn static_fits(of: &Static) -> bool {
+    of.address < 1 << 24
+        && is_callsign(&of.callsign)
+        && of.capability == 0
+        && of.emitter <= 19
+        && of.size <= 15
+        && of.lateral <= 7
+        && of.longitudinal <= 31
+}
+
+#[inline]
+fn put_static(of: &Static, octets: &mut [u8; 19]) {
+    let [a0, a1, a2, _] = of.address.to_le_bytes();
+    put_at(octets, 0, [a0, a1, a2, of.integrity]);
+    put_at(octets, 4, of.stall.to_le_bytes());
+    put_at(octets, 6, of.callsign);
+    put_at(octets, 14, [of.capability, of.emitter, of.size]);
+    put_at(octets, 17, [of.lateral, of.longitudinal]);
+}
+
+#[inline]
+fn dynamic(octets: &[u8; 42]) -> Result<Message, Refusal> {
+    let [fix, satellites, emergency, control] = at(octets, 38);
+    let of = Dynamic {
+        utc: u32::from_le_bytes(at(octets, 0)),
+        latitude: i32::from_le_bytes(at(octets, 4)),
+        longitude: i32::from_le_bytes(at(octets, 8)),
+        pressure: i32::from_le_bytes(at(octets, 12)),
+        gnss: i32::from_le_bytes(at(octets, 16)),
+        horizontal: u32::from_le_bytes(at(octets, 20)),
+        vertical: u16::from_le_bytes(at(octets, 24)),
+        velocity: u16::from_le_bytes(at(octets, 26)),
+        climb: i16::from_le_bytes(at(octets, 28)),
+        north: i16::from_le_bytes(at(octets, 30)),
+        east: i16::from_le_bytes(at(octets, 32)),
+        state: u16::from_le_bytes(at(octets, 34)),
+        squawk: u16::from_le_bytes(at(octets, 36)),
+        fix,
+        satellites,
+        emergency,
+        control,
+    };
+    ensure(dynamic_fits(&of), Refusal::MavlinkField)?;
+    Ok(Message::Dynamic(of))
+}
+
+#[inline]
+fn dynamic_fits(of: &Dynamic) -> bool {
+    of.squawk <= 7777 && of.fix <= 5
+}
+
+#[inline]
+fn put_dynamic(of: &Dynamic, octets: &mut [u8; 42]) {
+    put_at(octets, 0, of.utc.to_le_bytes());
+    put_at(octets, 4, of.latitude.to_le_bytes());
+    put_at(octets, 8, of.longitude.to_le_bytes());
+    put_at(octets, 12, of.pressure.to_le_bytes());
+    put_at(octets, 16, of.gnss.to_le_bytes());
+    put_at(octets, 20, of.horizontal.to_le_bytes());
+    put_at(octets, 24, of.vertical.to_le_bytes());
+    put_at(octets, 26, of.velocity.to_le_bytes());
+    put_at(octets, 28, of.climb.to_le_bytes());
+    put_at(octets, 30, of.north.to_le_bytes());
+    put_at(octets, 32, of.east.to_le_bytes());
+    put_at(octets, 34, of.state.to_le_bytes());
+    put_at(octets, 36, of.squawk.to_le_bytes());
+    let last = [of.fix, of.satellites, of.emergency, of.control];
+    put_at(octets, 38, last);
+}
+
+#[inline]
+fn traffic(octets: &[u8; 38]) -> Result<Message, Refusal> {
+    let [ninth, emitter, age] = at(octets, 35);
+    let of = Traffic {
+        address: u32::from_le_bytes(at(octets, 0)),
+        latitude: i32::from_le_bytes(at(octets, 4)),
+        longitude: i32::from_le_bytes(at(octets, 8)),
+        altitude: i32::from_le_bytes(at(octets, 12)),
+        heading: u16::from_le_bytes(at(octets, 16)),
+        speed: u16::from_le_bytes(at(octets, 18)),
+        climb: i16::from_le_bytes(at(octets, 20)),
+        valid: u16::from_le_bytes(at(octets, 22)),
+        squawk: u16::from_le_bytes(at(octets, 24)),
+        datum: octets[26],
+        callsign: at(octets, 27),
+        ninth,
+        emitter,
+        age,
+    };
+    ensure(traffic_fits(&of), Refusal::MavlinkField)?;
+    Ok(Message::Traffic(of))
+}
+
+#[inline]
+fn traffic_fits(of: &Traffic) -> bool {
+    of.squawk <= 7777 || of.squawk == u16::MAX
+}
+
+#[inline]
+fn put_traffic(of: &Traffic, octets: &mut [u8; 38]) {
+    put_at(octets, 0, of.address.to_le_bytes());
+    put_at(octets, 4, of.latitude.to_le_bytes());
+    put_at(octets, 8, of.longitude.to_le_bytes());
+    put_at(octets, 12, of.altitude.to_le_bytes());
+    put_at(octets, 16, of.heading.to_le_bytes());
+    put_at(octets, 18, of.speed.to_le_bytes());
+    put_at(octets, 20, of.climb.to_le_bytes());
+    put_at(octets, 22, of.valid.to_le_bytes());
+    put_at(octets, 24, of.squawk.to_le_bytes());
+    octets[26] = of.datum;
+    put_at(octets, 27, of.callsign);
+    put_at(octets, 35, [of.ninth, of.emitter, of.age]);
+}
+
+#[inline]
+fn is_callsign(text: &[u8; 8]) -> bool {
+    text.iter()
+        .all(|octet| matches!(octet, b'A'..=b'Z' | b'0'..=b'9' | b' '))
+}
+
+/// A baseline that answers something else would be no measure.
+#[cfg(test)]
+mod tests {
+    use super::*;
+    use compare::generator::Generator;
+    use compare::mavlink::{any_header, Kind};
+    use compare::mavlink_sides::{our_header, our_message};
+    use ostrogosz::mavlink::{read_frame, write_frame, LONGEST_FRAME};
+
+    fn assert_same_reading(input: &[u8]) {
+        assert_eq!(read(input), read_frame(input), "input {input:02X?}");
+    }
+
+    fn assert_same_writing(message: &Message, header: Header, room: usize) {
+        let mut outputs = [[0xA5; LONGEST_FRAME + 4]; 2];
+        let rust = write(message, header, &mut outputs[0][..room]);
+        let proved = write_frame(message, header, &mut outputs[1][..room]);
+        assert_eq!(rust, proved, "room {room}, {message:X?}");
+        assert_eq!(outputs[0], outputs[1], "room {room}, {message:X?}");
+    }
+
+    #[test]
+    fn both_readers_answer_alike() {
+        let mut generator = Generator::new(61);
+        for kind in Kind::ALL {
+            for turn in 0..20_000 {
+                let mut frame = kind.right_frame(&mut generator);
+                assert_same_reading(&frame[..turn % (frame.len() + 1)]);
+                let place = turn % frame.len();
+                frame[place] = generator.number() as u8;
+                assert_same_reading(&frame);
+                kind.seal(&mut frame);
+                assert_same_reading(&frame);
+                assert_same_reading(&kind.random_frame(&mut generator));
+            }
+        }
+    }
+
+    #[test]
+    fn both_writers_answer_alike() {
+        let mut generator = Generator::new(62);
+        for kind in Kind::ALL {
+            for turn in 0..20_000 {
+                let message = match turn % 2 {
+                    0 => kind.message(&mut generator),
+                    _ => kind.wild_message(&mut generator),
+                };
+                let header = our_header(any_header(&mut generator));
+                let exact = kind.octets();
+                let room = generator.pick(&[0, exact - 1, exact, exact + 1, LONGEST_FRAME + 4]);
+                assert_same_writing(&our_message(&message), header, room);
+            }
+        }
+    }
+}

@@ -1,0 +1,235 @@
+//! The same MAVLink frame on both sides. Every field is named, so that none is
+//! left out.
+
+use ostrogosz::mavlink as ours;
+use second::mavlink::{Dynamic, Frame, Message, RequestDataStream, Static, Status, Traffic};
+
+use crate::comparison::lending;
+use crate::mavlink::Header;
+
+/// All that a reader says of a frame.
+#[derive(Clone, Debug, PartialEq, Eq)]
+pub struct Reading {
+    /// The frame.
+    pub frame: Frame,
+    /// How many failure bits of a status are set.
+    pub failures: u32,
+    /// The lowest of them.
+    pub lowest_failure: Option<u32>,
+}
+
+/// What the proved reader makes of an input, in the second program's types.
+pub fn read(input: &[u8]) -> Result<Reading, u8> {
+    lending(input, |input| {
+        let frame = ours::read_frame(input).map_err(|refusal| refusal.number())?;
+        Ok(Reading {
+            failures: frame.failures,
+            lowest_failure: frame.lowest_failure,
+            frame: second_frame(&frame),
+        })
+    })
+}
+
+/// What the second program makes of it.
+pub fn second_read(input: &[u8]) -> Result<Reading, u8> {
+    let frame = second::mavlink::read(input)?;
+    let (failures, lowest_failure) = match &frame.message {
+        Message::Status(status) => (status.failures(), status.lowest_failure()),
+        _ => (0, None),
+    };
+    Ok(Reading {
+        frame,
+        failures,
+        lowest_failure,
+    })
+}
+
+/// What the proved writer makes of a message.
+pub fn write(header: Header, message: &Message, output: &mut [u8]) -> Result<usize, u8> {
+    lending(message, |message| {
+        ours::write_frame(&our_message(message), our_header(header), output)
+            .map_err(|refusal| refusal.number())
+    })
+}
+
+/// What the second program makes of it.
+pub fn second_write(
+    [sequence, system, component]: Header,
+    message: &Message,
+    output: &mut [u8],
+) -> Result<usize, u8> {
+    second::mavlink::write(sequence, system, component, message, output)
+}
+
+/// The same frame in the second program's types.
+fn second_frame(frame: &ours::Frame) -> Frame {
+    Frame {
+        used: frame.used,
+        sequence: frame.header.sequence,
+        system: frame.header.system,
+        component: frame.header.component,
+        message: second_message(&frame.message),
+    }
+}
+
+fn second_message(message: &ours::Message) -> Message {
+    match *message {
+        ours::Message::DataStream(of) => Message::RequestDataStream(second_data_stream(of)),
+        ours::Message::Static(of) => Message::Static(second_static(of)),
+        ours::Message::Dynamic(of) => Message::Dynamic(second_dynamic(of)),
+        ours::Message::Status(ours::Status { status }) => Message::Status(Status { status }),
+        ours::Message::Traffic(of) => Message::Traffic(second_traffic(of)),
+    }
+}
+
+fn second_data_stream(of: ours::DataStream) -> RequestDataStream {
+    RequestDataStream {
+        rate: of.rate,
+        target_system: of.system,
+        target_component: of.component,
+        stream: of.stream,
+        start_stop: of.start,
+    }
+}
+
+fn second_static(of: ours::Static) -> Static {
+    Static {
+        address: of.address,
+        integrity: of.integrity,
+        stall_speed: of.stall,
+        callsign: of.callsign,
+        capability: of.capability,
+        emitter: of.emitter,
+        size: of.size,
+        lateral: of.lateral,
+        longitudinal: of.longitudinal,
+    }
+}
+
+fn second_dynamic(of: ours::Dynamic) -> Dynamic {
+    Dynamic {
+        utc_time: of.utc,
+        latitude: of.latitude,
+        longitude: of.longitude,
+        pressure_altitude: of.pressure,
+        gnss_altitude: of.gnss,
+        horizontal_accuracy: of.horizontal,
+        vertical_accuracy: of.vertical,
+        velocity_accuracy: of.velocity,
+        vertical_velocity: of.climb,
+        north_velocity: of.north,
+        east_velocity: of.east,
+        state: of.state,
+        squawk: of.squawk,
+        fix: of.fix,
+        satellites: of.satellites,
+        emergency: of.emergency,
+        control: of.control,
+    }
+}
+
+fn second_traffic(of: ours::Traffic) -> Traffic {
+    let mut callsign = [of.ninth; 9];
+    callsign[..8].copy_from_slice(&of.callsign);
+    Traffic {
+        address: of.address,
+        latitude: of.latitude,
+        longitude: of.longitude,
+        altitude: of.altitude,
+        heading: of.heading,
+        horizontal_velocity: of.speed,
+        vertical_velocity: of.climb,
+        valid: of.valid,
+        squawk: of.squawk,
+        altitude_type: of.datum,
+        callsign,
+        emitter: of.emitter,
+        since_last: of.age,
+    }
+}
+
+/// The same header in our types.
+pub fn our_header([sequence, system, component]: Header) -> ours::Header {
+    ours::Header {
+        sequence,
+        system,
+        component,
+    }
+}
+
+/// The same message in our types.
+pub fn our_message(message: &Message) -> ours::Message {
+    match message {
+        Message::RequestDataStream(of) => ours::Message::DataStream(our_data_stream(of)),
+        Message::Static(of) => ours::Message::Static(our_static(of)),
+        Message::Dynamic(of) => ours::Message::Dynamic(our_dynamic(of)),
+        &Message::Status(Status { status }) => ours::Message::Status(ours::Status { status }),
+        Message::Traffic(of) => ours::Message::Traffic(our_traffic(of)),
+    }
+}
+
+fn our_data_stream(of: &RequestDataStream) -> ours::DataStream {
+    ours::DataStream {
+        rate: of.rate,
+        system: of.target_system,
+        component: of.target_component,
+        stream: of.stream,
+        start: of.start_stop,
+    }
+}
+
+fn our_static(of: &Static) -> ours::Static {
+    ours::Static {
+        address: of.address,
+        integrity: of.integrity,
+        stall: of.stall_speed,
+        callsign: of.callsign,
+        capability: of.capability,
+        emitter: of.emitter,
+        size: of.size,
+        lateral: of.lateral,
+        longitudinal: of.longitudinal,
+    }
+}
+
+fn our_dynamic(of: &Dynamic) -> ours::Dynamic {
+    ours::Dynamic {
+        utc: of.utc_time,
+        latitude: of.latitude,
+        longitude: of.longitude,
+        pressure: of.pressure_altitude,
+        gnss: of.gnss_altitude,
+        horizontal: of.horizontal_accuracy,
+        vertical: of.vertical_accuracy,
+        velocity: of.velocity_accuracy,
+        climb: of.vertical_velocity,
+        north: of.north_velocity,
+        east: of.east_velocity,
+        state: of.state,
+        squawk: of.squawk,
+        fix: of.fix,
+        satellites: of.satellites,
+        emergency: of.emergency,
+        control: of.control,
+    }
+}
+
+fn our_traffic(of: &Traffic) -> ours::Traffic {
+    let [callsign @ .., ninth] = of.callsign;
+    ours::Traffic {
+        address: of.address,
+        latitude: of.latitude,
+        longitude: of.longitude,
+        altitude: of.altitude,
+        heading: of.heading,
+        speed: of.horizontal_velocity,
+        climb: of.vertical_velocity,
+        valid: of.valid,
+        squawk: of.squawk,
+        datum: of.altitude_type,
+        callsign,
+        ninth,
+        emitter: of.emitter,
+        age: of.since_last,
+    }
+}
