@@ -14,7 +14,8 @@
  *
  * Pointers: a pointer goes with the length behind it and points to that many
  * octets. Where the length is 0 it may be anything, NULL too. A struct goes by
- * value: the call leaves the caller's as it is.
+ * value: the call leaves the caller's as it is. A bool holds 0 or 1, as C and
+ * C++ make it; with any other octet copied into it no promise holds.
  */
 #ifndef OSTROGOSZ_H
 #define OSTROGOSZ_H
@@ -279,7 +280,7 @@ struct ostrogosz_report {
     uint8_t miscellaneous; /* 4 bits */
     uint8_t nic;           /* 4 bits */
     uint8_t nacp;          /* 4 bits */
-    uint16_t speed;        /* 12 bits; knots; no data: 0xFFF */
+    uint16_t speed;        /* 12 bits; knots; in GDL90 0xFFF is no data */
     int16_t vertical_rate; /* 12 bits; 64 n feet per minute; no data: -2048 */
     uint8_t track;         /* steps of 360 / 256 degrees */
     uint8_t emitter;
@@ -390,8 +391,9 @@ struct ostrogosz_written ostrogosz_write_initialization(
  * Write the frame of a message at the start of buffer: body and frame in one
  * call.
  *
- * Bad input: 13, as above, and no other: the body of every message has a frame,
- * and the buffer has room for it. A refusal writes nothing; the octets of
+ * Bad input: 13, as above; then 7 and 8 as ostrogosz_write_frame gives them to
+ * the body. No message is known to get those two: a body has 3 to 436 octets,
+ * and 878 are enough for its frame. A refusal writes nothing; the octets of
  * buffer behind the frame keep what they held. The body passes through the
  * call's stack, which is not cleared.
  */
@@ -507,7 +509,7 @@ struct ostrogosz_mavlink_dynamic {
     uint32_t horizontal; /* accuracy, mm; unknown: UINT32_MAX */
     uint16_t vertical;   /* accuracy, cm; unknown: UINT16_MAX */
     uint16_t velocity;   /* accuracy, mm/s; unknown: UINT16_MAX */
-    int16_t climb; /* vertical speed, cm/s, up +; unknown: INT16_MAX */
+    int16_t climb; /* vertical speed, cm/s; unknown: INT16_MAX */
     int16_t north; /* velocity, cm/s, north +; unknown: INT16_MAX */
     int16_t east;  /* velocity, cm/s, east +; unknown: INT16_MAX */
     uint16_t state;
@@ -532,7 +534,7 @@ struct ostrogosz_mavlink_traffic {
     int32_t altitude;  /* mm, up +; datum says above what */
     uint16_t heading;  /* course over ground, 1E-2 degree */
     uint16_t speed;    /* horizontal, cm/s */
-    int16_t climb;     /* vertical, cm/s, up + */
+    int16_t climb;     /* vertical, cm/s */
     uint16_t valid;    /* which fields are valid */
     uint16_t squawk;   /* decimal, range 0 to 7777, or 65535 for none */
     uint8_t datum;     /* 0 pressure altitude, 1 geometric */

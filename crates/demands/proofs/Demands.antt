@@ -9,7 +9,7 @@ use Rattle.frame_format.specs.Stretch.{Verdict, silent, refused, delivered}
 use Rattle.frame_format.proofs.Frame.{frame-length-longest}
 use Rattle.writer_answers.specs.Answers.{outputAfter}
 use Rattle.mavlink_round_trips.proofs.RoundTrips as mavlink-trips
-use Rattle.message_delivery.proofs.Delivery.{sent-is-heard}
+use Rattle.message_delivery.proofs.Delivery.{sent-is-delivered}
 use Rattle.message_round_trips.proofs.ReadBack as message-read
 use Rattle.message_round_trips.proofs.WriteBack as message-write
 use Rattle.ucp_messages.specs.Bodies.{messageFits, messageBody}
@@ -80,7 +80,8 @@ demand2 =
       sliceEndsAsCall = slice-is-call;
       messageReadsBack = message-read.written-reads-back;
       messageWritesBack = message-write.accepted-writes-back;
-      sentIsHeard = sent-is-heard;
+      uplinkReadsBack = message-read.uplink-reads-back;
+      sentIsDelivered = sent-is-delivered;
       mavlinkReadsBack = mavlink-trips.written-reads-back;
       mavlinkWritesBack = mavlink-trips.accepted-writes-back;
     }

@@ -75,14 +75,14 @@ message-refused fits body output n e = go (range-then-room fits 13 (length body)
     go (inr h) = inr (h .0, h .1, ltb-true _ _ (h .2))
 
 pub mavlink-refused : (m : mavlink.Message) (output : List ℕ) (n : ℕ) → writeDue m output ≡ refused n
-    → ((n ≡ 25) × (inRange m ≡ false)) ⊎ ((n ≡ 8) × (inRange m ≡ true))
+    → ((n ≡ 25) × (inRange m ≡ false)) ⊎ ((n ≡ 8) × (inRange m ≡ true) × (length output < length (octetsOf m) + 8))
 mavlink-refused m output n e =
     go (range-then-room (inRange m) 25 (length (octetsOf m) + 8) _ (ltb (length output) (length (octetsOf m) + 8)) refl n e)
   where
     go : ((n ≡ 25) × (inRange m ≡ false)) ⊎ ((n ≡ 8) × (inRange m ≡ true) × (ltb (length output) (length (octetsOf m) + 8) ≡ true))
-        → ((n ≡ 25) × (inRange m ≡ false)) ⊎ ((n ≡ 8) × (inRange m ≡ true))
+        → ((n ≡ 25) × (inRange m ≡ false)) ⊎ ((n ≡ 8) × (inRange m ≡ true) × (length output < length (octetsOf m) + 8))
     go (inl h) = inl h
-    go (inr h) = inr (h .0, h .1)
+    go (inr h) = inr (h .0, h .1, ltb-true _ _ (h .2))
 
 -- ---- 20 to 25
 abbrev Tabled : Found → Type 0

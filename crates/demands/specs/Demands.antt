@@ -7,7 +7,7 @@ use mathlib.Core.Path.{_≡_}
 use mathlib.Core.Bool.{true, false}
 use mathlib.Core.List.{List, [], _∷_, _++_, map}
 use mathlib.Core.Logic.{_⊎_, _↔_}
-use Prim.Native.Nat.{ℕ, _≤_, _<_}
+use Prim.Native.Nat.{ℕ, _+_, _≤_, _<_}
 use lib.ListN.{length, drop}
 use Rattle.frame_format.specs.Frame.{frame, longestBody, longestFrame}
 use Rattle.writer_answers.specs.declared.Written.{Written}
@@ -16,9 +16,9 @@ use Rattle.frame_writer.specs.Writes.{Writes}
 use Rattle.mavlink_frame.specs.declared.Header.{Header}
 use Rattle.mavlink_messages.specs.declared.Message as mavlink
 use Rattle.mavlink_messages.specs.declared.Read.the-variants as mavlink-read
-use Rattle.mavlink_messages.specs.Messages.{readDue, writeDue, messageFrame, inRange}
+use Rattle.mavlink_messages.specs.Messages.{readDue, writeDue, messageFrame, inRange, octetsOf}
 use Rattle.mavlink_round_trips.specs.RoundTrips as mavlink-trips
-use Rattle.message_delivery.specs.Delivery.{SentIsHeard}
+use Rattle.message_delivery.specs.Delivery.{SentIsDelivered}
 use Rattle.message_round_trips.specs.RoundTrips as message-trips
 use Rattle.receiver.specs.declared.Rest.{Rest}
 use Rattle.receiver.specs.declared.Counts.{Counts}
@@ -69,7 +69,7 @@ pub record Demand1 : Type 0 where
   pub mavlinkWriterRefuses :
       (m : mavlink.Message) (h : Header) (output after : List ℕ) (r : Written) (number : ℕ)
       → Writing (writeDue m output) (messageFrame m h) output r after → answerOf r ≡ refused number
-      → ((number ≡ 25) × (inRange m ≡ false)) ⊎ ((number ≡ 8) × (inRange m ≡ true))
+      → ((number ≡ 25) × (inRange m ≡ false)) ⊎ ((number ≡ 8) × (inRange m ≡ true) × (length output < length (octetsOf m) + 8))
   pub receiverRefuses :
       (rest : Rest) (counts : Counts) (store : List ℕ) (octet : ℕ) (output : List ℕ) (given : Received)
       (storeAfter outputThen : List ℕ) (number : ℕ)
@@ -88,7 +88,7 @@ pub record Demand1 : Type 0 where
 -- the receiver answers as the rules say of the history; each frame delivered writes back to the same octets, and each frame
 -- written is delivered; every octet received is counted once, under the class that its history gives. A line that is taken in
 -- slices is such a line of calls by the octet, with the same answers, outputs and records. On both lines each written message
--- reads back equal, and each accepted one writes back to the same octets; a message sent on the UCP line is heard as the same.
+-- reads back equal, and each accepted one writes back to the same octets; a message sent on the UCP line is delivered, and means the same.
 pub record Demand2 : Type 0 where
   pub writes :
       (body output after : List ℕ) (r : Written) → Writes body output r after
@@ -105,7 +105,8 @@ pub record Demand2 : Type 0 where
   pub sliceEndsAsCall : SliceIsCall
   pub messageReadsBack : message-trips.WrittenReadsBack
   pub messageWritesBack : message-trips.AcceptedWritesBack
-  pub sentIsHeard : SentIsHeard
+  pub uplinkReadsBack : message-trips.UplinkReadsBack
+  pub sentIsDelivered : SentIsDelivered
   pub mavlinkReadsBack : mavlink-trips.WrittenReadsBack
   pub mavlinkWritesBack : mavlink-trips.AcceptedWritesBack
 

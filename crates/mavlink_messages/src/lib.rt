@@ -205,36 +205,6 @@ pub fn write_message(message: Message, header: Header, output: &mut [u8]) -> Wri
     }
 }
 
-pub fn write_data_stream(data_stream: DataStream, header: Header, output: &mut [u8]) -> Written
-    ensures { λ r. ⌜ Writing (writeDue (Message.DataStream data_stream) (now (output .entry))) (messageFrame (Message.DataStream data_stream) header) (now (output .entry)) r (now (output .exit)) ⌝ }
-{
-    write_message(Message::DataStream(data_stream), header, output)
-}
-
-pub fn write_static(static_data: Static, header: Header, output: &mut [u8]) -> Written
-    ensures { λ r. ⌜ Writing (writeDue (Message.Static static_data) (now (output .entry))) (messageFrame (Message.Static static_data) header) (now (output .entry)) r (now (output .exit)) ⌝ }
-{
-    write_message(Message::Static(static_data), header, output)
-}
-
-pub fn write_dynamic(dynamic: Dynamic, header: Header, output: &mut [u8]) -> Written
-    ensures { λ r. ⌜ Writing (writeDue (Message.Dynamic dynamic) (now (output .entry))) (messageFrame (Message.Dynamic dynamic) header) (now (output .entry)) r (now (output .exit)) ⌝ }
-{
-    write_message(Message::Dynamic(dynamic), header, output)
-}
-
-pub fn write_status(status: Status, header: Header, output: &mut [u8]) -> Written
-    ensures { λ r. ⌜ Writing (writeDue (Message.Status status) (now (output .entry))) (messageFrame (Message.Status status) header) (now (output .entry)) r (now (output .exit)) ⌝ }
-{
-    write_message(Message::Status(status), header, output)
-}
-
-pub fn write_traffic(traffic: Traffic, header: Header, output: &mut [u8]) -> Written
-    ensures { λ r. ⌜ Writing (writeDue (Message.Traffic traffic) (now (output .entry))) (messageFrame (Message.Traffic traffic) header) (now (output .entry)) r (now (output .exit)) ⌝ }
-{
-    write_message(Message::Traffic(traffic), header, output)
-}
-
 // ---- reading
 
 // Reads the message in the frame at the start of input. Octets behind the frame are left.

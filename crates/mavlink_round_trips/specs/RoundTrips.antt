@@ -25,7 +25,8 @@ use Rattle.mavlink_messages.specs.Status.{statusLayout, statusFields}
 use Rattle.mavlink_messages.specs.Traffic.{trafficLayout, trafficFields}
 use Rattle.mavlink_messages.specs.Messages.{failuresOf, readDue, writeDue, messageFrame}
 
--- ---- the fields are values of their types: as a running program's are, and antt's numbers need not be
+-- ---- the fields are values of their types: as a running program's are, and antt's numbers need not be. (That an address of
+-- 201 has 24 bits its type does not say; the writer refuses any other.)
 
 pub record DynamicTyped (d : dynamic-as.Dynamic) : Type 0 where
   pub within : Within (layoutWidths dynamicLayout) (dynamicFields d)

@@ -1,4 +1,4 @@
--- A message that is sent is heard as the same message. Assumes nothing.
+-- A message that is sent is delivered, and means the same. Assumes nothing.
 use mathlib.Core.Path.{_≡_, refl, sym, ap, _∙_}
 use mathlib.Core.Bool.{Bool, true, false, cond}
 use mathlib.Core.List.{List}
@@ -17,7 +17,7 @@ use Rattle.ucp_messages.specs.declared.Message.{Message}
 use Rattle.ucp_messages.specs.Bodies.{messageFits, messageBody}
 use Rattle.ucp_send.specs.Sends.{answerDue}
 use Rattle.writer_answers.specs.Answers.{refused, wrote, outputAfter}
-use Rattle.message_delivery.specs.Delivery.{SentIsHeard}
+use Rattle.message_delivery.specs.Delivery.{SentIsDelivered}
 
 -- an accepted call: the fields fit, and the frame writer accepted the body
 accepted : (m : Message) (payload buffer : List ℕ) (octets : ℕ) → answerDue m payload buffer ≡ wrote octets
@@ -30,8 +30,8 @@ accepted m payload buffer octets = go (messageFits m payload)
     go true e = (refl, sym e)
     go false e = let z : _≡_ {A = ℕ} 0 1 = cc in absurd (omega arith)
 
-pub sent-is-heard : SentIsHeard
-sent-is-heard m payload buffer after r octets t s e before later o line ends room =
+pub sent-is-delivered : SentIsDelivered
+sent-is-delivered m payload buffer after r octets t s e before later o line ends room =
     let body : List ℕ = messageBody m payload in
     let p = accepted m payload buffer octets (sym (s .answers) ∙ e) in
     let a = accepted-so body buffer octets (p .1) in

@@ -1,4 +1,4 @@
--- A message that is sent is heard as the same message (the tender, demand 2), over the contracts of the sender and of the
+-- A message that is sent is delivered, and means the same (the tender, demand 2), over the contracts of the sender and of the
 -- receiver. `proofs/Delivery.antt` proves it. Assumes nothing.
 use mathlib.Core.Path.{_≡_}
 use mathlib.Core.List.{List, _∷_, _++_}
@@ -18,8 +18,8 @@ use Rattle.writer_answers.specs.Answers.{wrote, answerOf}
 
 -- where a line, whatever it brought before, ends in the octets that an accepted call to the sender wrote, and the room is 436
 -- octets or more: the last call delivers a body, and the body means the message
-abbrev pub SentIsHeard : Type 0
-SentIsHeard =
+abbrev pub SentIsDelivered : Type 0
+SentIsDelivered =
     (m : Message) (payload buffer after : List ℕ) (r : Written) (octets : ℕ)
     → Typed m → Sends m payload buffer r after → answerOf r ≡ wrote octets
     → (before later : List Observed) (o : Observed) → Line (before ++ o ∷ later)

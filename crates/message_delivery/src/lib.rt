@@ -1,1 +1,1 @@
-// A message that is sent is heard as the same message: stated in specs/Delivery.antt, proved in proofs/. It holds no code.
+// A message that is sent is delivered, and means the same: stated in specs/Delivery.antt, proved in proofs/. It holds no code.

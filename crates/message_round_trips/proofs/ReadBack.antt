@@ -1,5 +1,5 @@
 -- A written message reads back equal. Assumes nothing.
-use mathlib.Core.Path.{_≡_, ap, _∙_}
+use mathlib.Core.Path.{_≡_, refl, ap, _∙_}
 use mathlib.Core.Bool.{true, _&&_}
 use Prim.Native.Nat.{ℕ, _<_}
 use native.Mathlib.Omega.{arith}
@@ -29,7 +29,7 @@ use Rattle.ucp_messages.specs.Reads.{means, refusalBy, refusalIn, answerAs}
 use Rattle.ucp_messages.specs.Bodies.{messageFits, messageBody}
 use Rattle.ucp_messages.proofs.Fits.{both}
 use Rattle.message_round_trips.specs.Typed.{Typed, TypedReport, U16}
-use Rattle.message_round_trips.specs.RoundTrips.{WrittenReadsBack}
+use Rattle.message_round_trips.specs.RoundTrips.{WrittenReadsBack, UplinkReadsBack}
 use Rattle.message_round_trips.proofs.Within.{bit-back, holds-all, report-within, geometric-within, control-within, initialization-within}
 
 -- a report's signed fields are held by their bits
@@ -133,3 +133,7 @@ written-reads-back (Traffic r) payload t f = ap (λ (x : report.Report). means (
 written-reads-back (Request q) payload t f = ap (λ (x : request.Request). means (Request x)) (request-back q t)
 written-reads-back (Control c) payload t f = rw (control-back c t f, f)
 written-reads-back (Initialization n) payload t f = rw (initialization-back n t f, f)
+
+pub uplink-reads-back : UplinkReadsBack
+unfolding messageBody
+uplink-reads-back payload = refl

@@ -6,6 +6,7 @@ use Prim.Native.Nat.{ℕ}
 use lib.ListN.{drop}
 use Rattle.binary_polynomial.specs.Bits.{Octets}
 use Rattle.ucp_messages.specs.declared.Message.{Message}
+use Rattle.ucp_messages.specs.declared.Message.the-variants.{Uplink}
 use Rattle.ucp_messages.specs.Reads.{means, answerDue}
 use Rattle.ucp_messages.specs.Bodies.{messageFits, messageBody}
 use Rattle.message_round_trips.specs.Typed.{Typed}
@@ -14,6 +15,10 @@ use Rattle.message_round_trips.specs.Typed.{Typed}
 abbrev pub WrittenReadsBack : Type 0
 WrittenReadsBack =
     (m : Message) (payload : List ℕ) → Typed m → messageFits m payload ≡ true → answerDue (messageBody m payload) ≡ means m
+
+-- an uplink's payload is no part of the message: it is its body without the first octet
+abbrev pub UplinkReadsBack : Type 0
+UplinkReadsBack = (payload : List ℕ) → drop 1 (messageBody Uplink payload) ≡ payload
 
 -- an accepted body writes back to the same octets; an uplink's payload is the body without its first octet
 abbrev pub AcceptedWritesBack : Type 0

@@ -1,11 +1,11 @@
--- Message 0, Heartbeat (document 01; 003, section 6.2.1): all bits carried as they are. Assumes nothing.
+-- Message 0, Heartbeat (document 01; GDL90 ICD): all bits carried as they are. Assumes nothing.
 use mathlib.Core.List.{List, [], _∷_}
 use Prim.Native.Nat.{ℕ}
 use lib.ListN.{getD}
 use Rattle.octet_fields.specs.Layout.{Run, high, low, octet, fields, octets}
 use Rattle.ucp_messages.specs.declared.Heartbeat.{Heartbeat}
 
--- offset 0: ID; 1 and 2: status; 3: time stamp, low octet first; 5: message counts
+-- offset 0: ID; 1 and 2: status; 3: time stamp, low octet first; 5: message counts, high octet first
 abbrev pub heartbeatLayout : List Run
 heartbeatLayout = octet ∷ octet ∷ octet ∷ low 2 ∷ high (16 ∷ []) ∷ []
 
