@@ -460,8 +460,37 @@ static void try_layout(void)
     EXPECT(offsetof(struct ostrogosz_message, control) == 64);
 }
 
+/* Whether a measure is known and has this value. */
+static int measures(struct ostrogosz_measure measure, int32_t value)
+{
+    return measure.known == 1 && measure.value == value;
+}
+
+static int measures_nothing(struct ostrogosz_measure measure)
+{
+    return measure.known == 0 && measure.value == 0;
+}
+
+/* What raw numbers mean, at the edges and at the no data marks. */
+static void try_meanings(void)
+{
+    EXPECT(measures(ostrogosz_altitude_in_feet(0), -1000));
+    EXPECT(measures(ostrogosz_altitude_in_feet(240), 5000));
+    EXPECT(measures(ostrogosz_altitude_in_feet(0xFFE), 101350));
+    EXPECT(measures_nothing(ostrogosz_altitude_in_feet(0xFFF)));
+    EXPECT(measures(ostrogosz_rate_in_feet_per_minute(1), 64));
+    EXPECT(measures(ostrogosz_rate_in_feet_per_minute(-2047), -131008));
+    EXPECT(measures_nothing(ostrogosz_rate_in_feet_per_minute(-2048)));
+    EXPECT(ostrogosz_geometric_altitude_in_feet(-100) == -500);
+    EXPECT(ostrogosz_degrees_e7(0x1FEF15) == 449070668);
+    EXPECT(ostrogosz_degrees_e7(0xA88978 - 0x1000000) == -1229948616);
+    EXPECT(ostrogosz_degrees_e7(-0x800000) == -1800000000);
+    EXPECT(ostrogosz_degrees_e7(0x400000) == 900000000);
+}
+
 int main(void)
 {
+    try_meanings();
     try_bodies();
     try_flags();
     try_report_fields();

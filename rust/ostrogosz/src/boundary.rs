@@ -58,6 +58,15 @@ pub struct ReadMessage {
     pub initialization: Initialization,
 }
 
+/// A value, or no data.
+#[repr(C)]
+pub struct Measure {
+    /// 1, or 0 for no data.
+    pub known: u32,
+    /// 0 for no data.
+    pub value: i32,
+}
+
 /// A MAVLink frame that was read. The struct that `id` names is filled; all
 /// others, and everything but `refusal` on a refusal, are 0.
 #[repr(C)]
@@ -168,6 +177,11 @@ extern "C" {
         initialization: Initialization,
         buffer: *mut Buffer,
     ) -> Written;
+
+    pub fn ostrogosz_altitude_in_feet(altitude: u16) -> Measure;
+    pub fn ostrogosz_rate_in_feet_per_minute(vertical_rate: i16) -> Measure;
+    pub fn ostrogosz_geometric_altitude_in_feet(altitude: i16) -> i32;
+    pub fn ostrogosz_degrees_e7(angle: i32) -> i64;
 
     pub fn ostrogosz_mavlink_read(input: *const u8, input_length: usize) -> ReadFrame;
 

@@ -10,6 +10,7 @@
 
 mod boundary;
 pub mod mavlink;
+pub mod meanings;
 pub mod messages;
 mod receiver;
 mod refusal;
