@@ -303,7 +303,7 @@ pub extern "C" fn ostrogosz_write_uplink(payload: &[u8], output: &mut [u8]) -> O
 pub extern "C" fn ostrogosz_write_ownship(report: Report, output: &mut [u8]) -> OstrogoszWritten
     ensures { λ r. ⌜ WritesBody (Message.Ownship report) [] (now (output .entry)) r (now (output .exit)) ⌝ }
 {
-    writer_answers::in_numbers(ucp_messages::message_10::write(10, report, output))
+    writer_answers::in_numbers(ucp_messages::message_10::write_ownship(report, output))
 }
 
 #[no_mangle]
@@ -320,7 +320,7 @@ pub extern "C" fn ostrogosz_write_geometric_altitude(
 pub extern "C" fn ostrogosz_write_traffic(report: Report, output: &mut [u8]) -> OstrogoszWritten
     ensures { λ r. ⌜ WritesBody (Message.Traffic report) [] (now (output .entry)) r (now (output .exit)) ⌝ }
 {
-    writer_answers::in_numbers(ucp_messages::message_10::write(20, report, output))
+    writer_answers::in_numbers(ucp_messages::message_10::write_traffic(report, output))
 }
 
 #[no_mangle]

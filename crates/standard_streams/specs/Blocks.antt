@@ -1,11 +1,11 @@
--- What a block of the input leaves of the receiver's record, and cleared memory. Assumes nothing.
+-- What a block of the input leaves of the receiver's record, cleared memory, and the closing line. Assumes nothing.
 use mathlib.Core.Path.{_≡_}
 use mathlib.Core.List.{List}
 use Prim.Native.Nat.{ℕ, _≤_}
 use lib.ListN.{length, replicate}
 use Rattle.receiver.specs.declared.Counts.{Counts}
 use Rattle.receiver.specs.Step.{State}
-use Rattle.listing.specs.Lists.{Behind}
+use Rattle.listing.specs.Lists.{Behind, Closes}
 use Rattle.standard_streams.specs.declared.Got.{Got}
 use Rattle.standard_streams.specs.declared.Got.the-variants.{Octets, Ended as NoMore, Failed as ReadFailed}
 use Rattle.standard_streams.specs.declared.Input.{Input}
@@ -26,3 +26,8 @@ abbrev pub Within : Got → ℕ → Type 0
 Within (Octets n) block = n ≤ block
 Within NoMore block = Unit {0}
 Within ReadFailed block = Unit {0}
+
+-- the closing line stands at the start of the text, up to this place, as `listing::put_closing` puts it
+pub record Closed (counts : Counts) (before after : List ℕ) : Type 0 where
+  pub next : ℕ
+  pub line : Closes before 0 counts next after

@@ -1,7 +1,7 @@
 // What the programs that read a line share: standard input by the block, standard output, and clearing what was lent. What is
 // read and written no contract can say; each is safe, ends, and fixes what it can.
 ghost use lib.ListN.{length};
-ghost use Rattle.standard_streams.specs.Blocks.{Zeroed, Within};
+ghost use Rattle.standard_streams.specs.Blocks.{Closed, Zeroed, Within};
 use libc::STDIN_FILENO;
 use libc::STDOUT_FILENO;
 use receiver::Counts;
@@ -71,7 +71,9 @@ pub fn write_first(text: &[u8], n: usize) -> bool {
 }
 
 // The closing line, and whether it was written.
-pub fn write_closing(text: &mut [u8], counts: Counts) -> bool {
+pub fn write_closing(text: &mut [u8], counts: Counts) -> bool
+    ensures { λ r. ⌜ Closed counts (now (text .entry)) (now (text .exit)) ⌝ }
+{
     let n = listing::put_closing(text, 0, counts);
     write_out(&text[..n])
 }

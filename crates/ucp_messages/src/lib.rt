@@ -180,9 +180,9 @@ pub fn write_message(message: Message, payload: &[u8], output: &mut [u8]) -> Wri
     match message {
         Message::Heartbeat(heartbeat) => message_0::write(heartbeat, output),
         Message::Uplink => message_7::write(payload, output),
-        Message::Ownship(report) => message_10::write(10, report, output),
+        Message::Ownship(report) => message_10::write_ownship(report, output),
         Message::GeometricAltitude(geometric) => message_11::write(geometric, output),
-        Message::Traffic(report) => message_10::write(20, report, output),
+        Message::Traffic(report) => message_10::write_traffic(report, output),
         Message::Request(request) => message_44::write(request, output),
         Message::Control(control) => message_45::write(control, output),
         Message::Initialization(initialization) => message_117::write(initialization, output),

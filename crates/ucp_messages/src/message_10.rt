@@ -116,7 +116,7 @@ fn octets(id: u8, report: Report) -> [u8; 28]
     ]
 }
 
-pub fn write(id: u8, report: Report, output: &mut [u8]) -> Written
+fn write(id: u8, report: Report, output: &mut [u8]) -> Written
     ensures { λ r. ⌜ Writes (reportFits report) (reportBody id report) (now (output .entry)) r (now (output .exit)) ⌝ }
 {
     if !fits(report) {
@@ -124,4 +124,17 @@ pub fn write(id: u8, report: Report, output: &mut [u8]) -> Written
     }
     let body = octets(id, report);
     super::output::put(&body, output)
+}
+
+// Two writers rather than one that takes the ID: no other can then be written.
+pub fn write_ownship(report: Report, output: &mut [u8]) -> Written
+    ensures { λ r. ⌜ Writes (reportFits report) (reportBody 10 report) (now (output .entry)) r (now (output .exit)) ⌝ }
+{
+    write(10, report, output)
+}
+
+pub fn write_traffic(report: Report, output: &mut [u8]) -> Written
+    ensures { λ r. ⌜ Writes (reportFits report) (reportBody 20 report) (now (output .entry)) r (now (output .exit)) ⌝ }
+{
+    write(20, report, output)
 }

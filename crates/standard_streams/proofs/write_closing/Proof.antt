@@ -1,4 +1,4 @@
--- `standard_streams::write_closing` is safe: the closing line ends within the text. Assumes nothing.
+-- `standard_streams::write_closing` meets its contract: the closing line ends within the text. Assumes nothing.
 use mathlib.Core.Path.{sym}
 use mathlib.Core.Bool.{Bool, true, false}
 use mathlib.Core.List.{List}
@@ -43,7 +43,7 @@ same-length : tie.Need-same-length
 same-length c = search needs
 
 returns : tie.Need-returns
-returns c = search needs
+returns c = record { next = c .before .before .before .before .put-closing .result; line = c .before .before .before .before .put-closing .ensures }
 
 pub write-closing-spec : {M : Type 1} → statement M
 write-closing-spec =
