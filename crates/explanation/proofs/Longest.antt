@@ -1,7 +1,6 @@
 -- How long a line can be. Assumes nothing.
-use mathlib.Core.Path.{_≡_, refl}
 use mathlib.Core.Bool.{Bool, true, false, cond}
-use mathlib.Core.List.{List, [], _∷_, _++_}
+use mathlib.Core.List.{List, [], _∷_}
 use Prim.Native.Nat.{ℕ, _+_, _*_, _/_, _%_, _≤_}
 use native.Mathlib.Omega.{arith}
 use lib.Dec.{eqb}
@@ -19,7 +18,7 @@ use Rattle.ucp_messages.specs.declared.Message.{Message}
 use Rattle.ucp_messages.specs.declared.Message.the-variants.{Heartbeat as HeartbeatMessage, Uplink as UplinkMessage, Ownship as OwnshipMessage, GeometricAltitude as GeometricMessage, Traffic as TrafficMessage, Request as RequestMessage, Control as ControlMessage, Initialization as InitializationMessage}
 use Rattle.ucp_messages.specs.Reads.{Answer, refused as unread, means, answerDue}
 use Rattle.explanation.specs.declared.Spelling.the-variants.{Escaped}
-use Rattle.explanation.specs.Values.{isPlain, escaped, spelled, natural, minus, integer, point, altitudeShown, rateShown, isUnknown, metresShown, Value, number, amount, measure, altitude, rate, angle, track, millimetres, squawk, hexadecimal, quoted, truth, shown, Part, fields}
+use Rattle.explanation.specs.Values.{isPlain, escaped, spelled, minus, integer, point, altitudeShown, rateShown, isUnknown, metresShown, Value, number, amount, measure, altitude, rate, angle, track, millimetres, squawk, hexadecimal, quoted, truth, shown, Part, fields}
 use Rattle.explanation.specs.Kinds.{heartbeatParts, reportParts, geometricParts, requestParts, controlParts, initializationParts, messageShown}
 use Rattle.explanation.specs.Explanation.{reason, refusal, readLine, explanation}
 use Rattle.explanation.specs.Calls.{textRoom}

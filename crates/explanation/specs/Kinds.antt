@@ -1,5 +1,4 @@
 -- The fields of each kind of message as they are shown, in the order of its definition. Assumes nothing.
-use mathlib.Core.Bool.{cond}
 use mathlib.Core.List.{List, [], _∷_, _++_}
 use Prim.Native.Nat.{ℕ, _+_, _*_, _/_}
 use lib.ListN.{drop}

@@ -6,7 +6,6 @@ use mathlib.Core.List.{List, [], _∷_, _++_}
 use Prim.Native.Nat.{ℕ, zero, suc, _+_, _*_, _/_, _%_}
 use lib.Dec.{eqb, leb, ltb}
 use lib.IntN.{ℤ, pos, negsuc, natAbs}
-use lib.ListN.{length}
 use Rattle.octet_fields.specs.declared.Text.{Text}
 use Rattle.octet_fields.specs.Texts.{textOctets}
 use Rattle.message_meanings.specs.declared.Altitude.{Altitude}

@@ -10,7 +10,6 @@ use receiver::Taken;
 use ucp_messages::Message;
 use ucp_messages::Read;
 ghost use mathlib.Core.Path.{_≡_};
-ghost use Prim.Native.Nat.{_≤_};
 ghost use lib.ListN.{length};
 ghost use Rattle.receiver.specs.Parts.{verdictOf};
 ghost use Rattle.listing.specs.Listing.{bodyRoom};

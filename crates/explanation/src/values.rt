@@ -3,9 +3,7 @@ use super::Spelling;
 use message_meanings::Altitude;
 use message_meanings::Rate;
 use octet_fields::Text;
-ghost use mathlib.Core.Path.{_≡_};
 ghost use mathlib.Core.List.{_++_};
-ghost use Rattle.octet_fields.specs.Texts.{textOctets};
 ghost use Rattle.explanation.specs.Clips.{Clips};
 ghost use Rattle.explanation.specs.Values.{labelled, behind, altitudeShown, rateShown, metresShown, field, number, amount, measure, altitude, rate, angle, track, millimetres, squawk, hexadecimal, quoted, truth, integer, codes};
 

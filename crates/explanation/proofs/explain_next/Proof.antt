@@ -2,7 +2,6 @@
 use mathlib.Core.Path.{_∙_}
 use native.Mathlib.Omega.{arith}
 use Rattle.listing.proofs.Runs.{body-fits}
-use Rattle.explanation.specs.Explanation.{explanation}
 use Rattle.receiver.specs.Step.{run, stateOf}
 use Rattle.listing.specs.Listing.{bodyRoom}
 use Rattle.explanation.proofs.Clipped.{all-put}

@@ -1,8 +1,6 @@
 -- `explanation::put_answer` meets its contract, by the answer. Assumes nothing.
 use mathlib.Core.Path.{refl, sym}
 use native.Mathlib.Omega.{arith}
-use denote.Ref.{now}
-use lib.ListN.{length}
 use lib.Seq.{length-take-le}
 use Prim.Native.Nat.{_≤_}
 use Rattle.listing.specs.Listing.{bodyRoom}

@@ -1,5 +1,5 @@
 -- `explanation::text::put_octet` meets its contract, with room and without. Assumes nothing.
-use mathlib.Core.Path.{refl, sym}
+use mathlib.Core.Path.{sym}
 use native.Mathlib.Omega.{arith}
 use lib.Seq.{set-out}
 use denote.Ref.{now}
