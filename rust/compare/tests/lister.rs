@@ -1,33 +1,14 @@
 //! The line lister, as a program, beside the second program's.
 
-use std::io::Write;
-use std::path::Path;
-use std::process::{Command, Stdio};
-use std::thread;
-
 use compare::generator::Generator;
 use compare::lines::Kind;
+use compare::programs::output_of;
 use compare::tally::Tally;
 use second::lister::list;
 
 /// What the proved lister writes for this input.
 fn listed(input: &[u8]) -> Vec<u8> {
-    let program = Path::new(env!("CARGO_MANIFEST_DIR")).join("../../target/bin/line_lister");
-    let mut lister = Command::new(&program)
-        .stdin(Stdio::piped())
-        .stdout(Stdio::piped())
-        .spawn()
-        .unwrap_or_else(|error| {
-            panic!("{error}: run `rt check line_lister` at the root of the repository")
-        });
-    let mut into = lister.stdin.take().expect("a pipe");
-    // Fed from beside, since the lister writes while it reads.
-    let input = input.to_vec();
-    let feeder = thread::spawn(move || into.write_all(&input));
-    let output = lister.wait_with_output().expect("the lister ends");
-    feeder.join().expect("no panic").expect("all is read");
-    assert!(output.status.success());
-    output.stdout
+    output_of("line_lister", input)
 }
 
 #[test]
