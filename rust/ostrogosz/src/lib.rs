@@ -4,6 +4,44 @@
 //! these answers for every input; this crate only turns slices into pointers
 //! and numbers into types. It has no allocation and no `std`. The numbers of
 //! the refusals are those of the table in document 01.
+//!
+//! | Call | Room that always suffices | Refusals, in the order of their tests |
+//! |---|---|---|
+//! | [`Receiver::receive`], [`Receiver::receive_slice`] | [`LONGEST_BODY`], 436 | 1 or 3, the first fault; else at the flag 2, 4, 5, 6 |
+//! | [`write_frame`] | [`LONGEST_FRAME`], 878 | 7, 8 |
+//! | [`messages::read_message`] | | 10, 11, 12, 13 |
+//! | [`messages::write_message`] | [`LONGEST_BODY`], 436 | 13, 8 |
+//! | [`messages::send_message`] | its buffer, 878 | 13 |
+//! | [`mavlink::read_frame`] | | 20, 21, 20, 22, 23, 20, 24, 25 |
+//! | [`mavlink::write_frame`] | [`mavlink::LONGEST_FRAME`], 50 | 25, 8 |
+//! | [`frame_check`], [`meanings`] | | none |
+//!
+//! A refusal writes nothing. Success writes exactly the answer at the start of
+//! the output; the octets behind it keep what they held. A lent output is its
+//! caller's to clear.
+//!
+//! Structs hold the machine's numbers. On the line messages 10, 11, 20 and the
+//! counts of 0 have the high octet first; 45, 117, the time stamp of 0, all of
+//! MAVLink and both checks have the low octet first. Each field's documentation
+//! has its unit, and its mark for "unknown" where there is one; marks are
+//! carried like any value.
+//!
+//! ```
+//! use ostrogosz::messages::{read_message, send_message, Message, Request};
+//! use ostrogosz::{Answer, Receiver, LONGEST_BODY, LONGEST_FRAME};
+//!
+//! let request = Message::Request(Request { requested_id: 43 });
+//! let mut frame = [0; LONGEST_FRAME];
+//! let length = send_message(&request, &mut frame)?;
+//! assert_eq!(frame[..length], [0x7E, 0x2C, 0x02, 0x2B, 0xC5, 0xE7, 0x7E]);
+//!
+//! let mut receiver = Receiver::new();
+//! let mut body = [0; LONGEST_BODY];
+//! let taken = receiver.receive_slice(&frame[..length], &mut body);
+//! assert_eq!(taken.answer, Answer::Delivered(3));
+//! assert_eq!(read_message(&body[..3]), Ok(request));
+//! # Ok::<(), ostrogosz::Refusal>(())
+//! ```
 
 #![no_std]
 #![deny(missing_docs)]

@@ -256,8 +256,10 @@ pub fn write_message(message: &Message<'_>, output: &mut [u8]) -> Result<usize, 
 ///
 /// # Errors
 ///
-/// [`Refusal::Field`] for a field outside its range or too wide for its bits,
-/// and no other. A refusal writes nothing.
+/// [`Refusal::Field`] for a field outside its range or too wide for its bits.
+/// The body then goes through the frame writer, whose refusals 7 and 8 no
+/// message is known to get: a body has 3 to 436 octets, and the buffer has room
+/// for its frame. A refusal writes nothing.
 #[inline]
 pub fn send_message(
     message: &Message<'_>,

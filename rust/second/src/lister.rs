@@ -46,8 +46,8 @@ fn print_body(body: &[u8], output: &mut impl Write) -> io::Result<()> {
     writeln!(output)
 }
 
-/// The closing line.
-fn print_counts(counts: Counts, output: &mut impl Write) -> io::Result<()> {
+/// The closing line (document 01, Frames to try).
+pub fn print_counts(counts: Counts, output: &mut impl Write) -> io::Result<()> {
     writeln!(
         output,
         "bytes {} flags {} delivered {} refused {} skipped {} open {}",

@@ -1,8 +1,9 @@
 //! A UCP line explained.
 
-use std::fmt::Write;
+use std::io::Write;
 
 use second::frame::LONGEST_BODY;
+use second::lister::print_counts;
 use second::messages::{
     altitude_feet, geometric_altitude_feet, read, vertical_rate_feet_per_minute, Control,
     Heartbeat, Initialization, Message, Report,
@@ -15,7 +16,7 @@ use super::{hexadecimal, known, pointed, quoted, reason, truth};
 pub fn line(octets: &[u8]) -> Vec<u8> {
     let mut receiver = Receiver::new();
     let mut room = [0; LONGEST_BODY];
-    let mut text = String::new();
+    let mut text = Vec::new();
     for &octet in octets {
         match receiver.receive(octet, &mut room) {
             Answer::Nothing => {}
@@ -23,19 +24,8 @@ pub fn line(octets: &[u8]) -> Vec<u8> {
             Answer::Delivered(length) => writeln!(text, "{}", body(&room[..length])).unwrap(),
         }
     }
-    let counts = receiver.counts();
-    writeln!(
-        text,
-        "bytes {} flags {} delivered {} refused {} skipped {} open {}",
-        counts.bytes(),
-        counts.flags,
-        counts.delivered,
-        counts.refused,
-        counts.skipped,
-        counts.open
-    )
-    .unwrap();
-    text.into_bytes()
+    print_counts(receiver.counts(), &mut text).unwrap();
+    text
 }
 
 /// The line of a delivered body.
