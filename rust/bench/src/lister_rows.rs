@@ -12,6 +12,8 @@ use compare::generator::Generator;
 use compare::lines::{share_flag, Kind as Line};
 use second::frame::frame;
 
+use crate::table::{Row, Unit};
+
 /// The argument by which this program is the lister in Rust.
 pub const LISTER: &str = "lister";
 
@@ -21,17 +23,12 @@ const OCTETS: usize = 32 << 20;
 /// How often each program is timed, in turn.
 const ROUNDS: usize = 7;
 
-/// Prints the table of the line lister.
+/// Prints the rows of the line lister.
 pub fn print() -> io::Result<()> {
-    println!("line lister, MB/s (best of {ROUNDS}; ratio: ours / Rust)");
-    println!("  capture                  ours    Rust  ratio");
     let mut generator = Generator::new(12);
-    print_row("frames of 28 octets ", &frames(28, &mut generator))?;
-    print_row("frames of 436 octets", &frames(436, &mut generator))?;
-    print_row(
-        "noise               ",
-        &Line::Noise.line(OCTETS, &mut generator),
-    )
+    print_row("frames of 28", &frames(28, &mut generator))?;
+    print_row("frames of 436", &frames(436, &mut generator))?;
+    print_row("noise", &Line::Noise.line(OCTETS, &mut generator))
 }
 
 fn frames(length: usize, generator: &mut Generator) -> Vec<u8> {
@@ -57,7 +54,14 @@ fn print_row(name: &str, line: &[u8]) -> io::Result<()> {
         }
     }
     let [ours, rust] = best.map(|seconds| line.len() as f64 / 1e6 / seconds);
-    println!("  {name}  {ours:>7.0} {rust:>7.0}  {:>5.2}", ours / rust);
+    Row {
+        work: format!("list a capture, {name}"),
+        unit: Unit::Megabytes,
+        ours,
+        rust,
+        second: None,
+    }
+    .print();
     Ok(())
 }
 

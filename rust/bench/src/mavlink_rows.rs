@@ -9,6 +9,7 @@ use ostrogosz::mavlink::{read_frame, write_frame, Header, Message, LONGEST_FRAME
 use second::mavlink as second;
 
 use crate::mavlink;
+use crate::table::{Row, Unit};
 use crate::timing::best_times;
 
 /// Frames in turn, so that no branch predictor learns one by heart.
@@ -24,10 +25,8 @@ const HEADER: Header = Header {
 /// The same for the second program.
 const SECOND_HEADER: [u8; 3] = [HEADER.sequence, HEADER.system, HEADER.component];
 
-/// Prints the table of the frames.
+/// Prints the rows of the frames.
 pub fn print() {
-    println!("MAVLink, ns per frame (best of many; ratio: Rust / ours, second / ours)");
-    println!("  frame                  ours    Rust  second  ratio  ratio");
     print_rows(Kind::Dynamic);
 }
 
@@ -42,7 +41,7 @@ fn print_rows(kind: Kind) {
     for (message, frame) in ours.iter().zip(&frames) {
         assert_same_work(message, frame);
     }
-    print_row("read ", kind, read_times(&frames));
+    print_row("read", kind, read_times(&frames));
     print_row("write", kind, write_times(&ours, &theirs));
 }
 
@@ -63,12 +62,14 @@ fn assert_same_work(message: &Message, frame: &[u8]) {
 
 fn print_row(verb: &str, kind: Kind, times: [f64; 3]) {
     let [ours, rust, second] = times.map(|turn| turn / FRAMES as f64);
-    println!(
-        "  {verb} {:<13}  {ours:>6.1}  {rust:>6.1}  {second:>6.1}  {:>5.2}  {:>5.1}",
-        kind.name(),
-        rust / ours,
-        second / ours
-    );
+    Row {
+        work: format!("{verb} MAVLink {}", kind.name()),
+        unit: Unit::Nanoseconds,
+        ours,
+        rust,
+        second: Some(second),
+    }
+    .print();
 }
 
 fn read_times(frames: &[Vec<u8>]) -> [f64; 3] {

@@ -10,15 +10,14 @@ use ostrogosz::LONGEST_BODY;
 use second::messages as second;
 
 use crate::messages;
+use crate::table::{Row, Unit};
 use crate::timing::best_times;
 
 /// Messages in turn, so that no branch predictor learns one by heart.
 const MESSAGES: usize = 64;
 
-/// Prints the table of the messages.
+/// Prints the rows of the messages.
 pub fn print() {
-    println!("messages, ns per message (best of many; ratio: Rust / ours, second / ours)");
-    println!("  message              ours    Rust  second  ratio  ratio");
     for kind in [Kind::Ownship, Kind::Control] {
         print_rows(kind);
     }
@@ -34,7 +33,7 @@ fn print_rows(kind: Kind) {
     for (message, body) in ours.iter().zip(&bodies) {
         assert_same_work(message, body);
     }
-    print_row("read ", kind, read_times(&bodies));
+    print_row("read", kind, read_times(&bodies));
     print_row("write", kind, write_times(&ours, &theirs));
 }
 
@@ -50,12 +49,14 @@ fn assert_same_work(message: &Message<'_>, body: &[u8]) {
 
 fn print_row(verb: &str, kind: Kind, times: [f64; 3]) {
     let [ours, rust, second] = times.map(|turn| turn / MESSAGES as f64);
-    println!(
-        "  {verb} {:<11}  {ours:>6.1}  {rust:>6.1}  {second:>6.1}  {:>5.2}  {:>5.1}",
-        kind.name(),
-        rust / ours,
-        second / ours
-    );
+    Row {
+        work: format!("{verb} message {}", kind.name()),
+        unit: Unit::Nanoseconds,
+        ours,
+        rust,
+        second: Some(second),
+    }
+    .print();
 }
 
 fn read_times(bodies: &[Vec<u8>]) -> [f64; 3] {

@@ -9,24 +9,18 @@ use ostrogosz::{Answer, LONGEST_BODY};
 use second::frame::frame;
 
 use crate::receiver::Receiver;
+use crate::table::{Row, Unit};
 use crate::timing::best_times;
 
 /// Octets of a line, about: no branch predictor learns it by heart.
 const OCTETS: usize = 50_000;
 
-/// Prints the table of the receiver.
+/// Prints the rows of the receiver.
 pub fn print() {
-    println!(
-        "receiver, MB/s (best of many; ratio: ours / Rust, octet to octet and slice to slice)"
-    );
-    println!("  line                    octet   slice   Rust octet   Rust slice  ratio  ratio");
     let mut generator = Generator::new(8);
-    print_row("frames of 28 octets ", &frames(28, &mut generator));
-    print_row("frames of 436 octets", &frames(436, &mut generator));
-    print_row(
-        "noise               ",
-        &Line::Noise.line(OCTETS, &mut generator),
-    );
+    print_rows("frames of 28", &frames(28, &mut generator));
+    print_rows("frames of 436", &frames(436, &mut generator));
+    print_rows("noise", &Line::Noise.line(OCTETS, &mut generator));
 }
 
 /// Frames of random bodies that share flags.
@@ -38,7 +32,7 @@ fn frames(length: usize, generator: &mut Generator) -> Vec<u8> {
     line
 }
 
-fn print_row(name: &str, line: &[u8]) {
+fn print_rows(name: &str, line: &[u8]) {
     let mut proved = [ostrogosz::Receiver::new(), ostrogosz::Receiver::new()];
     let [proved_octet, proved_slice] = &mut proved;
     let mut rust = [Receiver::new(), Receiver::new()];
@@ -56,11 +50,16 @@ fn print_row(name: &str, line: &[u8]) {
     ]);
     let [octet, slice, rust_octet, rust_slice] =
         times.map(|nanoseconds| line.len() as f64 * 1e3 / nanoseconds);
-    println!(
-        "  {name}  {octet:>7.0} {slice:>7.0} {rust_octet:>12.0} {rust_slice:>12.0}  {:>5.2}  {:>5.2}",
-        octet / rust_octet,
-        slice / rust_slice
-    );
+    for (way, ours, rust) in [("octet", octet, rust_octet), ("slice", slice, rust_slice)] {
+        Row {
+            work: format!("receive by the {way}, {name}"),
+            unit: Unit::Megabytes,
+            ours,
+            rust,
+            second: None,
+        }
+        .print();
+    }
 }
 
 /// The whole line, a call for each octet.

@@ -6,16 +6,15 @@ use compare::bodies::Kind;
 use compare::generator::Generator;
 use ostrogosz::LONGEST_FRAME;
 
+use crate::table::{Row, Unit};
 use crate::timing::best_times;
 use crate::writer::{one_pass, proved, two_passes};
 
 /// Bodies in turn, so that no branch predictor learns one by heart.
 const BODIES: usize = 64;
 
-/// Prints the table of the frame writer.
+/// Prints the rows of the frame writer.
 pub fn print() {
-    println!("frame writer, ns per body (best of many; ratio: faster Rust / ours)");
-    println!("  octets  body      ours  one pass  two passes  ratio");
     for length in [28, 18, 7, 436] {
         for kind in [Kind::Random, Kind::Flags] {
             print_row(length, kind);
@@ -34,13 +33,19 @@ fn print_row(length: usize, kind: Kind) {
         &mut writer(&bodies, two_passes),
     ])
     .map(|turn| turn / BODIES as f64);
-    let name = if kind == Kind::Random {
+    let octets = if kind == Kind::Random {
         "random"
     } else {
         "all 7E"
     };
-    let ratio = one.min(two) / ours;
-    println!("  {length:>6}  {name}  {ours:>6.1}  {one:>8.1}  {two:>10.1}  {ratio:>5.2}");
+    Row {
+        work: format!("write a frame of {length} octets, {octets}"),
+        unit: Unit::Nanoseconds,
+        ours,
+        rust: one.min(two),
+        second: None,
+    }
+    .print();
 }
 
 /// Frames every body once, each contender into an output of its own.
