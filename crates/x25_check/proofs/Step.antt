@@ -5,14 +5,15 @@ use mathlib.Core.Bool.{Bool, true, false, xor}
 use mathlib.Core.List.{List, [], _∷_, _++_, append-nil}
 use Prim.Native.Nat.{ℕ, zero, suc, _+_, _*_, _/_, _%_, _<_}
 use native.Mathlib.Omega.{arith}
+use native.Mathlib.Nat.{mod-lt}
 use native.Mathlib.Numerals.{add-one}
 use lib.Dec.{eqb}
 use lib.ListN.{length, getD, drop, replicate, length-append, List·getD-append}
 use lib.Seq.{drop-cons, drop-at}
-use lib.Bits.{bitXor, differ, xor-shr, xor-mod, xor-lt, xor-zero-r}
+use lib.Bits.{bitXor, differ, xor-shr, xor-mod, xor-lt, xor-zero-r, xor-comm, xor-shifted}
 use Rattle.binary_polynomial.specs.Bits.{odd}
 use Rattle.binary_polynomial.specs.Division.{coefficient, degree16, step, reduced, polynomial}
-use Rattle.binary_polynomial.proofs.Xor.{digit-cases, xor-swap, below-two, half, last}
+use Rattle.binary_polynomial.proofs.Xor.{digit-cases, xor-assoc, xor-swap, below-two, half, last}
 use Rattle.binary_polynomial.proofs.Laws.{coefficient-xor, coefficient-lt, step-xor, step-lt, sum, sum-zeros, polynomial-xor, polynomial-lt}
 use Rattle.binary_polynomial.proofs.Linear.{Linear, Linear16, both, times, agree}
 use Rattle.x25_check.specs.Check.{bitsUp, wireBits, next, register, mirrored, x25, x25From}
@@ -167,6 +168,10 @@ octet-step check x hc hx =
     (sum-eight x ∙ sym (append-nil (bitsUp 8 x)))
 
 -- ---- the octet at i, and then the others
+pub from-lt : (check : ℕ) (octets : List ℕ) → x25From check octets < degree16
+unfolding x25From
+from-lt check octets = mirrored-lt _
+
 octet-first : (check : ℕ) (octets : List ℕ) (i : ℕ) → i < length octets
     → x25From check (drop i octets) ≡ x25From (x25From check (getD octets i 0 ∷ [])) (drop (i + 1) octets)
 unfolding x25From wireBits
@@ -176,21 +181,106 @@ octet-first check octets i h =
     ∙ ap (λ (r : ℕ). mirrored (register r (wireBits (drop (suc i) octets))))
     (sym (mirrored-back _ (register-lt (mirrored check) (bitsUp 8 (getD octets i 0)) (mirrored-lt check)))))
 
+-- ---- two octets at once
+abbrev pub quotient : ℕ → ℕ
+quotient met = bitXor (bitXor (bitXor (bitXor met (met * 16)) (met * 256)) (met * 2048)) (met * 4096) % 65536
+
+abbrev pub spread : ℕ → ℕ
+spread q = bitXor (bitXor q (q / 32)) (q / 4096)
+
+abbrev pub paired : ℕ → ℕ
+paired met = spread (quotient met)
+
+wide-quotient-linear : Linear (λ n. bitXor (bitXor (bitXor (bitXor n (n * 16)) (n * 256)) (n * 2048)) (n * 4096))
+wide-quotient-linear =
+    both (λ n. bitXor (bitXor (bitXor n (n * 16)) (n * 256)) (n * 2048)) (λ n. n * 4096)
+    (both (λ n. bitXor (bitXor n (n * 16)) (n * 256)) (λ n. n * 2048)
+    (both (λ n. bitXor n (n * 16)) (λ n. n * 256) (both (λ n. n) (λ n. n * 16) (λ c d. refl) (times 4)) (times 8))
+    (times 11))
+    (times 12)
+
+quotient-linear : Linear quotient
+quotient-linear a b =
+    ap (λ (n : ℕ). n % 65536) (wide-quotient-linear a b)
+    ∙ xor-mod (bitXor (bitXor (bitXor (bitXor a (a * 16)) (a * 256)) (a * 2048)) (a * 4096))
+    (bitXor (bitXor (bitXor (bitXor b (b * 16)) (b * 256)) (b * 2048)) (b * 4096)) 16
+
+spread-linear : Linear spread
+spread-linear =
+    both (λ q. bitXor q (q / 32)) (λ q. q / 4096)
+    (both (λ q. q) (λ q. q / 32) (λ a b. refl) (λ a b. xor-shr a b 5))
+    (λ a b. xor-shr a b 12)
+
+paired-linear : Linear paired
+paired-linear a b = ap spread (quotient-linear a b) ∙ spread-linear (quotient a) (quotient b)
+
+-- sixteen places are eight and eight more
+paired-twice : (n : ℕ) → n < degree16 → paired n ≡ shifted (shifted n)
+paired-twice n h =
+    agree paired (λ n. shifted (shifted n)) (λ a b p q. paired-linear a b)
+    (λ a b p q. ap shifted (shifted-linear a b) ∙ shifted-linear (shifted a) (shifted b))
+    16 refl n h h
+
+-- the octet above meets the register eight places later
+above-linear : Linear (λ y. paired (y * 256))
+above-linear a b = ap paired (times 8 a b) ∙ paired-linear (a * 256) (b * 256)
+
+paired-above : (y : ℕ) → y < 256 → paired (y * 256) ≡ shifted y
+paired-above y h =
+    agree (λ y. paired (y * 256)) shifted (λ a b p q. above-linear a b) (λ a b p q. shifted-linear a b) 8 refl y h (omega arith)
+
+pub pair-step : (check x y : ℕ) → check < degree16 → x < 256 → y < 256
+    → paired (bitXor check (y * 256 + x)) ≡ x25From check (x ∷ y ∷ [])
+pair-step check x y hc hx hy =
+    paired-linear check (y * 256 + x)
+    ∙ ap (bitXor (paired check)) (ap paired (sym (xor-shifted y 8 x hx) ∙ xor-comm (y * 256) x) ∙ paired-linear x (y * 256))
+    ∙ sym (xor-assoc (paired check) (paired x) (paired (y * 256)))
+    ∙ ap₂ bitXor
+    (sym (paired-linear check x) ∙ paired-twice (bitXor check x) (xor-lt 16 check x hc (omega arith)))
+    (paired-above y hy)
+    ∙ sym (shifted-linear (shifted (bitXor check x)) y)
+    ∙ ap (λ (n : ℕ). shifted (bitXor n y)) (octet-step check x hc hx)
+    ∙ octet-step (x25From check (x ∷ [])) y (from-lt check (x ∷ [])) hy
+    ∙ sym (octet-first check (x ∷ y ∷ []) 0 (omega arith))
+
+-- what the steps of the calculation need to fit
+pub pair-lt : (check x y : ℕ) → check < degree16 → x < 256 → y < 256 → bitXor check (y * 256 + x) < degree16
+pair-lt check x y hc hx hy = xor-lt 16 check (y * 256 + x) hc (omega arith)
+
+pub paired-lt : (n : ℕ) → paired n < degree16
+paired-lt n =
+    let q : quotient n < 65536 = mod-lt _ (omega arith) in
+    xor-lt 16 _ _ (xor-lt 16 (quotient n) (quotient n / 32) q (omega arith)) (omega arith)
+
 -- a running check of FFFF is the start
 pub starts : (octets : List ℕ) → x25From 0xFFFF octets ≡ x25 octets
 unfolding x25From x25 mirrored bitsUp polynomial
 starts octets = refl
 
--- octets and then one more: the octet at i, and then the others
-pub octet-next : (check : ℕ) (octets : List ℕ) (extra i : ℕ) → i < length octets
+-- octets and then one more: the two octets at i, and then the others
+pub pair-next : (check : ℕ) (octets : List ℕ) (extra i : ℕ) → i + 1 < length octets
     → x25From check (drop i (octets ++ extra ∷ []))
-    ≡ x25From (x25From check (getD octets i 0 ∷ [])) (drop (i + 1) (octets ++ extra ∷ []))
-octet-next check octets extra i h =
-    octet-first check (octets ++ extra ∷ []) i (simp length-append (omega arith))
-    ∙ ap (λ (x : ℕ). x25From (x25From check (x ∷ [])) (drop (i + 1) (octets ++ extra ∷ [])))
-    (List·getD-append octets (extra ∷ []) 0 i h)
+    ≡ x25From (x25From check (getD octets i 0 ∷ getD octets (i + 1) 0 ∷ [])) (drop (i + 2) (octets ++ extra ∷ []))
+pair-next check octets extra i h =
+    let all = octets ++ extra ∷ [] in
+    let more : i + 2 ≡ i + 1 + 1 = omega arith in
+    let first = List·getD-append octets (extra ∷ []) 0 i (omega arith) in
+    let second = List·getD-append octets (extra ∷ []) 0 (i + 1) h in
+    octet-first check all i (simp length-append (omega arith))
+    ∙ octet-first _ all (i + 1) (simp length-append (omega arith))
+    ∙ rw (more, first, second)
+    (ap (λ (n : ℕ). x25From n (drop (i + 1 + 1) all))
+    (sym (octet-first check (getD octets i 0 ∷ getD octets (i + 1) 0 ∷ []) 0 (omega arith))))
 
--- and at last that one
+-- at last the one that is left and the extra, or the extra alone
+pub pair-last : (check : ℕ) (octets : List ℕ) (extra i : ℕ) → i + 1 ≡ length octets
+    → x25From check (drop i (octets ++ extra ∷ [])) ≡ x25From check (getD octets i 0 ∷ extra ∷ [])
+pair-last check octets extra i e =
+    ap (x25From check)
+    (drop-cons (octets ++ extra ∷ []) i 0 (simp length-append (omega arith))
+    ∙ ap₂ (λ (x : ℕ) (xs : List ℕ). x ∷ xs) (List·getD-append octets (extra ∷ []) 0 i (omega arith))
+    (rw (sym (add-one i)) (drop-at octets (extra ∷ []) (i + 1) (sym e))))
+
 pub octet-last : (check : ℕ) (octets : List ℕ) (extra i : ℕ) → i ≡ length octets
     → x25From check (drop i (octets ++ extra ∷ [])) ≡ x25From check (extra ∷ [])
 octet-last check octets extra i e = ap (x25From check) (drop-at octets (extra ∷ []) i (sym e))

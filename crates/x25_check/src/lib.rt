@@ -13,15 +13,27 @@ fn next_octet(check: u16, octet: u8) -> u16
     (met / 256) ^ (fold * 256) ^ (fold * 8) ^ (fold / 16)
 }
 
+// Two octets at once, sixteen places of the division: the steps of a check wait for each other, and this halves their number.
+fn next_pair(check: u16, first: u8, second: u8) -> u16
+    ensures { λ r. ⌜ r ≡ x25From check (first ∷ second ∷ []) ⌝ }
+{
+    let met = check as u32 ^ (second as u32 * 256 + first as u32);
+    let q = (met ^ (met * 16) ^ (met * 256) ^ (met * 2048) ^ (met * 4096)) % 65536;
+    (q ^ (q / 32) ^ (q / 4096)) as u16
+}
+
 // The check of octets and then of one more, the extra that is not sent.
 pub fn x25_check(octets: &[u8], extra: u8) -> u16
     ensures { λ r. ⌜ r ≡ x25 (now (octets .entry) ++ extra ∷ []) ⌝ }
 {
     let mut check: u16 = 0xFFFF;
     let mut i = 0;
-    while i < octets.len() {
-        check = next_octet(check, octets[i]);
-        i += 1;
+    while octets.len() - i > 1 {
+        check = next_pair(check, octets[i], octets[i + 1]);
+        i += 2;
+    }
+    if i < octets.len() {
+        return next_pair(check, octets[i], extra);
     }
     next_octet(check, extra)
 }

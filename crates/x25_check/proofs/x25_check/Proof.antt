@@ -7,7 +7,7 @@ use native.Mathlib.Omega.{arith}
 use denote.Ref.{now}
 use lib.ListN.{length, drop}
 use Rattle.x25_check.specs.Check.{x25, x25From}
-use Rattle.x25_check.proofs.Step.{starts, octet-next, octet-last}
+use Rattle.x25_check.proofs.Step.{starts, pair-next, pair-last, octet-last}
 use borrow.Author.Needs.{needs}
 use Rattle.x25_check.proofs.x25_check.Statement.{statement}
 use Rattle.x25_check.proofs.x25_check.Tie as tie
@@ -22,11 +22,20 @@ abbrev μ-loop : tie.MeasureT-loop
 loop-holds : tie.Need-loop-holds Inv-loop μ-loop
 loop-holds c = (search needs, search needs, starts _)
 
-shared-slice-read-next-octet : tie.Need-shared-slice-read-next-octet Inv-loop μ-loop
-shared-slice-read-next-octet c = search needs
+sub-loop : tie.Need-sub-loop Inv-loop μ-loop
+sub-loop c = search needs
 
-next-octet-requires : tie.Need-next-octet-requires Inv-loop μ-loop
-next-octet-requires c κs = search needs
+shared-slice-read-next-pair : tie.Need-shared-slice-read-next-pair Inv-loop μ-loop
+shared-slice-read-next-pair c = search needs
+
+add-next-pair : tie.Need-add-next-pair Inv-loop μ-loop
+add-next-pair c = search needs
+
+shared-slice-read-next-pair-2 : tie.Need-shared-slice-read-next-pair-2 Inv-loop μ-loop
+shared-slice-read-next-pair-2 c = search needs
+
+next-pair-requires : tie.Need-next-pair-requires Inv-loop μ-loop
+next-pair-requires c κs = search needs
 
 add-i : tie.Need-add-i Inv-loop μ-loop
 add-i c = search needs
@@ -36,24 +45,38 @@ loop-less c = search needs
 
 loop-again : tie.Need-loop-again Inv-loop μ-loop
 loop-again c =
-    let l = c .before .before .before .loop in
-    let a = c .before .before .before .before .before .args in (
+    let l = c .before .before .before .before .loop in
+    let a = c .before .before .before .before .before .before .args in
+    let two : l .i + 1 < length (now (a .octets)) = omega arith in (
       search needs,
       search needs,
-      ap (λ (n : ℕ). x25From n (drop (l .i + 1) (now (a .octets) ++ a .extra ∷ []))) (c .next-octet .ensures)
-          ∙ sym (octet-next (l .check) (now (a .octets)) (a .extra) (l .i) (c .before .before .loop-test .taken))
+      ap (λ (n : ℕ). x25From n (drop (l .i + 2) (now (a .octets) ++ a .extra ∷ []))) (c .next-pair .ensures)
+          ∙ sym (pair-next (l .check) (now (a .octets)) (a .extra) (l .i) two)
           ∙ l .inv .2,
     )
 
-next-octet-requires-2 : tie.Need-next-octet-requires-2 Inv-loop μ-loop
-next-octet-requires-2 c κs = search needs
+shared-slice-read-next-pair-3 : tie.Need-shared-slice-read-next-pair-3 Inv-loop μ-loop
+shared-slice-read-next-pair-3 c = search needs
+
+next-pair-requires-2 : tie.Need-next-pair-requires-2 Inv-loop μ-loop
+next-pair-requires-2 c κs = search needs
 
 returns : tie.Need-returns Inv-loop μ-loop
 returns c =
-    let l = c .before .before .loop in
-    let a = c .before .before .before .before .args in
+    let l = c .before .before .before .before .loop in
+    let a = c .before .before .before .before .before .before .args in
+    let e : l .i + 1 ≡ length (now (a .octets)) = omega arith in
+    c .next-pair2 .ensures ∙ sym (pair-last (l .check) (now (a .octets)) (a .extra) (l .i) e) ∙ l .inv .2
+
+next-octet-requires : tie.Need-next-octet-requires Inv-loop μ-loop
+next-octet-requires c κs = search needs
+
+returns-2 : tie.Need-returns-2 Inv-loop μ-loop
+returns-2 c =
+    let l = c .before .before .before .loop in
+    let a = c .before .before .before .before .before .args in
     let e : l .i ≡ length (now (a .octets)) = omega arith in
-    c .next-octet2 .ensures ∙ sym (octet-last (l .check) (now (a .octets)) (a .extra) (l .i) e) ∙ l .inv .2
+    c .next-octet .ensures ∙ sym (octet-last (l .check) (now (a .octets)) (a .extra) (l .i) e) ∙ l .inv .2
 
 pub x25-check-spec : {M : Type 1} → statement M
 x25-check-spec =
@@ -62,10 +85,16 @@ x25-check-spec =
     Inv-loop
     μ-loop
     loop-holds
-    shared-slice-read-next-octet
-    next-octet-requires
+    sub-loop
+    shared-slice-read-next-pair
+    add-next-pair
+    shared-slice-read-next-pair-2
+    next-pair-requires
     add-i
     loop-less
     loop-again
-    next-octet-requires-2
-    returns)
+    shared-slice-read-next-pair-3
+    next-pair-requires-2
+    returns
+    next-octet-requires
+    returns-2)
