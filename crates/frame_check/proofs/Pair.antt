@@ -1,5 +1,5 @@
 -- Two octets at once by shifts: sixteen places of the long division. Both sides are linear, so that they are equal where they
--- are equal at each octet and at each octet eight places above, which antt computes. Assumes nothing.
+-- are equal at each power of x, which antt computes. Assumes nothing.
 use mathlib.Core.Path.{_≡_, refl, sym, ap, ap₂, _∙_}
 use mathlib.Core.Bool.{Bool, false, xor}
 use mathlib.Core.List.{List, _++_}
@@ -11,7 +11,7 @@ use lib.Bits.{bitXor, xor-shr, xor-mod, xor-lt, xor-zero-r}
 use Rattle.binary_polynomial.specs.Bits.{bitsOf}
 use Rattle.binary_polynomial.specs.Division.{divided, step, reduced}
 use Rattle.binary_polynomial.proofs.Laws.{sum, sum-zeros, divided-xor, divided-append}
-use Rattle.binary_polynomial.proofs.Linear.{everywhere, Linear, both, times, agree}
+use Rattle.binary_polynomial.proofs.Linear.{Linear, both, times, agree}
 use Rattle.frame_check.proofs.Step.{octet-down}
 
 -- the quotient of r·x^16, and what it leaves
@@ -46,20 +46,12 @@ left-linear a b =
 sixteen : List Bool
 sixteen = replicate 16 false
 
--- equal at each octet, and at each octet eight places above: computed over all of them
-low : (l : ℕ) → l < 256 → left l ≡ divided l sixteen
-unfolding sixteen divided step reduced
-low = everywhere left (λ l. divided l sixteen) 256 refl
-
-high : (h : ℕ) → h < 256 → left (h * 256) ≡ divided (h * 256) sixteen
-unfolding sixteen divided step reduced
-high = everywhere (λ h. left (h * 256)) (λ h. divided (h * 256) sixteen) 256 refl
-
--- so at every running remainder
+-- equal at each power of x, which antt computes, and so at every running remainder
 sixteen-places : (r : ℕ) → r < 65536 → left r ≡ divided r sixteen
-unfolding sixteen sum xor
-sixteen-places =
-    agree left (λ r. divided r sixteen) (λ a b p q. left-linear a b) (λ a b p q. divided-xor a b sixteen sixteen p q refl) low high
+unfolding sixteen sum xor divided step reduced
+sixteen-places r h =
+    agree left (λ r. divided r sixteen) (λ a b p q. left-linear a b) (λ a b p q. divided-xor a b sixteen sixteen p q refl)
+    16 refl r h h
 
 pub pair-step : (r x y : ℕ) → r < 65536 → x < 256 → y < 256 → bitXor (left r) (x * 256 + y) ≡ divided r (bitsOf 8 x ++ bitsOf 8 y)
 unfolding sixteen bitsOf

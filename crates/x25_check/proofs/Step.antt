@@ -1,5 +1,5 @@
--- The step by shifts is eight places of the division: both are linear, so that antt computes them at each octet and at each
--- octet eight places above. Assumes nothing.
+-- The step by shifts is eight places of the division: both are linear, so that antt computes them at each power of x alone.
+-- Assumes nothing.
 use mathlib.Core.Path.{_≡_, refl, sym, ap, ap₂, _∙_}
 use mathlib.Core.Bool.{Bool, true, false, xor}
 use mathlib.Core.List.{List, [], _∷_, _++_, append-nil}
@@ -14,7 +14,7 @@ use Rattle.binary_polynomial.specs.Bits.{odd}
 use Rattle.binary_polynomial.specs.Division.{coefficient, degree16, step, reduced, polynomial}
 use Rattle.binary_polynomial.proofs.Xor.{digit-cases, xor-swap, below-two, half, last}
 use Rattle.binary_polynomial.proofs.Laws.{coefficient-xor, coefficient-lt, step-xor, step-lt, sum, sum-zeros, polynomial-xor, polynomial-lt}
-use Rattle.binary_polynomial.proofs.Linear.{everywhere, Linear, Linear16, both, times, agree}
+use Rattle.binary_polynomial.proofs.Linear.{Linear, Linear16, both, times, agree}
 use Rattle.x25_check.specs.Check.{bitsUp, wireBits, next, register, mirrored, x25, x25From}
 
 -- ---- the definition is linear
@@ -88,11 +88,10 @@ mirrored-lt n = rw (bitsUp-length 16 n) at (polynomial-lt 0 1 (bitsUp 16 n) (ome
 
 pub mirrored-back : (n : ℕ) → n < degree16 → mirrored (mirrored n) ≡ n
 unfolding mirrored bitsUp polynomial
-mirrored-back =
+mirrored-back n h =
     agree (λ n. mirrored (mirrored n)) (λ n. n)
     (λ a b p q. ap mirrored (mirrored-linear a b) ∙ mirrored-linear (mirrored a) (mirrored b)) (λ a b p q. refl)
-    (everywhere (λ n. mirrored (mirrored n)) (λ n. n) 256 refl)
-    (everywhere (λ n. mirrored (mirrored (n * 256))) (λ n. n * 256) 256 refl)
+    16 refl n h h
 
 -- ---- the step by shifts
 abbrev pub fold : ℕ → ℕ
@@ -135,25 +134,32 @@ passed-linear a b p q =
 
 passed-shifted : (n : ℕ) → n < degree16 → passed n ≡ shifted n
 unfolding passed eight mirrored bitsUp polynomial register next step reduced
-passed-shifted =
-    agree passed shifted passed-linear (λ a b p q. shifted-linear a b)
-    (everywhere passed shifted 256 refl)
-    (everywhere (λ n. passed (n * 256)) (λ n. shifted (n * 256)) 256 refl)
+passed-shifted n h = agree passed shifted passed-linear (λ a b p q. shifted-linear a b) 16 refl n h h
 
 -- an octet taken in by a register of 0
-octet-shifted : (x : ℕ) → x < 256 → mirrored (register 0 (bitsUp 8 x)) ≡ shifted x
-unfolding mirrored bitsUp polynomial register next step reduced
-octet-shifted = everywhere (λ x. mirrored (register 0 (bitsUp 8 x))) shifted 256 refl
+taken : ℕ → ℕ
+taken x = mirrored (register 0 (bitsUp 8 x))
+
+taken-linear : Linear16 taken
+unfolding taken
+taken-linear a b p q =
+    ap (λ (bs : List Bool). mirrored (register 0 bs)) (bitsUp-xor 8 a b)
+    ∙ ap mirrored (register-xor 0 0 (bitsUp 8 a) (bitsUp 8 b) (omega arith) (omega arith) (bitsUp-length 8 a ∙ sym (bitsUp-length 8 b)))
+    ∙ mirrored-linear (register 0 (bitsUp 8 a)) (register 0 (bitsUp 8 b))
+
+taken-shifted : (x : ℕ) → x < 256 → taken x ≡ shifted x
+unfolding taken mirrored bitsUp polynomial register next step reduced
+taken-shifted x h = agree taken shifted taken-linear (λ a b p q. shifted-linear a b) 8 refl x h (omega arith)
 
 sum-eight : (x : ℕ) → sum eight (bitsUp 8 x) ≡ bitsUp 8 x
 unfolding eight
 sum-eight x = rw (bitsUp-length 8 x) at (sum-zeros (bitsUp 8 x))
 
 pub octet-step : (check x : ℕ) → check < degree16 → x < 256 → shifted (bitXor check x) ≡ x25From check (x ∷ [])
-unfolding x25From wireBits eight passed
+unfolding x25From wireBits eight passed taken
 octet-step check x hc hx =
     shifted-linear check x
-    ∙ ap₂ bitXor (sym (passed-shifted check hc)) (sym (octet-shifted x hx))
+    ∙ ap₂ bitXor (sym (passed-shifted check hc)) (sym (taken-shifted x hx))
     ∙ sym (mirrored-linear (register (mirrored check) eight) (register 0 (bitsUp 8 x)))
     ∙ ap mirrored
     (sym (register-xor (mirrored check) 0 eight (bitsUp 8 x) (mirrored-lt check) (omega arith) (sym (bitsUp-length 8 x))))
