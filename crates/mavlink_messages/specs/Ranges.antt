@@ -2,7 +2,7 @@
 use mathlib.Core.Bool.{Bool, _&&_, _||_}
 use lib.Dec.{eqb, leb, ltb}
 use Rattle.field_rules.specs.Codes.{isSquawk, isEmitter, isSizeCode}
-use Rattle.field_rules.specs.Text.{isSpaced}
+use Rattle.text_rules.specs.Text.{isSpaced}
 use Rattle.octet_fields.specs.Texts.{textOctets}
 use Rattle.mavlink_messages.specs.declared.Static.{Static}
 use Rattle.mavlink_messages.specs.declared.Dynamic.{Dynamic}

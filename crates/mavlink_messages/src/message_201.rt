@@ -4,7 +4,7 @@ use octet_fields::Text;
 ghost use mathlib.Core.Path.{_≡_};
 ghost use Prim.Native.Nat.{_<_};
 ghost use lib.ListN.{length};
-ghost use Rattle.field_rules.specs.Text.{isSpaced};
+ghost use Rattle.text_rules.specs.Text.{isSpaced};
 ghost use Rattle.octet_fields.specs.Texts.{textOctets};
 ghost use Rattle.mavlink_messages.specs.Static.{staticIn, staticPayload};
 ghost use Rattle.mavlink_messages.specs.Ranges.{staticInRange};
@@ -51,7 +51,7 @@ fn is_text(text: Text) -> bool
         text.c6,
         text.c7,
     ];
-    field_rules::is_spaced(&octets)
+    text_rules::is_spaced(&octets)
 }
 
 pub fn octets(static_data: Static) -> [u8; 19]

@@ -2,12 +2,12 @@
 use mathlib.Core.Path.{refl}
 use Rattle.binary_polynomial.specs.Division.{step, reduced, polynomial}
 use Rattle.field_rules.specs.Codes.{isSquawk, isEmitter, isSizeCode}
-use Rattle.field_rules.specs.Text.{isSpaced}
+use Rattle.text_rules.specs.Text.{isSpaced}
 use Rattle.x25_check.specs.Check.{bitsUp, wireBits, next, register, mirrored, x25}
 use Rattle.mavlink_frame.specs.Kinds.{kindOf}
 use Rattle.mavlink_frame.specs.Frame.{frame}
 use Rattle.mavlink_frame.specs.Reads.{foundOf, found}
-use Rattle.octet_fields.specs.Signed.{signed}
+use Rattle.twos_complement.specs.Signed.{signed}
 use Rattle.mavlink_messages.specs.Static.{staticIn, staticPayload}
 use Rattle.mavlink_messages.specs.Dynamic.{dynamicIn, dynamicPayload}
 use Rattle.mavlink_messages.specs.Ranges.{staticInRange, dynamicInRange}
