@@ -10,8 +10,8 @@ use Rattle.writer_answers.specs.declared.Written.the-variants.{Refused}
 use Rattle.writer_answers.specs.Answers.{Writing}
 use Rattle.mavlink_frame.specs.declared.Header.{Header}
 use Rattle.mavlink_frame.specs.Kinds.{kindOf}
-use Rattle.mavlink_frame.specs.Writes.{roomFor, writeOf, frameOf}
-use Rattle.mavlink_frame.specs.Writes as frame-writes
+use Rattle.mavlink_writer.specs.Writes.{roomFor, writeOf, frameOf}
+use Rattle.mavlink_writer.specs.Writes as frame-writes
 use Rattle.mavlink_messages.specs.declared.Static as static-as
 use Rattle.mavlink_messages.specs.declared.Message.{Message}
 use Rattle.mavlink_messages.specs.declared.Message.the-variants.{DataStream, Static, Dynamic, Status, Traffic}

@@ -6,7 +6,7 @@ use Rattle.text_rules.specs.Text.{isSpaced}
 use Rattle.x25_check.specs.Check.{bitsUp, wireBits, next, register, mirrored, x25}
 use Rattle.mavlink_frame.specs.Kinds.{kindOf}
 use Rattle.mavlink_frame.specs.Frame.{frame}
-use Rattle.mavlink_frame.specs.Reads.{foundOf, found}
+use Rattle.mavlink_reader.specs.Reads.{foundOf, found}
 use Rattle.twos_complement.specs.Signed.{signed}
 use Rattle.mavlink_messages.specs.Static.{staticIn, staticPayload}
 use Rattle.mavlink_messages.specs.Dynamic.{dynamicIn, dynamicPayload}

@@ -6,14 +6,14 @@ use Prim.Native.Nat.{ℕ, _+_, _*_}
 use lib.Dec.{eqb, ltb}
 use lib.ListN.{length, getD, take, drop}
 use Rattle.x25_check.specs.Check.{x25}
 use Rattle.mavlink_frame.specs.declared.Kind.{Kind}
 use Rattle.mavlink_frame.specs.declared.Header.{Header}
 use Rattle.mavlink_frame.specs.declared.Lookup.{Lookup}
 use Rattle.mavlink_frame.specs.declared.Lookup.the-variants.{Known, Unknown}
-use Rattle.mavlink_frame.specs.declared.Found.{Found}
-use Rattle.mavlink_frame.specs.declared.Found.the-variants.{Frame, Refused}
+use Rattle.mavlink_reader.specs.declared.Found.{Found}
+use Rattle.mavlink_reader.specs.declared.Found.the-variants.{Frame, Refused}
 use Rattle.mavlink_frame.specs.Kinds.{kindOf}
 use Rattle.mavlink_frame.specs.Frame.{start}
 
 -- octets 2, 3 and 4
 abbrev pub headerAt : List ℕ → Header

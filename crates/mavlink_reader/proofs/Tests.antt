@@ -4,9 +4,9 @@ use mathlib.Core.List.{List}
 use Prim.Native.Nat.{ℕ, _+_, _<_, _≤_}
 use borrow.Author.Tests.{eq-eqb, ne-eqb, lt-ltb, le-ltb}
 use lib.ListN.{length, getD}
 use Rattle.mavlink_frame.specs.declared.Kind.{Kind}
-use Rattle.mavlink_frame.specs.declared.Found.the-variants.{Frame, Refused}
-use Rattle.mavlink_frame.specs.Reads.{headerAt, checkAt, checkDue, foundOf}
+use Rattle.mavlink_reader.specs.declared.Found.the-variants.{Frame, Refused}
+use Rattle.mavlink_reader.specs.Reads.{headerAt, checkAt, checkDue, foundOf}
 
 pub other-length : (k : Kind) (s : List ℕ) → (getD s 1 0 ≡ k .length → ⊥) → foundOf k s ≡ Refused 23
 unfolding foundOf

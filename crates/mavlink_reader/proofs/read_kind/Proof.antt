@@ -1,4 +1,4 @@
--- `mavlink_frame::read_kind` meets its contract, test by test. Assumes nothing.
+-- `mavlink_reader::read_kind` meets its contract, test by test. Assumes nothing.
 use mathlib.Core.Path.{_≡_, sym, ap, _∙_}
 use mathlib.Core.List.{[], _∷_, _++_}
 use Prim.Native.Nat.{ℕ, _+_, _-_, _*_}
@@ -6,35 +6,32 @@ use native.Mathlib.Omega.{arith}
 use denote.Ref.{now}
 use lib.ListN.{getD, take, drop}
 use Rattle.x25_check.specs.Check.{x25}
-use Rattle.mavlink_frame.specs.declared.Found.the-variants.{Frame}
-use Rattle.mavlink_frame.specs.Reads.{headerAt, checkAt, checkDue}
-use Rattle.mavlink_frame.proofs.Tests.{other-length, short, wrong, right}
+use Rattle.mavlink_reader.specs.declared.Found.the-variants.{Frame}
+use Rattle.mavlink_reader.specs.Reads.{headerAt, checkAt, checkDue}
+use Rattle.mavlink_reader.proofs.Tests.{other-length, short, wrong, right}
 use borrow.Author.Needs.{needs}
-use Rattle.mavlink_frame.proofs.read_kind.Statement.{statement}
-use Rattle.mavlink_frame.proofs.read_kind.Tie as tie
+use Rattle.mavlink_reader.proofs.read_kind.Statement.{statement}
+use Rattle.mavlink_reader.proofs.read_kind.Tie as tie
 
 shared-slice-read-length : tie.Need-shared-slice-read-length
 shared-slice-read-length c = search needs
 
 -- the check that was sent, and the one that is due
 sent : (c : tie.After-little) → c .little .result ≡ checkAt (c .before .before .before .before .before .before .before .before .before .before .before .args .kind .length) (now (c .before .before .before .before .before .before .before .before .before .before .before .args .input))
-sent c =
-    let s = now (c .before .before .before .before .before .before .before .before .before .before .before .args .input) in
-    c .little .ensures
-    ∙ ap (λ (n : ℕ). getD s (n + 6) 0 + 256 * getD s (n + 6 + 1) 0) (c .before .before .before .before .before .before .wide .ensures .0)
+sent c = c .little .ensures
 
 due : (c : tie.After-x25-check)
     → c .x25-check .result ≡ checkDue (c .before .before .before .before .before .before .before .before .args .kind .length) (c .before .before .before .before .before .before .before .before .args .kind .extra) (now (c .before .before .before .before .before .before .before .before .args .input))
 due c =
     let a = c .before .before .before .before .before .before .before .before .args in
-    let n : c .before .before .before .wide .result + 6 - 1 ≡ a .kind .length + 5 = omega (arith, c .before .before .before .wide .ensures) in
+    let n : a .kind .length + 6 - 1 ≡ a .kind .length + 5 = omega arith in
     c .x25-check .ensures ∙ ap (λ (m : ℕ). x25 (take m (drop 1 (now (a .input))) ++ a .kind .extra ∷ [])) n
 
 returns : tie.Need-returns
 returns c = sym (other-length (c .before .before .before .before .args .kind) (now (c .before .before .before .before .args .input)) (c .if1 .taken))
 
-wide-requires : tie.Need-wide-requires
-wide-requires c κs = search needs
+cast-end : tie.Need-cast-end
+cast-end c = search needs
 
 add-end : tie.Need-add-end
 add-end c = search needs
@@ -74,7 +71,7 @@ little-requires c κs = search needs
 returns-3 : tie.Need-returns-3
 returns-3 c =
     let a = c .before .before .before .before .before .before .before .before .before .before .before .before .args in
-    sym (wrong (a .kind) (now (a .input)) (c .before .before .before .before .before .before .before .before .if1 .left) (omega (arith, c .before .before .before .before .before .before .if2 .left, c .before .before .before .before .before .before .before .wide .ensures))
+    sym (wrong (a .kind) (now (a .input)) (c .before .before .before .before .before .before .before .before .if1 .left) (omega (arith, c .before .before .before .before .before .before .if2 .left))
     (λ e. c .if3 .taken (sent (c .before) ∙ e ∙ sym (due (c .before .before .before .before)))))
 
 shared-slice-read-t18 : tie.Need-shared-slice-read-t18
@@ -92,10 +89,9 @@ add-t12 c = search needs
 returns-4 : tie.Need-returns-4
 returns-4 c =
     let a = c .before .before .before .before .before .before .before .before .before .before .before .before .before .before .before .args in
-    let w = c .before .before .before .before .before .before .before .before .before .before .wide .ensures .0 in
-    let n : c .before .before .before .before .before .before .before .before .before .before .wide .result + 6 + 2 ≡ a .kind .length + 8 = omega arith in
+    let n : a .kind .length + 6 + 2 ≡ a .kind .length + 8 = omega arith in
     ap (Frame (a .kind .id) (headerAt (now (a .input)))) n
-    ∙ sym (right (a .kind) (now (a .input)) (c .before .before .before .before .before .before .before .before .before .before .before .if1 .left) (omega (arith, c .before .before .before .before .before .before .before .before .before .if2 .left, c .before .before .before .before .before .before .before .before .before .before .wide .ensures))
+    ∙ sym (right (a .kind) (now (a .input)) (c .before .before .before .before .before .before .before .before .before .before .before .if1 .left) (omega (arith, c .before .before .before .before .before .before .before .before .before .if2 .left))
     (sym (sent (c .before .before .before .before)) ∙ c .before .before .before .if3 .left ∙ due (c .before .before .before .before .before .before .before)))
 
 pub read-kind-spec : {M : Type 1} → statement M
@@ -104,7 +100,7 @@ read-kind-spec =
     (tie.spec
     shared-slice-read-length
     returns
-    wide-requires
+    cast-end
     add-end
     add-if2
     returns-2

@@ -1,10 +1,10 @@
--- `mavlink_frame::write_frame` meets its contract, by what the table says of the ID. Assumes nothing.
+-- `mavlink_writer::write_frame` meets its contract, by what the table says of the ID. Assumes nothing.
 use mathlib.Core.Path.{_≡_, refl, sym, _∙_}
 use Rattle.mavlink_frame.specs.Kinds.{kindOf}
 use Rattle.mavlink_frame.specs.declared.Lookup.the-variants.{Known, Unknown}
 use borrow.Author.Needs.{needs}
-use Rattle.mavlink_frame.proofs.write_frame.Statement.{statement}
-use Rattle.mavlink_frame.proofs.write_frame.Tie as tie
+use Rattle.mavlink_writer.proofs.write_frame.Statement.{statement}
+use Rattle.mavlink_writer.proofs.write_frame.Tie as tie
 
 kind-of-requires : tie.Need-kind-of-requires
 kind-of-requires c κs = search needs

@@ -1,4 +1,4 @@
--- `mavlink_frame::put_payload` meets its contract: the octets passed stand in the output. Assumes nothing.
+-- `mavlink_writer::put_payload` meets its contract: the octets passed stand in the output. Assumes nothing.
 use mathlib.Core.Path.{_≡_, refl, sym, ap, _∙_}
 use Prim.Native.Nat.{_+_, _-_, _≤_}
 use native.Mathlib.Omega.{arith}
@@ -7,8 +7,8 @@ use denote.Ref.{now}
 use lib.ListN.{length, getD, set, length-set}
 use lib.Seq.{paste, paste-zero, paste-suc}
 use borrow.Author.Needs.{needs}
-use Rattle.mavlink_frame.proofs.put_payload.Statement.{statement}
-use Rattle.mavlink_frame.proofs.put_payload.Tie as tie
+use Rattle.mavlink_writer.proofs.put_payload.Statement.{statement}
+use Rattle.mavlink_writer.proofs.put_payload.Tie as tie
 
 abbrev Inv-loop : tie.InvT-loop
 Inv-loop payload output₀ i₀ output i =

@@ -1,4 +1,4 @@
--- `mavlink_frame::put_check` meets its contract. Assumes nothing.
+-- `mavlink_writer::put_check` meets its contract. Assumes nothing.
 use mathlib.Core.Path.{ap}
 use mathlib.Core.List.{[], _∷_}
 use Prim.Native.Nat.{ℕ, _/_, _%_}
@@ -8,8 +8,8 @@ use denote.Ref.{now}
 use lib.ListN.{length-set}
 use lib.Seq.{sets}
 use borrow.Author.Needs.{needs}
-use Rattle.mavlink_frame.proofs.put_check.Statement.{statement}
-use Rattle.mavlink_frame.proofs.put_check.Tie as tie
+use Rattle.mavlink_writer.proofs.put_check.Statement.{statement}
+use Rattle.mavlink_writer.proofs.put_check.Tie as tie
 
 sub-x25-check : tie.Need-sub-x25-check
 sub-x25-check c = search needs

@@ -1,12 +1,12 @@
--- `mavlink_frame::fill` meets its contract: the parts make the frame. Assumes nothing.
+-- `mavlink_writer::fill` meets its contract: the parts make the frame. Assumes nothing.
 use mathlib.Core.Path.{ap, _∙_}
 use lib.ListN.{length}
 use lib.Seq.{paste}
 use denote.Ref.{now}
-use Rattle.mavlink_frame.proofs.Put.{payload-put, frame-put}
+use Rattle.mavlink_writer.proofs.Put.{payload-put, frame-put}
 use borrow.Author.Needs.{needs}
-use Rattle.mavlink_frame.proofs.fill.Statement.{statement}
-use Rattle.mavlink_frame.proofs.fill.Tie as tie
+use Rattle.mavlink_writer.proofs.fill.Statement.{statement}
+use Rattle.mavlink_writer.proofs.fill.Tie as tie
 
 put-header-requires : tie.Need-put-header-requires
 put-header-requires c κs = search needs

@@ -1,11 +1,11 @@
--- `mavlink_frame::read_frame` meets its contract, test by test. Assumes nothing.
+-- `mavlink_reader::read_frame` meets its contract, test by test. Assumes nothing.
 use mathlib.Core.Path.{sym, ap, _∙_}
 use borrow.Author.Tests.{eq-eqb, ne-eqb, lt-ltb, le-ltb}
 use denote.Ref.{now}
-use Rattle.mavlink_frame.specs.Reads.{foundBy, found}
+use Rattle.mavlink_reader.specs.Reads.{foundBy, found}
 use borrow.Author.Needs.{needs}
-use Rattle.mavlink_frame.proofs.read_frame.Statement.{statement}
-use Rattle.mavlink_frame.proofs.read_frame.Tie as tie
+use Rattle.mavlink_reader.proofs.read_frame.Statement.{statement}
+use Rattle.mavlink_reader.proofs.read_frame.Tie as tie
 
 returns : tie.Need-returns
 unfolding found

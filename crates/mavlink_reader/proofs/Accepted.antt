@@ -7,15 +7,15 @@ use native.Mathlib.Omega.{arith}
 use borrow.Author.Tests.{eqb-true, ltb-false}
 use lib.Dec.{eqb, ltb}
 use lib.ListN.{length, getD}
 use Rattle.mavlink_frame.specs.declared.Kind.{Kind}
 use Rattle.mavlink_frame.specs.declared.Header.{Header}
 use Rattle.mavlink_frame.specs.declared.Lookup.{Lookup}
 use Rattle.mavlink_frame.specs.declared.Lookup.the-variants.{Known, Unknown}
-use Rattle.mavlink_frame.specs.declared.Found.{Found}
-use Rattle.mavlink_frame.specs.declared.Found.the-variants.{Frame, Refused}
+use Rattle.mavlink_reader.specs.declared.Found.{Found}
+use Rattle.mavlink_reader.specs.declared.Found.the-variants.{Frame, Refused}
 use Rattle.mavlink_frame.specs.Kinds.{kinds, kindIn, kindOf}
 use Rattle.mavlink_frame.specs.Frame.{start}
-use Rattle.mavlink_frame.specs.Reads.{headerAt, checkAt, checkDue, foundOf, foundBy, found}
+use Rattle.mavlink_reader.specs.Reads.{headerAt, checkAt, checkDue, foundOf, foundBy, found}
 
 pub record Accepted (s : List ℕ) (id : ℕ) (h : Header) (used : ℕ) : Type 0 where
   pub kind : Kind

@@ -1,10 +1,10 @@
--- `mavlink_frame::put_header` meets its contract. Assumes nothing.
+-- `mavlink_writer::put_header` meets its contract. Assumes nothing.
 use mathlib.Core.Path.{refl}
 use native.Mathlib.Omega.{arith}
 use lib.ListN.{length-set}
 use borrow.Author.Needs.{needs}
-use Rattle.mavlink_frame.proofs.put_header.Statement.{statement}
-use Rattle.mavlink_frame.proofs.put_header.Tie as tie
+use Rattle.mavlink_writer.proofs.put_header.Statement.{statement}
+use Rattle.mavlink_writer.proofs.put_header.Tie as tie
 
 slice-write-output : tie.Need-slice-write-output
 slice-write-output c = search needs
