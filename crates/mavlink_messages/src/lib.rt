@@ -136,15 +136,11 @@ fn in_range(message: Message) -> bool
 pub fn failures_of(status: u8) -> Failures
     ensures { λ r. ⌜ r ≡ failuresIn status ⌝ }
 {
-    let failed = status & 0x1E;
-    let count = u8::count_ones(failed);
-    if failed == 0 {
-        return Failures {
-            count,
-            lowest: Lowest::None,
-        };
+    let count = status_failures::count_failures(status);
+    if count == 0 {
+        return no_failures();
     }
-    let lowest = u8::trailing_zeros(failed);
+    let lowest = status_failures::lowest_failure(status);
     Failures {
         count,
         lowest: Lowest::Bit(lowest),

@@ -33,7 +33,7 @@ pub fn read(payload: &[u8]) -> Dynamic
 pub fn in_range(dynamic: Dynamic) -> bool
     ensures { λ r. ⌜ r ≡ dynamicInRange dynamic ⌝ }
 {
-    field_rules::is_squawk(dynamic.squawk) & (dynamic.fix <= 5)
+    mavlink_ranges::dynamic_fits(dynamic.squawk, dynamic.fix)
 }
 
 pub fn octets(dynamic: Dynamic) -> [u8; 42]

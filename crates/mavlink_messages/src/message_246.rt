@@ -30,7 +30,7 @@ pub fn read(payload: &[u8]) -> Traffic
 pub fn in_range(traffic: Traffic) -> bool
     ensures { λ r. ⌜ r ≡ trafficInRange traffic ⌝ }
 {
-    field_rules::is_squawk(traffic.squawk) | (traffic.squawk == 65535)
+    mavlink_ranges::traffic_fits(traffic.squawk)
 }
 
 pub fn octets(traffic: Traffic) -> [u8; 38]
