@@ -1,6 +1,6 @@
 -- Structs with every field 0. Assumes nothing.
 use lib.IntN.{pos}
-use Rattle.octet_fields.specs.declared.Text.{Text}
+use Rattle.octet_fields.specs.Texts.{noText}
 use Rattle.mavlink_frame.specs.declared.Header.{Header}
 use Rattle.mavlink_messages.specs.declared.DataStream.{DataStream}
 use Rattle.mavlink_messages.specs.declared.Static.{Static}
@@ -10,9 +10,6 @@ use Rattle.mavlink_messages.specs.declared.Traffic.{Traffic}
 
 abbrev pub noHeader : Header
 noHeader = record { sequence = 0; system = 0; component = 0 }
-
-abbrev pub noText : Text
-noText = record { c0 = 0; c1 = 0; c2 = 0; c3 = 0; c4 = 0; c5 = 0; c6 = 0; c7 = 0 }
 
 abbrev pub noDataStream : DataStream
 noDataStream = record { rate = 0; system = 0; component = 0; stream = 0; start = 0 }

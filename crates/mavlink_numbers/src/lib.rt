@@ -1,15 +1,24 @@
-// Structs with every field 0.
-use super::OstrogoszMavlinkMessage;
+// What the answers for C are made of: a struct of each kind with every field 0, and the lowest failure as a number.
 use mavlink_frame::Header;
 use mavlink_messages::DataStream;
 use mavlink_messages::Dynamic;
+use mavlink_messages::Lowest;
 use mavlink_messages::Static;
 use mavlink_messages::Status;
 use mavlink_messages::Traffic;
-use octet_fields::Text;
 ghost use mathlib.Core.Path.{_≡_};
-ghost use Rattle.ostrogosz_mavlink.specs.Blank.{noHeader, noText, noDataStream, noStatic, noDynamic, noStatus, noTraffic};
-ghost use Rattle.ostrogosz_mavlink.specs.Read.{blank};
+ghost use Rattle.mavlink_numbers.specs.Blank.{noHeader, noDataStream, noStatic, noDynamic, noStatus, noTraffic};
+ghost use Rattle.mavlink_numbers.specs.Lowest.{lowestNumber};
+
+// The lowest failure, or 0 for none.
+pub fn lowest_number(lowest: Lowest) -> u32
+    ensures { λ r. ⌜ r ≡ lowestNumber lowest ⌝ }
+{
+    match lowest {
+        Lowest::Bit(bit) => bit,
+        Lowest::None => 0,
+    }
+}
 
 pub fn header() -> Header
     ensures { λ r. ⌜ r ≡ noHeader ⌝ }
@@ -18,21 +27,6 @@ pub fn header() -> Header
         sequence: 0,
         system: 0,
         component: 0,
-    }
-}
-
-fn text() -> Text
-    ensures { λ r. ⌜ r ≡ noText ⌝ }
-{
-    Text {
-        c0: 0,
-        c1: 0,
-        c2: 0,
-        c3: 0,
-        c4: 0,
-        c5: 0,
-        c6: 0,
-        c7: 0,
     }
 }
 
@@ -55,7 +49,7 @@ pub fn static_data() -> Static
         address: 0,
         integrity: 0,
         stall: 0,
-        callsign: text(),
+        callsign: octet_fields::no_text(),
         capability: 0,
         emitter: 0,
         size: 0,
@@ -108,27 +102,9 @@ pub fn traffic() -> Traffic
         valid: 0,
         squawk: 0,
         datum: 0,
-        callsign: text(),
+        callsign: octet_fields::no_text(),
         ninth: 0,
         emitter: 0,
         age: 0,
-    }
-}
-
-pub fn message() -> OstrogoszMavlinkMessage
-    ensures { λ r. ⌜ r ≡ blank ⌝ }
-{
-    OstrogoszMavlinkMessage {
-        refusal: 0,
-        id: 0,
-        used: 0,
-        header: header(),
-        failures: 0,
-        lowest_failure: 0,
-        data_stream: data_stream(),
-        static_data: static_data(),
-        dynamic: dynamic(),
-        status: status(),
-        traffic: traffic(),
     }
 }

@@ -1,7 +1,7 @@
--- `ostrogosz_mavlink::blank::message` meets its contract, struct by struct. Assumes nothing.
+-- `ostrogosz_mavlink::blank` meets its contract, struct by struct. Assumes nothing.
 use borrow.Author.Needs.{needs}
-use Rattle.ostrogosz_mavlink.proofs.blank.message.Statement.{statement}
-use Rattle.ostrogosz_mavlink.proofs.blank.message.Tie as tie
+use Rattle.ostrogosz_mavlink.proofs.blank.Statement.{statement}
+use Rattle.ostrogosz_mavlink.proofs.blank.Tie as tie
 
 header-requires : tie.Need-header-requires
 header-requires c κs = search needs
@@ -32,8 +32,8 @@ returns c =
       c .traffic .ensures,
     )
 
-pub message-spec : {M : Type 1} → statement M
-message-spec =
+pub blank-spec : {M : Type 1} → statement M
+blank-spec =
     tie.close
     (tie.spec
     header-requires
