@@ -1,7 +1,7 @@
--- `frame_writer::is_escaped` meets its contract. Assumes nothing.
+-- `frame_room::is_escaped` meets its contract. Assumes nothing.
 use borrow.Author.Tests.{eq-eqb, ne-eqb}
-use Rattle.frame_writer.proofs.is_escaped.Statement.{statement}
-use Rattle.frame_writer.proofs.is_escaped.Tie as tie
+use Rattle.frame_room.proofs.is_escaped.Statement.{statement}
+use Rattle.frame_room.proofs.is_escaped.Tie as tie
 
 returns : tie.Need-returns
 returns c = rw (eq-eqb _ _ (c .if1 .taken))

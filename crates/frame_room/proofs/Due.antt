@@ -1,5 +1,5 @@
 -- The writer's three answers, with what holds where each is due. Assumes nothing.
-use mathlib.Core.Path.{_≡_, refl}
+use mathlib.Core.Path.{_≡_, refl, ap}
 use mathlib.Core.Bool.{Bool, true, false, cond, _||_}
 use mathlib.Core.List.{List}
 use mathlib.Core.Logic.{_⊎_, inl, inr, _↔_}
@@ -10,7 +10,7 @@ use lib.ListN.{length}
 use borrow.Author.Tests.{eqb-true, eqb-false, ltb-true, ltb-false, eq-eqb, ne-eqb, lt-ltb, le-ltb}
 use Rattle.frame_format.specs.Frame.{frame, longestBody}
 use Rattle.writer_answers.specs.Answers.{Answer, refused, wrote}
-use Rattle.frame_writer.specs.Writes.{answerDue}
+use Rattle.frame_room.specs.Answers.{answerDue, refusalIn}
 
 data Due (body output : List ℕ) : Answer → Type 0 where
   empty : length body ≡ 0 → Due body output (refused 7)
@@ -104,3 +104,24 @@ unfolding answerDue
 due-accepted body output least most room =
     let some : length body ≡ 0 → ⊥ = omega arith in
     rw (ne-eqb (length body) 0 some, le-ltb longestBody (length body) most, le-ltb (length output) (length (frame body)) room)
+
+-- what a number says of the answer
+pub refused-by : (body output : List ℕ) {number : ℕ} → number ≡ refusalIn (answerDue body output) → (number ≡ 0 → ⊥)
+    → refused number ≡ answerDue body output
+refused-by body output {number} = go (answerDue body output) (due body output)
+  where
+    go : (a : Answer) → Due body output a → number ≡ refusalIn a → (number ≡ 0 → ⊥) → refused number ≡ a
+    go a (empty h) e ne = ap refused e
+    go a (tooLong h) e ne = ap refused e
+    go a (short least most h) e ne = ap refused e
+    go a (accepted least most room) e ne = absurd (ne e)
+
+pub accepted-by : (body output : List ℕ) {number : ℕ} → number ≡ refusalIn (answerDue body output) → number ≡ 0
+    → wrote (length (frame body)) ≡ answerDue body output
+accepted-by body output {number} = go (answerDue body output) (due body output)
+  where
+    go : (a : Answer) → Due body output a → number ≡ refusalIn a → number ≡ 0 → wrote (length (frame body)) ≡ a
+    go a (empty h) e z = absurd (omega arith)
+    go a (tooLong h) e z = absurd (omega arith)
+    go a (short least most h) e z = absurd (omega arith)
+    go a (accepted least most room) e z = refl

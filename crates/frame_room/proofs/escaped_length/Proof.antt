@@ -1,10 +1,10 @@
--- `frame_writer::escaped_length` meets its contract. Assumes nothing.
+-- `frame_room::escaped_length` meets its contract. Assumes nothing.
 use mathlib.Core.Path.{sym, ap, _∙_}
 use borrow.Author.Needs.{needs}
 use lib.ListN.{length}
 use Rattle.frame_format.proofs.Stuffing.{escaped-two, escaped-one}
-use Rattle.frame_writer.proofs.escaped_length.Statement.{statement}
-use Rattle.frame_writer.proofs.escaped_length.Tie as tie
+use Rattle.frame_room.proofs.escaped_length.Statement.{statement}
+use Rattle.frame_room.proofs.escaped_length.Tie as tie
 
 is-escaped-requires : tie.Need-is-escaped-requires
 is-escaped-requires c κs = search needs

@@ -1,4 +1,4 @@
--- `frame_writer::frame_length` meets its contract. The loop's invariant: the count and the octets left, stuffed, make up the
+-- `frame_room::frame_length` meets its contract. The loop's invariant: the count and the octets left, stuffed, make up the
 -- frame's length. Assumes nothing.
 use mathlib.Core.Path.{_≡_}
 use mathlib.Core.List.{List}
@@ -11,9 +11,9 @@ use Rattle.frame_format.specs.Stuffing.{stuffed}
 use Rattle.frame_format.specs.Frame.{frame}
 use Rattle.frame_format.proofs.Stuffing.{escaped-length}
 use Rattle.frame_format.proofs.Frame.{frame-length-longest}
-use Rattle.frame_writer.proofs.Length.{frame-length, stuffed-length}
-use Rattle.frame_writer.proofs.frame_length.Statement.{statement}
-use Rattle.frame_writer.proofs.frame_length.Tie as tie
+use Rattle.frame_room.proofs.Length.{frame-length, stuffed-length}
+use Rattle.frame_room.proofs.frame_length.Statement.{statement}
+use Rattle.frame_room.proofs.frame_length.Tie as tie
 
 abbrev Inv-loop : tie.InvT-loop
 Inv-loop body check count₀ i₀ count i = (i ≤ length body) × (count + length (stuffed (drop i body)) ≡ length (frame body))
