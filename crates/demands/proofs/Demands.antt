@@ -15,7 +15,7 @@ use Rattle.message_round_trips.proofs.WriteBack as message-write
 use Rattle.ucp_messages.specs.Bodies.{messageFits, messageBody}
 use Rattle.ucp_messages.specs.Kinds.{kindIn}
 use Rattle.demands.proofs.MessageRefusals.{tabled-message, message-refused, mavlink-refused, tabled-mavlink}
-use Rattle.frame_writer.proofs.Due.{refused-so, refused-7, refused-8, due-accepted}
+use Rattle.frame_room.proofs.Due.{refused-so, refused-7, refused-8, due-accepted}
 use Rattle.receiver.specs.Step as Step
 use Rattle.receiver.specs.Step.{nothing, refusal, told, answerDue}
 use Rattle.check_strength.proofs.Caught.{strength}

@@ -19,11 +19,11 @@ use Rattle.mavlink_frame.specs.declared.Kind as kind-as
 use Rattle.mavlink_frame.specs.declared.Header.{Header}
 use Rattle.mavlink_frame.specs.declared.Lookup.{Lookup}
 use Rattle.mavlink_frame.specs.declared.Lookup.the-variants as lookup
-use Rattle.mavlink_frame.specs.declared.Found.{Found}
-use Rattle.mavlink_frame.specs.declared.Found.the-variants as found-as
+use Rattle.mavlink_reader.specs.declared.Found.{Found}
+use Rattle.mavlink_reader.specs.declared.Found.the-variants as found-as
 use Rattle.mavlink_frame.specs.Frame.{start}
 use Rattle.mavlink_frame.specs.Kinds.{kindOf}
-use Rattle.mavlink_frame.specs.Reads.{headerAt, payloadAt, checkAt, checkDue, foundOf, foundBy, found}
+use Rattle.mavlink_reader.specs.Reads.{headerAt, payloadAt, checkAt, checkDue, foundOf, foundBy, found}
 use Rattle.mavlink_messages.specs.declared.Message as mavlink
 use Rattle.mavlink_messages.specs.declared.Message.the-variants as kinds
 use Rattle.mavlink_messages.specs.declared.Read.{Read}

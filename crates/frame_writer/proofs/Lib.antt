@@ -1,4 +1,2 @@
 pub mod ToPut
 pub mod Rest
-pub mod Length
-pub mod Due

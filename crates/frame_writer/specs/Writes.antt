@@ -1,20 +1,10 @@
--- What the frame writer answers, and what it leaves in the output that it is lent (document 01, the table's rows 7 and 8
--- and the paragraph below it). Assumes nothing.
-use mathlib.Core.Bool.{cond, _||_}
+-- What the frame writer leaves in the output that it is lent (document 01, the paragraph below the table). Assumes nothing.
 use mathlib.Core.List.{List}
 use Prim.Native.Nat.{ℕ}
-use lib.Dec.{eqb, ltb}
-use lib.ListN.{length}
-use Rattle.frame_format.specs.Frame.{frame, longestBody}
 use Rattle.writer_answers.specs.declared.Written.{Written}
-use Rattle.writer_answers.specs.Answers.{Answer, refused, wrote, Writing}
-
--- the answer that is due: 7 for a body of 0 or more than 436 octets, then 8 for an output shorter than this very frame
-unfoldable pub answerDue : List ℕ → List ℕ → Answer
-answerDue body output =
-    cond (eqb (length body) 0 || ltb longestBody (length body)) (refused 7)
-    (cond (ltb (length output) (length (frame body))) (refused 8)
-    (wrote (length (frame body))))
+use Rattle.writer_answers.specs.Answers.{Writing}
+use Rattle.frame_format.specs.Frame.{frame}
+use Rattle.frame_room.specs.Answers.{answerDue}
 
 -- one call, whole: the body and the output as at entry, the answer, and the output as at return
 abbrev pub Writes : List ℕ → List ℕ → Written → List ℕ → Type 0

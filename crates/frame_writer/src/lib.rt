@@ -1,13 +1,11 @@
 // The frame writer: one call makes a frame of a body.
 use writer_answers::Written;
 ghost use mathlib.Core.Path.{_≡_};
-ghost use mathlib.Core.Bool.{_||_};
 ghost use mathlib.Core.List.{_++_};
 ghost use Prim.Native.Nat.{_+_, _-_, _%_, _≤_};
-ghost use lib.Dec.{eqb};
 ghost use lib.ListN.{length, drop};
-ghost use Rattle.frame_format.specs.Stuffing.{flag, escape, escaped};
-ghost use Rattle.frame_format.specs.Frame.{frame, longestBody};
+ghost use Rattle.frame_format.specs.Stuffing.{escaped};
+ghost use Rattle.frame_format.specs.Frame.{frame};
 ghost use Rattle.frame_writer.specs.Puts.{Puts, closing, rest};
 ghost use Rattle.frame_writer.specs.Writes.{Writes};
 
@@ -16,51 +14,11 @@ ghost use Rattle.frame_writer.specs.Writes.{Writes};
 pub fn write_frame(body: &[u8], output: &mut [u8]) -> Written
     ensures { λ r. ⌜ Writes (now (body .entry)) (now (output .entry)) r (now (output .exit)) ⌝ }
 {
-    let n = body.len();
-    if n == 0 {
-        return Written::Refused(7);
-    }
-    if 436 < n {
-        return Written::Refused(7);
-    }
-    // The most that a frame of n octets takes. Only where that is too much is this very frame measured.
-    let most = 2 * n + 6;
-    if output.len() < most {
-        let exact = frame_length(body);
-        if output.len() < exact {
-            return Written::Refused(8);
-        }
+    let refusal = frame_room::refusal(body, output);
+    if refusal != 0 {
+        return Written::Refused(refusal);
     }
     Written::Wrote(fill(body, output))
-}
-
-// How many octets the frame of body has.
-fn frame_length(body: &[u8]) -> usize
-    requires { ⌜ length (now body) ≤ longestBody ⌝ }
-    ensures { λ r. ⌜ r ≡ length (frame (now (body .entry))) ⌝ }
-{
-    let check = frame_check::frame_check(body);
-    let mut count = 2 + escaped_length((check % 256) as u8) + escaped_length((check / 256) as u8);
-    let mut i = 0;
-    while i < body.len() {
-        count += escaped_length(body[i]);
-        i += 1;
-    }
-    count
-}
-
-// How many octets an octet takes on the line.
-fn escaped_length(octet: u8) -> usize
-    ensures { λ r. ⌜ r ≡ length (escaped octet) ⌝ }
-{
-    if is_escaped(octet) { 2 } else { 1 }
-}
-
-// Whether an octet is escaped: the flag is, and the escape itself.
-fn is_escaped(octet: u8) -> bool
-    ensures { λ r. ⌜ r ≡ (eqb octet flag || eqb octet escape) ⌝ }
-{
-    octet == 0x7E || octet == 0x7D
 }
 
 // Writes the frame of body at the start of output, which has room for it: one pass checks and stuffs.
@@ -123,7 +81,7 @@ fn put(output: &mut [u8], at: usize, octet: u8) -> usize
     requires { ⌜ at + length (escaped octet) ≤ length (now output) ⌝ }
     ensures { λ r. ⌜ Puts (now (output .entry)) at (escaped octet) r (now (output .exit)) ⌝ }
 {
-    if is_escaped(octet) {
+    if frame_room::is_escaped(octet) {
         output[at] = 0x7D;
         output[at + 1] = octet ^ 0x20;
         at + 2

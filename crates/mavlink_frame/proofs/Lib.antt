@@ -1,4 +1,1 @@
 pub mod Search
-pub mod Tests
-pub mod Put
-pub mod Accepted

@@ -1,4 +1,2 @@
 pub mod Kinds
 pub mod Frame
-pub mod Reads
-pub mod Writes

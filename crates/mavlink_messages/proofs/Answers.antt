@@ -12,10 +12,10 @@ use Rattle.mavlink_frame.specs.declared.Header.{Header}
 use Rattle.mavlink_frame.specs.declared.Kind.{Kind}
 use Rattle.mavlink_frame.specs.declared.Lookup.{Lookup}
 use Rattle.mavlink_frame.specs.declared.Lookup.the-variants.{Known, Unknown}
-use Rattle.mavlink_frame.specs.declared.Found.the-variants.{Frame}
+use Rattle.mavlink_reader.specs.declared.Found.the-variants.{Frame}
 use Rattle.mavlink_frame.specs.Kinds.{kind, kindOf}
-use Rattle.mavlink_frame.specs.Reads.{found}
-use Rattle.mavlink_frame.proofs.Accepted.{Accepted, accepted}
+use Rattle.mavlink_reader.specs.Reads.{found}
+use Rattle.mavlink_reader.proofs.Accepted.{Accepted, accepted}
 use Rattle.mavlink_messages.specs.Messages.{payloadRead, readBy, readDue, ofLength, ofItsKind}
 
 pub both : (a b : Bool) → (a && b) ≡ true → (a ≡ true) × (b ≡ true)

@@ -7,7 +7,7 @@ use mir.Syntax.{Width}
 use mir.Val.{SFits, toZ, ofZ}
 use mir.ValLaws.{toZ-ofZ}
 use Rattle.octet_fields.specs.Layout.{low, runOctets}
-use Rattle.octet_fields.specs.Signed.{signed, complement}
+use Rattle.twos_complement.specs.Signed.{signed, complement}
 
 -- put into a struct
 pub taken : (w : Width) (half : ℕ) {a b : ℕ} {z : ℤ} → z ≡ signed half a → SFits w z → a ≡ b → toZ w (ofZ w z) ≡ signed half b

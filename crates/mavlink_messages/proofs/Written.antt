@@ -8,10 +8,11 @@ use lib.ListN.{length}
 use Rattle.writer_answers.specs.declared.Written.{Written}
 use Rattle.writer_answers.specs.declared.Written.the-variants.{Refused}
 use Rattle.writer_answers.specs.Answers.{Writing}
+use Rattle.mavlink_ranges.specs.Ranges.{staticFits}
 use Rattle.mavlink_frame.specs.declared.Header.{Header}
 use Rattle.mavlink_frame.specs.Kinds.{kindOf}
-use Rattle.mavlink_frame.specs.Writes.{roomFor, writeOf, frameOf}
-use Rattle.mavlink_frame.specs.Writes as frame-writes
+use Rattle.mavlink_writer.specs.Writes.{roomFor, writeOf, frameOf}
+use Rattle.mavlink_writer.specs.Writes as frame-writes
 use Rattle.mavlink_messages.specs.declared.Static as static-as
 use Rattle.mavlink_messages.specs.declared.Message.{Message}
 use Rattle.mavlink_messages.specs.declared.Message.the-variants.{DataStream, Static, Dynamic, Status, Traffic}
@@ -20,7 +21,6 @@ use Rattle.mavlink_messages.specs.Static.{staticPayload}
 use Rattle.mavlink_messages.specs.Dynamic.{dynamicPayload}
 use Rattle.mavlink_messages.specs.Status.{statusPayload}
 use Rattle.mavlink_messages.specs.Traffic.{trafficPayload}
-use Rattle.mavlink_messages.specs.Ranges.{staticInRange}
 use Rattle.mavlink_messages.proofs.Answers.{both}
 use Rattle.mavlink_messages.specs.Messages.{idOf, octetsOf, inRange, writeDue, messageFrame}
 
@@ -45,6 +45,7 @@ pub written : {message m : Message} (h : Header) {payload output : List ℕ} {r 
 written {m = m} h {output = output} g e p w = rw (e, g) (rw (p, due m output) at w)
 
 -- an address that is in range has 24 bits
-pub address-fits : (s : static-as.Static) → staticInRange s ≡ true → s .address < 0x1000000
-unfolding staticInRange
-address-fits s e = ltb-true _ _ (both _ _ (both _ _ (both _ _ (both _ _ (both _ _ (both _ _ e .0) .0) .0) .0) .0) .0)
+pub address-fits : {m : Message} {s : static-as.Static} → m ≡ Static s → inRange m ≡ true → s .address < 0x1000000
+unfolding staticFits
+address-fits {s = s} g e =
+    ltb-true _ _ (both _ _ (both _ _ (both _ _ (both _ _ (both _ _ (both _ _ (rw g at e) .0) .0) .0) .0) .0) .0)

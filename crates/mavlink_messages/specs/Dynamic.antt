@@ -3,7 +3,7 @@ use mathlib.Core.List.{List, [], _∷_}
 use Prim.Native.Nat.{ℕ}
 use lib.ListN.{getD}
 use Rattle.octet_fields.specs.Layout.{Run, low, octet, fields, octets}
-use Rattle.octet_fields.specs.Signed.{signed, complement}
+use Rattle.twos_complement.specs.Signed.{signed, complement}
 use Rattle.mavlink_messages.specs.declared.Dynamic.{Dynamic}
 
 -- offset 0: UTC time; 4: latitude, signed; 8: longitude, signed; 12: pressure altitude, signed; 16: GNSS altitude,

@@ -1,27 +1,16 @@
--- The failure bits of a self-test status (document 001, "Status Message"): 1 TX_FAIL_1090ES, 2 RX_FAIL_1090ES, 3 TX_FAIL_UAT,
--- 4 RX_FAIL_UAT. Assumes nothing.
-use mathlib.Core.Bool.{cond}
+-- The failures that a status reports (document 001, "Status Message"): how many bits are set, and the lowest. Assumes nothing.
 use mathlib.Core.List.{List, [], _∷_}
-use Prim.Native.Nat.{ℕ, _/_, _^_}
+use Prim.Native.Nat.{ℕ}
 use lib.ListN.{length}
-use Rattle.binary_polynomial.specs.Bits.{odd}
+use Rattle.status_failures.specs.Failures.{failureBits}
 use Rattle.mavlink_messages.specs.declared.Lowest.{Lowest}
 use Rattle.mavlink_messages.specs.declared.Lowest.the-variants.{Bit, None}
 use Rattle.mavlink_messages.specs.declared.Failures.{Failures}
-
--- those of some bits that are set
-abbrev pub setOf : List ℕ → ℕ → List ℕ
-setOf [] status = []
-setOf (b ∷ bs) status = cond (odd (status / 2 ^ b)) (b ∷ setOf bs status) (setOf bs status)
-
-abbrev pub failureBits : ℕ → List ℕ
-failureBits = setOf (1 ∷ 2 ∷ 3 ∷ 4 ∷ [])
 
 abbrev pub lowestOf : List ℕ → Lowest
 lowestOf [] = None
 lowestOf (b ∷ bs) = Bit b
 
--- how many are set, and the lowest
 unfoldable pub failuresIn : ℕ → Failures
 failuresIn status = record { count = length (failureBits status); lowest = lowestOf (failureBits status) }
 

@@ -9,11 +9,11 @@ use Rattle.writer_answers.specs.Answers.{Answer, refused}
 use Rattle.mavlink_frame.specs.declared.Header.{Header}
 use Rattle.mavlink_frame.specs.declared.Lookup.{Lookup}
 use Rattle.mavlink_frame.specs.declared.Lookup.the-variants.{Known, Unknown}
-use Rattle.mavlink_frame.specs.declared.Found.{Found}
-use Rattle.mavlink_frame.specs.declared.Found.the-variants as found-as
+use Rattle.mavlink_reader.specs.declared.Found.{Found}
+use Rattle.mavlink_reader.specs.declared.Found.the-variants as found-as
 use Rattle.mavlink_frame.specs.Kinds.{kindOf}
-use Rattle.mavlink_frame.specs.Reads.{payloadAt, found}
-use Rattle.mavlink_frame.specs.Writes.{roomFor, frameOf}
+use Rattle.mavlink_reader.specs.Reads.{payloadAt, found}
+use Rattle.mavlink_writer.specs.Writes.{roomFor, frameOf}
 use Rattle.mavlink_messages.specs.declared.Message.{Message}
 use Rattle.mavlink_messages.specs.declared.Message.the-variants.{DataStream, Static, Dynamic, Status, Traffic}
 use Rattle.mavlink_messages.specs.declared.Failures.{Failures}

@@ -3,7 +3,7 @@ use mathlib.Core.List.{List, [], _∷_, _++_}
 use Prim.Native.Nat.{ℕ}
 use lib.ListN.{getD}
 use Rattle.octet_fields.specs.Layout.{Run, low, octet, fields, octets}
-use Rattle.octet_fields.specs.Signed.{signed, complement}
+use Rattle.twos_complement.specs.Signed.{signed, complement}
 use Rattle.octet_fields.specs.Texts.{text, textOctets, textAt}
 use Rattle.mavlink_messages.specs.declared.Traffic.{Traffic}
 

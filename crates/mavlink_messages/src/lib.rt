@@ -6,8 +6,8 @@ mod message_246;
 mod message_66;
 mod numbers;
 
-use mavlink_frame::Found;
 use mavlink_frame::Header;
+use mavlink_reader::Found;
 use octet_fields::Text;
 use writer_answers::Written;
 ghost use mathlib.Core.Path.{_≡_};
@@ -136,15 +136,11 @@ fn in_range(message: Message) -> bool
 pub fn failures_of(status: u8) -> Failures
     ensures { λ r. ⌜ r ≡ failuresIn status ⌝ }
 {
-    let failed = status & 0x1E;
-    let count = u8::count_ones(failed);
-    if failed == 0 {
-        return Failures {
-            count,
-            lowest: Lowest::None,
-        };
+    let count = status_failures::count_failures(status);
+    if count == 0 {
+        return no_failures();
     }
-    let lowest = u8::trailing_zeros(failed);
+    let lowest = status_failures::lowest_failure(status);
     Failures {
         count,
         lowest: Lowest::Bit(lowest),
@@ -184,23 +180,23 @@ pub fn write_message(message: Message, header: Header, output: &mut [u8]) -> Wri
     match message {
         Message::DataStream(data_stream) => {
             let payload = message_66::octets(data_stream);
-            mavlink_frame::write_frame(66, header, &payload, output)
+            mavlink_writer::write_frame(66, header, &payload, output)
         }
         Message::Static(static_data) => {
             let payload = message_201::octets(static_data);
-            mavlink_frame::write_frame(201, header, &payload, output)
+            mavlink_writer::write_frame(201, header, &payload, output)
         }
         Message::Dynamic(dynamic) => {
             let payload = message_202::octets(dynamic);
-            mavlink_frame::write_frame(202, header, &payload, output)
+            mavlink_writer::write_frame(202, header, &payload, output)
         }
         Message::Status(status) => {
             let payload = message_203::octets(status);
-            mavlink_frame::write_frame(203, header, &payload, output)
+            mavlink_writer::write_frame(203, header, &payload, output)
         }
         Message::Traffic(traffic) => {
             let payload = message_246::octets(traffic);
-            mavlink_frame::write_frame(246, header, &payload, output)
+            mavlink_writer::write_frame(246, header, &payload, output)
         }
     }
 }
@@ -211,7 +207,7 @@ pub fn write_message(message: Message, header: Header, output: &mut [u8]) -> Wri
 pub fn read_message(input: &[u8]) -> Read
     ensures { λ r. ⌜ r ≡ readDue (now (input .entry)) ⌝ }
 {
-    match mavlink_frame::read_frame(input) {
+    match mavlink_reader::read_frame(input) {
         Found::Frame(id, header, used) => {
             let end = used - 2;
             read_payload(id, header, used, &input[6..end])

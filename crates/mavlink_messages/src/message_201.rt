@@ -1,11 +1,8 @@
 // Message 201, the static data of an aircraft.
 use super::Static;
-use octet_fields::Text;
 ghost use mathlib.Core.Path.{_≡_};
 ghost use Prim.Native.Nat.{_<_};
 ghost use lib.ListN.{length};
-ghost use Rattle.field_rules.specs.Text.{isSpaced};
-ghost use Rattle.octet_fields.specs.Texts.{textOctets};
 ghost use Rattle.mavlink_messages.specs.Static.{staticIn, staticPayload};
 ghost use Rattle.mavlink_messages.specs.Ranges.{staticInRange};
 
@@ -29,29 +26,15 @@ pub fn read(payload: &[u8]) -> Static
 pub fn in_range(static_data: Static) -> bool
     ensures { λ r. ⌜ r ≡ staticInRange static_data ⌝ }
 {
-    (static_data.address < 16777216)
-        & is_text(static_data.callsign)
-        & (static_data.capability == 0)
-        & field_rules::is_emitter(static_data.emitter)
-        & field_rules::is_size_code(static_data.size)
-        & (static_data.lateral <= 7)
-        & (static_data.longitudinal <= 31)
-}
-
-fn is_text(text: Text) -> bool
-    ensures { λ r. ⌜ r ≡ isSpaced (textOctets text) ⌝ }
-{
-    let octets = [
-        text.c0,
-        text.c1,
-        text.c2,
-        text.c3,
-        text.c4,
-        text.c5,
-        text.c6,
-        text.c7,
-    ];
-    field_rules::is_spaced(&octets)
+    mavlink_ranges::static_fits(
+        static_data.address,
+        static_data.callsign,
+        static_data.capability,
+        static_data.emitter,
+        static_data.size,
+        static_data.lateral,
+        static_data.longitudinal,
+    )
 }
 
 pub fn octets(static_data: Static) -> [u8; 19]

@@ -11,16 +11,16 @@ pub fn read(payload: &[u8]) -> Dynamic
 {
     Dynamic {
         utc: octet_fields::little_32(payload, 0),
-        latitude: octet_fields::signed_32(octet_fields::little_32(payload, 4)),
-        longitude: octet_fields::signed_32(octet_fields::little_32(payload, 8)),
-        pressure: octet_fields::signed_32(octet_fields::little_32(payload, 12)),
-        gnss: octet_fields::signed_32(octet_fields::little_32(payload, 16)),
+        latitude: twos_complement::signed_32(octet_fields::little_32(payload, 4)),
+        longitude: twos_complement::signed_32(octet_fields::little_32(payload, 8)),
+        pressure: twos_complement::signed_32(octet_fields::little_32(payload, 12)),
+        gnss: twos_complement::signed_32(octet_fields::little_32(payload, 16)),
         horizontal: octet_fields::little_32(payload, 20),
         vertical: octet_fields::little_16(payload, 24),
         velocity: octet_fields::little_16(payload, 26),
-        climb: octet_fields::signed_16(octet_fields::little_16(payload, 28)),
-        north: octet_fields::signed_16(octet_fields::little_16(payload, 30)),
-        east: octet_fields::signed_16(octet_fields::little_16(payload, 32)),
+        climb: twos_complement::signed_16(octet_fields::little_16(payload, 28)),
+        north: twos_complement::signed_16(octet_fields::little_16(payload, 30)),
+        east: twos_complement::signed_16(octet_fields::little_16(payload, 32)),
         state: octet_fields::little_16(payload, 34),
         squawk: octet_fields::little_16(payload, 36),
         fix: octet_fields::octet(payload, 38),
@@ -33,7 +33,7 @@ pub fn read(payload: &[u8]) -> Dynamic
 pub fn in_range(dynamic: Dynamic) -> bool
     ensures { λ r. ⌜ r ≡ dynamicInRange dynamic ⌝ }
 {
-    field_rules::is_squawk(dynamic.squawk) & (dynamic.fix <= 5)
+    mavlink_ranges::dynamic_fits(dynamic.squawk, dynamic.fix)
 }
 
 pub fn octets(dynamic: Dynamic) -> [u8; 42]

@@ -11,12 +11,12 @@ pub fn read(payload: &[u8]) -> Traffic
 {
     Traffic {
         address: octet_fields::little_32(payload, 0),
-        latitude: octet_fields::signed_32(octet_fields::little_32(payload, 4)),
-        longitude: octet_fields::signed_32(octet_fields::little_32(payload, 8)),
-        altitude: octet_fields::signed_32(octet_fields::little_32(payload, 12)),
+        latitude: twos_complement::signed_32(octet_fields::little_32(payload, 4)),
+        longitude: twos_complement::signed_32(octet_fields::little_32(payload, 8)),
+        altitude: twos_complement::signed_32(octet_fields::little_32(payload, 12)),
         heading: octet_fields::little_16(payload, 16),
         speed: octet_fields::little_16(payload, 18),
-        climb: octet_fields::signed_16(octet_fields::little_16(payload, 20)),
+        climb: twos_complement::signed_16(octet_fields::little_16(payload, 20)),
         valid: octet_fields::little_16(payload, 22),
         squawk: octet_fields::little_16(payload, 24),
         datum: octet_fields::octet(payload, 26),
@@ -30,7 +30,7 @@ pub fn read(payload: &[u8]) -> Traffic
 pub fn in_range(traffic: Traffic) -> bool
     ensures { λ r. ⌜ r ≡ trafficInRange traffic ⌝ }
 {
-    field_rules::is_squawk(traffic.squawk) | (traffic.squawk == 65535)
+    mavlink_ranges::traffic_fits(traffic.squawk)
 }
 
 pub fn octets(traffic: Traffic) -> [u8; 38]

@@ -3,7 +3,7 @@ ghost use mathlib.Core.Path.{_≡_};
 ghost use mathlib.Core.List.{[], _∷_};
 ghost use Prim.Native.Nat.{_<_};
 ghost use Rattle.octet_fields.specs.Layout.{low, runOctets};
-ghost use Rattle.octet_fields.specs.Signed.{complement};
+ghost use Rattle.twos_complement.specs.Signed.{complement};
 ghost use Rattle.mavlink_messages.specs.Octets.{two, three, four};
 
 pub struct Two(pub u8, pub u8);
@@ -46,11 +46,11 @@ pub fn little_32(number: u32) -> Four
 pub fn signed_16(number: i16) -> Two
     ensures { λ r. ⌜ two r ≡ runOctets (low 2) (complement 32768 number ∷ []) ⌝ }
 {
-    little_16(octet_fields::bits_16(number))
+    little_16(twos_complement::bits_16(number))
 }
 
 pub fn signed_32(number: i32) -> Four
     ensures { λ r. ⌜ four r ≡ runOctets (low 4) (complement 2147483648 number ∷ []) ⌝ }
 {
-    little_32(octet_fields::bits_32(number))
+    little_32(twos_complement::bits_32(number))
 }

@@ -12,12 +12,12 @@ use Rattle.x25_check.specs.Check.{x25, x25Octets}
 use Rattle.mavlink_frame.specs.declared.Kind.{Kind}
 use Rattle.mavlink_frame.specs.declared.Header.{Header}
 use Rattle.mavlink_frame.specs.declared.Lookup.the-variants.{Known}
-use Rattle.mavlink_frame.specs.declared.Found.the-variants as found-as
+use Rattle.mavlink_reader.specs.declared.Found.the-variants as found-as
 use Rattle.mavlink_frame.specs.Kinds.{kindOf}
 use Rattle.mavlink_frame.specs.Frame.{headerOctets, covered, frame}
-use Rattle.mavlink_frame.specs.Reads.{payloadAt, checkAt, checkDue, found}
-use Rattle.mavlink_frame.proofs.Tests.{right}
-use Rattle.mavlink_frame.proofs.Accepted.{Accepted}
+use Rattle.mavlink_reader.specs.Reads.{payloadAt, checkAt, checkDue, found}
+use Rattle.mavlink_reader.proofs.Tests.{right}
+use Rattle.mavlink_reader.proofs.Accepted.{Accepted}
 
 module _ (k : Kind) (h : Header) (payload rest : List ℕ) (known : kindOf (k .id) ≡ Known k) (l : length payload ≡ k .length) where
   abbrev pub check : ℕ

@@ -10,9 +10,9 @@ use lib.Signed.{mag}
 use Rattle.binary_polynomial.specs.Bits.{Octets}
 use Rattle.octet_fields.specs.Digits.{Within}
 use Rattle.octet_fields.specs.Layout.{layoutWidths, fields}
-use Rattle.octet_fields.specs.Signed.{signed, complement, holds}
+use Rattle.twos_complement.specs.Signed.{signed, complement, holds}
 use Rattle.octet_fields.proofs.RoundTrips.{fields-octets}
-use Rattle.octet_fields.proofs.Signed.{signed-complement, complement-signed}
+use Rattle.twos_complement.proofs.Signed.{signed-complement, complement-signed}
 use Rattle.octet_fields.proofs.Spelled.{elements, bounds, same-octets}
 use Rattle.mavlink_messages.specs.declared.DataStream.{DataStream}
 use Rattle.mavlink_messages.specs.declared.Static.{Static}

@@ -15,13 +15,13 @@ use Rattle.writer_answers.specs.Answers.{refused, wrote, answerOf, outputAfter,
 use Rattle.mavlink_frame.specs.declared.Kind.{Kind}
 use Rattle.mavlink_frame.specs.declared.Header.{Header}
 use Rattle.mavlink_frame.specs.declared.Lookup.the-variants.{Known}
-use Rattle.mavlink_frame.specs.declared.Found.{Found}
-use Rattle.mavlink_frame.specs.declared.Found.the-variants as found-as
+use Rattle.mavlink_reader.specs.declared.Found.{Found}
+use Rattle.mavlink_reader.specs.declared.Found.the-variants as found-as
 use Rattle.mavlink_frame.specs.Kinds.{kind, kindOf}
 use Rattle.mavlink_frame.specs.Frame.{frame}
-use Rattle.mavlink_frame.specs.Reads.{payloadAt, found}
-use Rattle.mavlink_frame.specs.Writes.{roomFor, frameBy}
-use Rattle.mavlink_frame.proofs.Accepted.{Accepted, accepted}
+use Rattle.mavlink_reader.specs.Reads.{payloadAt, found}
+use Rattle.mavlink_writer.specs.Writes.{roomFor, frameBy}
+use Rattle.mavlink_reader.proofs.Accepted.{Accepted, accepted}
 use Rattle.mavlink_messages.specs.declared.Failures.{Failures}
 use Rattle.mavlink_messages.specs.declared.Message.{Message}
 use Rattle.mavlink_messages.specs.declared.Message.the-variants.{DataStream, Static, Dynamic, Status, Traffic}

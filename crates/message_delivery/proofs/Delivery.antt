@@ -8,8 +8,8 @@ use borrow.Author.Tests.{le-ltb}
 use lib.ListN.{length, take, drop}
 use lib.Seq.{take-at}
 use Rattle.frame_format.specs.Frame.{frame}
-use Rattle.frame_writer.specs.Writes.{answerDue as frameDue}
-use Rattle.frame_writer.proofs.Due.{accepted-so}
+use Rattle.frame_room.specs.Answers.{answerDue as frameDue}
+use Rattle.frame_room.proofs.Due.{accepted-so}
 use Rattle.message_round_trips.proofs.ReadBack.{written-reads-back}
 use Rattle.receiver_history.specs.Promises.{AnswersAs, frameAnswer}
 use Rattle.receiver_history.proofs.Frames.{frame-is-put-out}

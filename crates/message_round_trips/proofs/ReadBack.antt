@@ -7,9 +7,9 @@ use lib.Dec.{ltb}
 use lib.ListN.{length}
 use lib.Signed.{mag}
 use borrow.Author.Tests.{eqb-true}
-use Rattle.octet_fields.specs.Signed.{holds}
+use Rattle.twos_complement.specs.Signed.{holds}
 use Rattle.octet_fields.proofs.RoundTrips.{fields-octets}
-use Rattle.octet_fields.proofs.Signed.{signed-complement}
+use Rattle.twos_complement.proofs.Signed.{signed-complement}
 use Rattle.ucp_messages.specs.declared.Message.the-variants.{Heartbeat, Uplink, Ownship, GeometricAltitude, Traffic, Request, Control, Initialization}
 use Rattle.ucp_messages.specs.declared.Heartbeat as heartbeat
 use Rattle.ucp_messages.specs.declared.Report as report

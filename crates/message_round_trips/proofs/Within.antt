@@ -8,8 +8,8 @@ use lib.IntN.{ℤ}
 use lib.Signed.{mag}
 use Rattle.octet_fields.specs.Digits.{Within, bitOf, isSet}
 use Rattle.octet_fields.specs.Layout.{layoutWidths}
-use Rattle.octet_fields.specs.Signed.{holds}
-use Rattle.octet_fields.proofs.Signed.{complement-lt}
+use Rattle.twos_complement.specs.Signed.{holds}
+use Rattle.twos_complement.proofs.Signed.{complement-lt}
 use Rattle.ucp_messages.specs.declared.Report.{Report}
 use Rattle.ucp_messages.specs.declared.GeometricAltitude.{GeometricAltitude}
 use Rattle.ucp_messages.specs.declared.Control.{Control}

@@ -11,7 +11,7 @@ use lib.ListN.{length, getD, drop, length-drop}
 use Rattle.binary_polynomial.specs.Bits.{Octets}
 use Rattle.octet_fields.specs.Digits.{bitOf, isSet}
 use Rattle.octet_fields.specs.Layout.{fields}
-use Rattle.octet_fields.proofs.Signed.{complement-signed, holds-signed}
+use Rattle.twos_complement.proofs.Signed.{complement-signed, holds-signed}
 use Rattle.octet_fields.proofs.Spelled.{elements, field-at, bounds, same-octets}
 use Rattle.ucp_messages.specs.declared.Kind.{Kind}
 use Rattle.ucp_messages.specs.declared.Kind.the-variants.{Heartbeat, Uplink, Ownship, GeometricAltitude, Traffic, Request, Control, Initialization, Unknown}

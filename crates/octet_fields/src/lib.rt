@@ -2,17 +2,12 @@
 ghost use mathlib.Core.Path.{_≡_};
 ghost use mathlib.Core.Bool.{cond};
 ghost use mathlib.Core.List.{_++_};
-ghost use Prim.Native.Nat.{suc, _-_, _*_, _<_, _≤_};
+ghost use Prim.Native.Nat.{_<_, _≤_};
 ghost use lib.Dec.{leb};
-ghost use lib.IntN.{negsuc};
-ghost use lib.Signed.{mag};
-ghost use mir.Syntax.{w16};
-ghost use mir.Val.{SFits};
 ghost use lib.ListN.{length, getD, drop};
 ghost use Rattle.octet_fields.specs.Digits.{bitOf};
 ghost use Rattle.octet_fields.specs.Numbers.{big16, big24, big32, little16, little24, little32};
-ghost use Rattle.octet_fields.specs.Texts.{textAt};
-ghost use Rattle.octet_fields.specs.Signed.{signed, complement, holds};
+ghost use Rattle.octet_fields.specs.Texts.{textAt, textOctets, noText};
 
 // A text of eight octets. (An enum can't hold an array, and messages are held in one.)
 #[repr(C)]
@@ -63,6 +58,38 @@ pub fn text_at(octets: &[u8], at: u8) -> Text
     }
 }
 
+// A text as the array of its octets.
+pub fn text_octets(text: Text) -> [u8; 8]
+    ensures { λ r. ⌜ r ≡ textOctets text ⌝ }
+{
+    [
+        text.c0,
+        text.c1,
+        text.c2,
+        text.c3,
+        text.c4,
+        text.c5,
+        text.c6,
+        text.c7,
+    ]
+}
+
+// Eight zeros, for where there is no text.
+pub fn no_text() -> Text
+    ensures { λ r. ⌜ r ≡ noText ⌝ }
+{
+    Text {
+        c0: 0,
+        c1: 0,
+        c2: 0,
+        c3: 0,
+        c4: 0,
+        c5: 0,
+        c6: 0,
+        c7: 0,
+    }
+}
+
 // ---- most significant octet first
 pub fn big_16(octets: &[u8], at: u8) -> u16
     ensures { λ r. ⌜ r ≡ big16 (now (octets .entry)) at ⌝ }
@@ -107,141 +134,6 @@ pub fn little_32(octets: &[u8], at: u8) -> u32
     let i = at as usize;
     wide(octets, i + 3) * 16777216
         + (wide(octets, i + 2) * 65536 + (wide(octets, i + 1) * 256 + wide(octets, i)))
-}
-
-// ---- signed numbers; half is 2 to the number of bits less one
-
-// n both of n and of -(n + 1).
-fn magnitude(number: i32) -> u32
-    ensures { λ r. ⌜ r ≡ mag number ⌝ }
-{
-    if number < 0 {
-        (-1 - number) as u32
-    } else {
-        number as u32
-    }
-}
-
-// -(n + 1).
-fn below_zero(n: u32) -> i32
-    requires { ⌜ n < 2147483648 ⌝ }
-    ensures { λ r. ⌜ r ≡ negsuc n ⌝ }
-{
-    -1 - (n as i32)
-}
-
-fn widened(number: i16) -> i32
-    ensures { λ r. ⌜ r ≡ number ⌝ }
-{
-    number as i32
-}
-
-fn narrowed(number: i32) -> i16
-    requires { ⌜ SFits w16 number ⌝ }
-    ensures { λ r. ⌜ r ≡ number ⌝ }
-{
-    number as i16
-}
-
-fn to_signed(bits: u32, half: u32) -> i32
-    requires { ⌜ half ≤ 2147483648 ⌝ }
-    ensures { λ r. ⌜ r ≡ signed half bits ⌝ }
-{
-    if bits < half {
-        return bits as i32;
-    }
-    let over = bits - half;
-    if over < half {
-        return below_zero(half - 1 - over);
-    }
-    -1
-}
-
-// The bits of -(n + 1).
-fn negative_bits(n: u32, half: u32) -> u32
-    requires { ⌜ half ≤ 2147483648 ⌝ }
-    ensures { λ r. ⌜ r ≡ half * 2 - suc n ⌝ }
-{
-    if n < half {
-        return half - 1 - n + half;
-    }
-    let over = n - half;
-    if over < half {
-        return half - 1 - over;
-    }
-    0
-}
-
-fn to_bits(number: i32, half: u32) -> u32
-    requires { ⌜ half ≤ 2147483648 ⌝ }
-    ensures { λ r. ⌜ r ≡ complement half number ⌝ }
-{
-    let n = magnitude(number);
-    if number < 0 {
-        return negative_bits(n, half);
-    }
-    n
-}
-
-pub fn signed_12(bits: u16) -> i16
-    ensures { λ r. ⌜ r ≡ signed 2048 bits ⌝ }
-{
-    narrowed(to_signed(bits as u32, 2048))
-}
-
-pub fn signed_16(bits: u16) -> i16
-    ensures { λ r. ⌜ r ≡ signed 32768 bits ⌝ }
-{
-    narrowed(to_signed(bits as u32, 32768))
-}
-
-pub fn signed_24(bits: u32) -> i32
-    ensures { λ r. ⌜ r ≡ signed 8388608 bits ⌝ }
-{
-    to_signed(bits, 8388608)
-}
-
-pub fn signed_32(bits: u32) -> i32
-    ensures { λ r. ⌜ r ≡ signed 2147483648 bits ⌝ }
-{
-    to_signed(bits, 2147483648)
-}
-
-// The bits of a number that has too many for the width are of no meaning: `holds_12` and `holds_24` say whether it has.
-pub fn bits_12(number: i16) -> u16
-    ensures { λ r. ⌜ r ≡ complement 2048 number ⌝ }
-{
-    to_bits(widened(number), 2048) as u16
-}
-
-pub fn bits_16(number: i16) -> u16
-    ensures { λ r. ⌜ r ≡ complement 32768 number ⌝ }
-{
-    to_bits(widened(number), 32768) as u16
-}
-
-pub fn bits_24(number: i32) -> u32
-    ensures { λ r. ⌜ r ≡ complement 8388608 number ⌝ }
-{
-    to_bits(number, 8388608)
-}
-
-pub fn bits_32(number: i32) -> u32
-    ensures { λ r. ⌜ r ≡ complement 2147483648 number ⌝ }
-{
-    to_bits(number, 2147483648)
-}
-
-pub fn holds_12(number: i16) -> bool
-    ensures { λ r. ⌜ r ≡ holds 2048 number ⌝ }
-{
-    magnitude(widened(number)) < 2048
-}
-
-pub fn holds_24(number: i32) -> bool
-    ensures { λ r. ⌜ r ≡ holds 8388608 number ⌝ }
-{
-    magnitude(number) < 8388608
 }
 
 // ---- writing

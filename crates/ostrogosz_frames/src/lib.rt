@@ -3,7 +3,7 @@ use writer_answers::OstrogoszWritten;
 ghost use mathlib.Core.Path.{_≡_};
 ghost use Rattle.frame_check.specs.Check.{frameCheck};
 ghost use Rattle.frame_format.specs.Frame.{frame};
-ghost use Rattle.frame_writer.specs.Writes.{answerDue};
+ghost use Rattle.frame_room.specs.Answers.{answerDue};
 ghost use Rattle.writer_answers.specs.Numbers.{WritingNumbers};
 
 // The frame check sequence of a body of any length.

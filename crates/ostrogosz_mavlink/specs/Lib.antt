@@ -1,3 +1,2 @@
-pub mod Blank
 pub mod Read
 pub mod Writer

@@ -8,18 +8,12 @@ use Rattle.mavlink_messages.specs.declared.Status as status-as
 use Rattle.mavlink_messages.specs.declared.Traffic as traffic-as
 use Rattle.mavlink_messages.specs.declared.Message as message-as
 use Rattle.mavlink_messages.specs.declared.Message.the-variants.{DataStream, Static, Dynamic, Status, Traffic}
-use Rattle.mavlink_messages.specs.declared.Lowest.{Lowest}
-use Rattle.mavlink_messages.specs.declared.Lowest.the-variants.{Bit, None}
 use Rattle.mavlink_messages.specs.declared.Failures.{Failures}
 use Rattle.mavlink_messages.specs.declared.Read.{Read}
 use Rattle.mavlink_messages.specs.declared.Read.the-variants.{Message, Refused}
 use Rattle.ostrogosz_mavlink.specs.declared.OstrogoszMavlinkMessage.{OstrogoszMavlinkMessage}
-use Rattle.ostrogosz_mavlink.specs.Blank.{noHeader, noDataStream, noStatic, noDynamic, noStatus, noTraffic}
-
--- the lowest failure bit, 1 to 4, or 0
-abbrev pub lowestNumber : Lowest → ℕ
-lowestNumber (Bit b) = b
-lowestNumber None = 0
+use Rattle.mavlink_numbers.specs.Lowest.{lowestNumber}
+use Rattle.mavlink_numbers.specs.Blank.{noHeader, noDataStream, noStatic, noDynamic, noStatus, noTraffic}
 
 -- a refusal's number, and all else 0
 abbrev pub refusalNumber : ℕ → OstrogoszMavlinkMessage

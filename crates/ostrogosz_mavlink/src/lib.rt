@@ -1,11 +1,8 @@
 // The MAVLink messages for C; include/ostrogosz.h says the same in C.
-mod blank;
-
 use mavlink_frame::Header;
 use mavlink_messages::DataStream;
 use mavlink_messages::Dynamic;
 use mavlink_messages::Failures;
-use mavlink_messages::Lowest;
 use mavlink_messages::Message;
 use mavlink_messages::Read;
 use mavlink_messages::Static;
@@ -15,8 +12,8 @@ use writer_answers::OstrogoszWritten;
 ghost use mathlib.Core.Path.{_≡_};
 ghost use Rattle.mavlink_messages.specs.Messages.{readDue};
 ghost use Rattle.ostrogosz_mavlink.specs.Writer.{WritesMessage};
-ghost use Rattle.ostrogosz_mavlink.specs.Blank.{noDataStream, noStatic, noDynamic, noStatus, noTraffic};
-ghost use Rattle.ostrogosz_mavlink.specs.Read.{lowestNumber, framed, messageNumbers, numbers};
+ghost use Rattle.mavlink_numbers.specs.Blank.{noDataStream, noStatic, noDynamic, noStatus, noTraffic};
+ghost use Rattle.ostrogosz_mavlink.specs.Read.{blank, framed, messageNumbers, numbers};
 
 // What stands at the start of an input, in numbers.
 #[repr(C)]
@@ -39,12 +36,22 @@ pub struct OstrogoszMavlinkMessage {
     pub traffic: Traffic,
 }
 
-fn lowest_number(lowest: Lowest) -> u32
-    ensures { λ r. ⌜ r ≡ lowestNumber lowest ⌝ }
+// Every number 0.
+fn blank() -> OstrogoszMavlinkMessage
+    ensures { λ r. ⌜ r ≡ blank ⌝ }
 {
-    match lowest {
-        Lowest::Bit(bit) => bit,
-        Lowest::None => 0,
+    OstrogoszMavlinkMessage {
+        refusal: 0,
+        id: 0,
+        used: 0,
+        header: mavlink_numbers::header(),
+        failures: 0,
+        lowest_failure: 0,
+        data_stream: mavlink_numbers::data_stream(),
+        static_data: mavlink_numbers::static_data(),
+        dynamic: mavlink_numbers::dynamic(),
+        status: mavlink_numbers::status(),
+        traffic: mavlink_numbers::traffic(),
     }
 }
 
@@ -53,11 +60,11 @@ fn framed(header: Header, used: usize, failures: Failures) -> OstrogoszMavlinkMe
     ensures { λ r. ⌜ r ≡ framed header used failures 0 noDataStream noStatic noDynamic noStatus noTraffic ⌝ }
 {
     let lowest = failures.lowest;
-    let mut numbers = blank::message();
+    let mut numbers = blank();
     numbers.used = used;
     numbers.header = header;
     numbers.failures = failures.count;
-    numbers.lowest_failure = lowest_number(lowest);
+    numbers.lowest_failure = mavlink_numbers::lowest_number(lowest);
     numbers
 }
 
@@ -102,7 +109,7 @@ fn message_numbers(
 fn refusal_number(number: u8) -> OstrogoszMavlinkMessage
     ensures { λ r. ⌜ r ≡ numbers (Read.Refused number) ⌝ }
 {
-    let mut numbers = blank::message();
+    let mut numbers = blank();
     numbers.refusal = number as u32;
     numbers
 }

@@ -6,10 +6,10 @@ use native.Mathlib.Omega.{arith}
 use borrow.Author.Tests.{ltb-true}
 use lib.Dec.{ltb}
 use Rattle.field_rules.specs.Codes.{isEmitter, isSizeCode}
-use Rattle.field_rules.specs.Text.{isSpaced}
-use Rattle.octet_fields.specs.Signed.{complement}
+use Rattle.text_rules.specs.Text.{isSpaced}
+use Rattle.twos_complement.specs.Signed.{complement}
 use Rattle.octet_fields.specs.Texts.{textOctets}
-use Rattle.octet_fields.proofs.Signed.{complement-lt}
+use Rattle.twos_complement.proofs.Signed.{complement-lt}
 use Rattle.ucp_messages.specs.declared.Control.{Control}
 use Rattle.ucp_messages.specs.declared.Initialization.{Initialization}
 use Rattle.ucp_messages.specs.declared.Report.{Report}

@@ -5,10 +5,10 @@ use Prim.Native.Nat.{ℕ}
 use lib.Dec.{ltb}
 use lib.ListN.{getD}
 use Rattle.field_rules.specs.Codes.{isSquawk}
-use Rattle.field_rules.specs.Text.{isPadded}
+use Rattle.text_rules.specs.Text.{isPadded}
 use Rattle.octet_fields.specs.Digits.{joined, bitOf, isSet}
 use Rattle.octet_fields.specs.Layout.{Run, high, low, octet, fields, octets}
-use Rattle.octet_fields.specs.Signed.{signed, complement}
+use Rattle.twos_complement.specs.Signed.{signed, complement}
 use Rattle.octet_fields.specs.Texts.{text, textOctets, textAt}
 use Rattle.ucp_messages.specs.declared.Control.{Control}
 

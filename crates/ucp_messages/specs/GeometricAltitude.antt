@@ -3,7 +3,7 @@ use mathlib.Core.List.{List, [], _∷_}
 use Prim.Native.Nat.{ℕ}
 use lib.ListN.{getD}
 use Rattle.octet_fields.specs.Layout.{Run, high, octet, fields, octets}
-use Rattle.octet_fields.specs.Signed.{signed, complement}
+use Rattle.twos_complement.specs.Signed.{signed, complement}
 use Rattle.ucp_messages.specs.declared.GeometricAltitude.{GeometricAltitude}
 
 -- offset 0: ID; 1: altitude, signed, 16 bits; 3: metrics, 16 bits

@@ -5,7 +5,7 @@ use Prim.Native.Nat.{ℕ}
 use lib.Dec.{ltb}
 use lib.ListN.{getD}
 use Rattle.field_rules.specs.Codes.{isEmitter, isSizeCode}
-use Rattle.field_rules.specs.Text.{isSpaced}
+use Rattle.text_rules.specs.Text.{isSpaced}
 use Rattle.octet_fields.specs.Layout.{Run, high, low, octet, fields, octets}
 use Rattle.octet_fields.specs.Texts.{text, textOctets, textAt}
 use Rattle.ucp_messages.specs.declared.Initialization.{Initialization}

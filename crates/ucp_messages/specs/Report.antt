@@ -5,7 +5,7 @@ use Prim.Native.Nat.{ℕ}
 use lib.Dec.{ltb}
 use lib.ListN.{getD}
 use Rattle.octet_fields.specs.Layout.{Run, high, octet, fields, octets}
-use Rattle.octet_fields.specs.Signed.{signed, complement, holds}
+use Rattle.twos_complement.specs.Signed.{signed, complement, holds}
 use Rattle.octet_fields.specs.Texts.{text, textOctets, textAt}
 use Rattle.ucp_messages.specs.declared.Report.{Report}
 

@@ -26,14 +26,14 @@ fn fields(body: &[u8]) -> Report
         alert: first / 16,
         address_type: first % 16,
         address: octet_fields::big_24(body, 2),
-        latitude: octet_fields::signed_24(octet_fields::big_24(body, 5)),
-        longitude: octet_fields::signed_24(octet_fields::big_24(body, 8)),
+        latitude: twos_complement::signed_24(octet_fields::big_24(body, 5)),
+        longitude: twos_complement::signed_24(octet_fields::big_24(body, 8)),
         altitude: height / 16,
         miscellaneous: (height % 16) as u8,
         nic: integrity / 16,
         nacp: integrity % 16,
         speed: (motion / 1048576) as u16,
-        vertical_rate: octet_fields::signed_12(rate as u16),
+        vertical_rate: twos_complement::signed_12(rate as u16),
         track: (motion % 1048576 % 256) as u8,
         emitter: octet_fields::octet(body, 18),
         callsign: octet_fields::text_at(body, 19),
@@ -62,9 +62,9 @@ pub fn read(id: u8, body: &[u8]) -> Read
 pub fn fits(report: Report) -> bool
     ensures { λ r. ⌜ r ≡ reportFits report ⌝ }
 {
-    let position = octet_fields::holds_24(report.latitude)
-        & octet_fields::holds_24(report.longitude);
-    let rate = octet_fields::holds_12(report.vertical_rate);
+    let position = twos_complement::holds_24(report.latitude)
+        & twos_complement::holds_24(report.longitude);
+    let rate = twos_complement::holds_12(report.vertical_rate);
     let address = (report.alert < 16) & (report.address_type < 16) & (report.address < 16777216);
     let height = (report.altitude < 4096) & (report.miscellaneous < 16);
     let integrity = (report.nic < 16) & (report.nacp < 16);
@@ -78,10 +78,10 @@ fn octets(id: u8, report: Report) -> [u8; 28]
     ensures { λ r. ⌜ r ≡ reportBody id report ⌝ }
 {
     let address = report.address;
-    let latitude = octet_fields::bits_24(report.latitude);
-    let longitude = octet_fields::bits_24(report.longitude);
+    let latitude = twos_complement::bits_24(report.latitude);
+    let longitude = twos_complement::bits_24(report.longitude);
     let height = report.altitude * 16 + report.miscellaneous as u16;
-    let rate = octet_fields::bits_12(report.vertical_rate);
+    let rate = twos_complement::bits_12(report.vertical_rate);
     let motion = report.speed as u32 * 1048576 + (rate as u32 * 256 + report.track as u32);
     let text = report.callsign;
     [

@@ -16,7 +16,7 @@ fn fields(body: &[u8]) -> GeometricAltitude
     ensures { λ r. ⌜ r ≡ geometricIn (now (body .entry)) ⌝ }
 {
     GeometricAltitude {
-        altitude: octet_fields::signed_16(octet_fields::big_16(body, 1)),
+        altitude: twos_complement::signed_16(octet_fields::big_16(body, 1)),
         metrics: octet_fields::big_16(body, 3),
     }
 }
@@ -34,7 +34,7 @@ pub fn read(body: &[u8]) -> Read
 fn octets(geometric: GeometricAltitude) -> [u8; 5]
     ensures { λ r. ⌜ r ≡ geometricBody geometric ⌝ }
 {
-    let altitude = octet_fields::bits_16(geometric.altitude);
+    let altitude = twos_complement::bits_16(geometric.altitude);
     let metrics = geometric.metrics;
     [
         11,

@@ -29,7 +29,7 @@ fn fields(body: &[u8]) -> Control
         ident: from_3 / 8 == 1,
         air_ground: from_2 / 2,
         baro_checked: from_2 % 2 == 1,
-        altitude: octet_fields::signed_32(octet_fields::little_32(body, 3)),
+        altitude: twos_complement::signed_32(octet_fields::little_32(body, 3)),
         squawk: octet_fields::little_16(body, 7),
         emergency: octet_fields::octet(body, 9),
         identity: octet_fields::text_at(body, 10),
@@ -83,7 +83,7 @@ fn octets(control: Control) -> [u8; 18]
     ensures { λ r. ⌜ r ≡ controlBody control ⌝ }
 {
     let state = state(control);
-    let altitude = octet_fields::bits_32(control.altitude);
+    let altitude = twos_complement::bits_32(control.altitude);
     let squawk = control.squawk;
     let text = control.identity;
     let low = altitude % 16777216 % 65536;

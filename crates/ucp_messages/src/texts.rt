@@ -1,7 +1,7 @@
 // The rules for texts, of a text by value.
 use octet_fields::Text;
 ghost use mathlib.Core.Path.{_≡_};
-ghost use Rattle.field_rules.specs.Text.{isPadded, isSpaced};
+ghost use Rattle.text_rules.specs.Text.{isPadded, isSpaced};
 ghost use Rattle.octet_fields.specs.Texts.{textOctets};
 
 pub fn is_padded(text: Text) -> bool
@@ -17,7 +17,7 @@ pub fn is_padded(text: Text) -> bool
         text.c6,
         text.c7,
     ];
-    field_rules::is_padded(&octets)
+    text_rules::is_padded(&octets)
 }
 
 pub fn is_spaced(text: Text) -> bool
@@ -33,5 +33,5 @@ pub fn is_spaced(text: Text) -> bool
         text.c6,
         text.c7,
     ];
-    field_rules::is_spaced(&octets)
+    text_rules::is_spaced(&octets)
 }

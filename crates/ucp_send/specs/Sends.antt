@@ -4,7 +4,7 @@ use mathlib.Core.Bool.{cond}
 use mathlib.Core.List.{List}
 use Prim.Native.Nat.{ℕ}
 use Rattle.frame_format.specs.Frame.{frame}
-use Rattle.frame_writer.specs.Writes.{answerDue as frameDue}
+use Rattle.frame_room.specs.Answers.{answerDue as frameDue}
 use Rattle.ucp_messages.specs.declared.Message.{Message}
 use Rattle.ucp_messages.specs.Bodies.{messageFits, messageBody}
 use Rattle.writer_answers.specs.declared.Written.{Written}

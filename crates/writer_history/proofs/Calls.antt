@@ -10,7 +10,7 @@ use Rattle.frame_format.proofs.Frame.{frames-injective}
 use Rattle.writer_answers.specs.declared.Written.{Written}
 use Rattle.writer_answers.specs.declared.Written.the-variants.{Wrote, Refused}
 use Rattle.frame_writer.specs.Writes.{Writes}
-use Rattle.frame_writer.proofs.Due.{accepted-so}
+use Rattle.frame_room.proofs.Due.{accepted-so}
 use Rattle.writer_history.specs.Calls.{WriterCall, adds, accepts, lineOctets, acceptedBodies, WriterLists}
 
 -- what one call adds to the line is the line of what it accepts

@@ -7,7 +7,8 @@ use Rattle.writer_answers.specs.declared.Written.{Written}
 use Rattle.writer_answers.specs.declared.Written.the-variants.{Wrote, Refused}
 use Rattle.writer_answers.specs.Answers.{answerOf}
 use Rattle.frame_format.specs.Frame.{lineOf}
-use Rattle.frame_writer.specs.Writes.{answerDue, Writes}
+use Rattle.frame_room.specs.Answers.{answerDue}
+use Rattle.frame_writer.specs.Writes.{Writes}
 
 -- one call: the body and the output as at entry, the answer, the output as at return; and that it is a call of the writer,
 -- which is all that `write_frame` ensures

@@ -1,31 +1,57 @@
--- `mavlink_messages::failures_of` meets its contract: antt computes the figures of each status, once. Assumes nothing.
-use mathlib.Core.Path.{_≡_, refl}
-use mathlib.Core.Bool.{cond}
-use Prim.Native.Nat.{ℕ, _<_}
-use borrow.Author.Tests.{eq-eqb, ne-eqb}
-use lib.Bits.{bitAnd}
-use lib.Count.{ones, trailingZeros}
-use lib.Dec.{eqb}
-use Rattle.binary_polynomial.proofs.Linear.{everywhere}
-use Rattle.mavlink_messages.specs.declared.Lowest.the-variants.{Bit, None}
+-- `mavlink_messages::failures_of` meets its contract: there is a lowest bit just where the count is not 0. Assumes nothing.
+use mathlib.Core.Path.{_≡_, refl, sym, _∙_}
+use mathlib.Core.List.{List, [], _∷_}
+use Prim.Native.Nat.{ℕ}
+use native.Mathlib.Omega.{arith}
+use borrow.Author.Needs.{needs}
+use lib.ListN.{length, getD}
+use Rattle.status_failures.specs.Failures.{failureBits}
 use Rattle.mavlink_messages.specs.declared.Failures.{Failures}
-use Rattle.mavlink_messages.specs.Failures.{failuresIn}
+use Rattle.mavlink_messages.specs.declared.Lowest.the-variants.{Bit}
+use Rattle.mavlink_messages.specs.Failures.{lowestOf, failuresIn, noFailures}
 use Rattle.mavlink_messages.proofs.failures_of.Statement.{statement}
 use Rattle.mavlink_messages.proofs.failures_of.Tie as tie
 
--- the figures of a masked status
-abbrev figures : ℕ → Failures
-figures failed = record { count = ones failed; lowest = cond (eqb failed 0) None (Bit (trailingZeros 8 failed)) }
+-- the figures of some bits
+abbrev figures : List ℕ → Failures
+figures bs = record { count = length bs; lowest = lowestOf bs }
 
-right : (status : ℕ) → status < 256 → figures (bitAnd status 0x1E) ≡ failuresIn status
-unfolding failuresIn ones trailingZeros
-right = everywhere (λ status. figures (bitAnd status 0x1E)) failuresIn 256 refl
+none : (bs : List ℕ) → length bs ≡ 0 → figures bs ≡ noFailures
+none [] e = refl
+none (b ∷ bs) e = absurd (omega arith)
+
+some : (bs : List ℕ) {count lowest : ℕ} → count ≡ length bs → (count ≡ 0 → ⊥) → lowest ≡ getD bs 0 0
+    → record { count = count; lowest = Bit lowest } ≡ figures bs
+some [] e ne l = absurd (ne e)
+some (b ∷ bs) e ne l = λ i. record { count = e i; lowest = Bit (l i) }
+
+count-failures-requires : tie.Need-count-failures-requires
+count-failures-requires c κs = search needs
+
+no-failures-requires : tie.Need-no-failures-requires
+no-failures-requires c κs = search needs
 
 returns : tie.Need-returns
-returns c = rw (eq-eqb _ _ (c .if1 .taken)) at (right (c .before .args .status) (c .before .fits .status .fits))
+unfolding failuresIn
+returns c =
+    c .no-failures .ensures
+    ∙ sym (none (failureBits (c .before .before .before .args .status)) (sym (c .before .before .count-failures .ensures) ∙ c .before .if1 .taken))
+
+lowest-failure-requires : tie.Need-lowest-failure-requires
+lowest-failure-requires c κs = search needs
 
 returns-2 : tie.Need-returns-2
-returns-2 c = rw (ne-eqb _ _ (c .if1 .left)) at (right (c .before .args .status) (c .before .fits .status .fits))
+unfolding failuresIn
+returns-2 c =
+    some (failureBits (c .before .before .before .args .status)) (c .before .before .count-failures .ensures) (c .before .if1 .left)
+    (c .lowest-failure .ensures)
 
 pub failures-of-spec : {M : Type 1} → statement M
-failures-of-spec = tie.close (tie.spec returns returns-2)
+failures-of-spec =
+    tie.close
+    (tie.spec
+    count-failures-requires
+    no-failures-requires
+    returns
+    lowest-failure-requires
+    returns-2)

@@ -1,8 +1,7 @@
 -- `mavlink_messages::write_message` meets its contract, by its ways. Assumes nothing.
-use mathlib.Core.Path.{sym, ap, _∙_}
+use mathlib.Core.Path.{sym, _∙_}
 use borrow.Author.Tests.{not-true, not-false}
 use denote.Ref.{now}
-use Rattle.mavlink_messages.specs.Messages.{inRange}
 use Rattle.mavlink_messages.proofs.Written.{refused, written, address-fits}
 use borrow.Author.Needs.{needs}
 use Rattle.mavlink_messages.proofs.write_message.Statement.{statement}
@@ -33,7 +32,7 @@ enum-known-message-2 c = search needs
 
 octets-requires-2 : tie.Need-octets-requires-2
 octets-requires-2 c κs =
-    address-fits _ (sym (ap inRange (c .before .message2 .given .1)) ∙ sym (c .before .before .before .before .in-range .ensures) ∙ not-false _ (c .before .before .before .if1 .left))
+    address-fits (c .before .message2 .given .1) (sym (c .before .before .before .before .in-range .ensures) ∙ not-false _ (c .before .before .before .if1 .left))
 
 slice-aggregate-write-frame-2 : tie.Need-slice-aggregate-write-frame-2
 slice-aggregate-write-frame-2 c = search needs

@@ -3,7 +3,7 @@ use native.Mathlib.Omega.{arith}
 use lib.IntN.{pos, _*ℤ_}
 use mir.Syntax.{w16, w32}
 use mir.ValLaws.{toZ-ofZ}
-use Rattle.octet_fields.proofs.Negative.{wider}
+use Rattle.twos_complement.proofs.Negative.{wider}
 use Rattle.message_meanings.specs.Meanings.{geometricMeans}
 use Rattle.message_meanings.proofs.Scaled.{times-fits}
 use Rattle.message_meanings.proofs.geometric_altitude_in_feet.Statement.{statement}

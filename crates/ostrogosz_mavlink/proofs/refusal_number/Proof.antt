@@ -3,11 +3,11 @@ use borrow.Author.Needs.{needs}
 use Rattle.ostrogosz_mavlink.proofs.refusal_number.Statement.{statement}
 use Rattle.ostrogosz_mavlink.proofs.refusal_number.Tie as tie
 
-message-requires : tie.Need-message-requires
-message-requires c κs = search needs
+blank-requires : tie.Need-blank-requires
+blank-requires c κs = search needs
 
 returns : tie.Need-returns
-returns c = rw (c .message .ensures)
+returns c = rw (c .blank .ensures)
 
 pub refusal-number-spec : {M : Type 1} → statement M
-refusal-number-spec = tie.close (tie.spec message-requires returns)
+refusal-number-spec = tie.close (tie.spec blank-requires returns)

@@ -4,7 +4,7 @@ use lib.IntN.{pos}
 use lib.Signed.{mag}
 use mir.Syntax.{w64}
 use mir.ValLaws.{toZ-ofZ}
-use Rattle.octet_fields.proofs.Negative.{magnitude-fits, turned, kept}
+use Rattle.twos_complement.proofs.Negative.{magnitude-fits, turned, kept}
 use Rattle.explanation.proofs.Signs.{size-negative, size-positive}
 use Rattle.explanation.proofs.text.size.Statement.{statement}
 use Rattle.explanation.proofs.text.size.Tie as tie

@@ -6,7 +6,7 @@ use lib.ListN.{getD}
 use mir.Syntax.{w16, w32}
 use mir.ValLaws.{toZ-ofZ}
 use Rattle.octet_fields.specs.Layout.{fields}
-use Rattle.octet_fields.specs.Signed.{signed}
+use Rattle.twos_complement.specs.Signed.{signed}
 use Rattle.octet_fields.proofs.Spelled.{elements, field-at, text-at}
 use Rattle.ucp_messages.specs.Report.{reportLayout, reportIn}
 use borrow.Author.Needs.{needs}

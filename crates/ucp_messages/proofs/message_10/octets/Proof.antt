@@ -3,7 +3,7 @@ use mathlib.Core.Path.{_≡_, ap, _∙_}
 use native.Mathlib.Omega.{arith}
 use mir.Syntax.{w16, w32}
 use mir.ValLaws.{toZ-ofZ}
-use Rattle.octet_fields.specs.Signed.{complement}
+use Rattle.twos_complement.specs.Signed.{complement}
 use Rattle.ucp_messages.specs.Report.{reportBody}
 use borrow.Author.Needs.{needs}
 use Rattle.ucp_messages.proofs.message_10.octets.Statement.{statement}

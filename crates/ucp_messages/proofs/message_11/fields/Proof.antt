@@ -3,7 +3,7 @@ use mathlib.Core.Path.{_∙_, ap}
 use denote.Ref.{now}
 use mir.Syntax.{w16}
 use mir.ValLaws.{toZ-ofZ}
-use Rattle.octet_fields.specs.Signed.{signed}
+use Rattle.twos_complement.specs.Signed.{signed}
 use Rattle.octet_fields.proofs.Spelled.{field-at}
 use Rattle.ucp_messages.specs.GeometricAltitude.{geometricLayout, geometricIn}
 use borrow.Author.Needs.{needs}

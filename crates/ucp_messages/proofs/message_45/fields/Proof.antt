@@ -7,7 +7,7 @@ use mir.Syntax.{w32}
 use mir.ValLaws.{toZ-ofZ}
 use Rattle.octet_fields.specs.Digits.{isSet}
 use Rattle.octet_fields.specs.Layout.{fields}
-use Rattle.octet_fields.specs.Signed.{signed}
+use Rattle.twos_complement.specs.Signed.{signed}
 use Rattle.octet_fields.proofs.Spelled.{elements, field-at, text-at}
 use Rattle.ucp_messages.specs.Control.{controlLayout, controlIn}
 use borrow.Author.Needs.{needs}

@@ -1,0 +1,58 @@
+-- `frame_room::refusal` meets its contract, by its four answers. Assumes nothing.
+use mathlib.Core.Path.{sym, ap}
+use mathlib.Core.Logic.{inl, inr}
+use native.Mathlib.Omega.{arith}
+use borrow.Author.Needs.{needs}
+use denote.Ref.{now}
+use Rattle.frame_format.proofs.Frame.{frame-length-most}
+use Rattle.frame_room.specs.Answers.{refusalIn}
+use Rattle.frame_room.proofs.Due.{refused-7, refused-8, due-accepted}
+use Rattle.frame_room.proofs.refusal.Statement.{statement}
+use Rattle.frame_room.proofs.refusal.Tie as tie
+
+returns : tie.Need-returns
+returns c = let a = c .before .before .before .args in sym (ap refusalIn (refused-7 (now (a .body)) (now (a .output)) .1 (inl (c .if1 .taken))))
+
+returns-2 : tie.Need-returns-2
+returns-2 c =
+    let a = c .before .before .before .before .args in
+    sym (ap refusalIn (refused-7 (now (a .body)) (now (a .output)) .1 (inr (c .if2 .taken))))
+
+mul-most : tie.Need-mul-most
+mul-most c = search needs
+
+add-most : tie.Need-add-most
+add-most c = search needs
+
+frame-length-requires : tie.Need-frame-length-requires
+frame-length-requires c κs = search needs
+
+returns-3 : tie.Need-returns-3
+returns-3 c =
+    let a = c .before .before .before .before .before .before .before .args in
+    sym (ap refusalIn (refused-8 (now (a .body)) (now (a .output)) .1 (omega arith, omega arith, omega arith)))
+
+-- measured, and there is room
+returns-4 : tie.Need-returns-4
+returns-4 c =
+    let a = c .before .before .before .before .before .before .before .args in
+    sym (ap refusalIn (due-accepted (now (a .body)) (now (a .output)) (omega arith) (omega arith) (omega arith)))
+
+-- there is room for the most
+returns-5 : tie.Need-returns-5
+returns-5 c =
+    let a = c .before .before .before .before .before .args in
+    sym (ap refusalIn (due-accepted (now (a .body)) (now (a .output)) (omega arith) (omega arith) (omega (arith, frame-length-most (now (a .body))))))
+
+pub refusal-spec : {M : Type 1} → statement M
+refusal-spec =
+    tie.close
+    (tie.spec
+    returns
+    returns-2
+    mul-most
+    add-most
+    frame-length-requires
+    returns-3
+    returns-4
+    returns-5)

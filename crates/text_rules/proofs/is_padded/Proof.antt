@@ -1,0 +1,71 @@
+-- `text_rules::is_padded` meets its contract: from the end to the front, the rule holds of what was passed. Assumes nothing.
+use mathlib.Core.Path.{_≡_, sym, _∙_, ap}
+use Prim.Native.Nat.{ℕ, _≤_}
+use native.Mathlib.Omega.{arith}
+use borrow.Author.Needs.{needs}
+use denote.Ref.{now}
+use lib.ListN.{length, drop}
+use lib.Seq.{drop-length}
+use Rattle.text_rules.specs.Text.{isPadded, allSpaces}
+use Rattle.text_rules.proofs.Last.{padded-before, spaces-before}
+use Rattle.text_rules.proofs.is_padded.Statement.{statement}
+use Rattle.text_rules.proofs.is_padded.Tie as tie
+
+abbrev Inv-loop : tie.InvT-loop
+Inv-loop text padded₀ spaces₀ i₀ padded spaces i = (i ≤ length text) × (padded ≡ isPadded (drop i text)) × (spaces ≡ allSpaces (drop i text))
+
+abbrev μ-loop : tie.MeasureT-loop
+μ-loop text padded₀ spaces₀ i₀ padded spaces i = i
+
+loop-holds : tie.Need-loop-holds Inv-loop μ-loop
+unfolding isPadded allSpaces
+loop-holds c =
+    let e = sym (drop-length (now (c .before .args .text))) in
+    (omega arith, ap isPadded e, ap allSpaces e)
+
+sub-i : tie.Need-sub-i Inv-loop μ-loop
+sub-i c = search needs
+
+shared-slice-read-space : tie.Need-shared-slice-read-space Inv-loop μ-loop
+shared-slice-read-space c = search needs
+
+shared-slice-read-is-letter-or-digit :
+    tie.Need-shared-slice-read-is-letter-or-digit Inv-loop μ-loop
+shared-slice-read-is-letter-or-digit c = search needs
+
+is-letter-or-digit-requires : tie.Need-is-letter-or-digit-requires Inv-loop μ-loop
+is-letter-or-digit-requires c κs = search needs
+
+loop-less : tie.Need-loop-less Inv-loop μ-loop
+loop-less c = search needs
+
+loop-again : tie.Need-loop-again Inv-loop μ-loop
+loop-again c =
+    let l = c .before .before .before .before .loop in
+    let text = now (c .before .before .before .before .before .before .args .text) in
+    let some = c .before .before .before .loop-test .taken in (
+      omega arith,
+      padded-before text (l .i) some (l .inv .0) (c .is-letter-or-digit .ensures) (l .inv .1) (l .inv .2),
+      spaces-before text (l .i) some (l .inv .0) (l .inv .2),
+    )
+
+returns : tie.Need-returns Inv-loop μ-loop
+returns c =
+    let l = c .before .loop in
+    let e : l .i ≡ 0 = omega arith in
+    l .inv .1 ∙ ap (λ (n : ℕ). isPadded (drop n (now (c .before .before .before .args .text)))) e
+
+pub is-padded-spec : {M : Type 1} → statement M
+is-padded-spec =
+    tie.close
+    (tie.spec
+    Inv-loop
+    μ-loop
+    loop-holds
+    sub-i
+    shared-slice-read-space
+    shared-slice-read-is-letter-or-digit
+    is-letter-or-digit-requires
+    loop-less
+    loop-again
+    returns)

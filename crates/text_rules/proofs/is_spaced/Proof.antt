@@ -1,0 +1,65 @@
+-- `text_rules::is_spaced` meets its contract: from the end to the front, the rule holds of what was passed. Assumes nothing.
+use mathlib.Core.Path.{_≡_, sym, _∙_, ap}
+use Prim.Native.Nat.{ℕ, _≤_}
+use native.Mathlib.Omega.{arith}
+use borrow.Author.Needs.{needs}
+use denote.Ref.{now}
+use lib.ListN.{length, drop}
+use lib.Seq.{drop-length}
+use Rattle.text_rules.specs.Text.{isSpaced}
+use Rattle.text_rules.proofs.Last.{spaced-before}
+use Rattle.text_rules.proofs.is_spaced.Statement.{statement}
+use Rattle.text_rules.proofs.is_spaced.Tie as tie
+
+abbrev Inv-loop : tie.InvT-loop
+Inv-loop text spaced₀ i₀ spaced i = (i ≤ length text) × (spaced ≡ isSpaced (drop i text))
+
+abbrev μ-loop : tie.MeasureT-loop
+μ-loop text spaced₀ i₀ spaced i = i
+
+loop-holds : tie.Need-loop-holds Inv-loop μ-loop
+unfolding isSpaced
+loop-holds c = (omega arith, ap isSpaced (sym (drop-length (now (c .before .args .text)))))
+
+sub-i : tie.Need-sub-i Inv-loop μ-loop
+sub-i c = search needs
+
+shared-slice-read-is-letter-or-digit :
+    tie.Need-shared-slice-read-is-letter-or-digit Inv-loop μ-loop
+shared-slice-read-is-letter-or-digit c = search needs
+
+is-letter-or-digit-requires : tie.Need-is-letter-or-digit-requires Inv-loop μ-loop
+is-letter-or-digit-requires c κs = search needs
+
+shared-slice-read-spaced : tie.Need-shared-slice-read-spaced Inv-loop μ-loop
+shared-slice-read-spaced c = search needs
+
+loop-less : tie.Need-loop-less Inv-loop μ-loop
+loop-less c = search needs
+
+loop-again : tie.Need-loop-again Inv-loop μ-loop
+loop-again c =
+    let l = c .before .before .before .before .loop in
+    let text = now (c .before .before .before .before .before .before .args .text) in
+    (omega arith, spaced-before text (l .i) (c .before .before .before .loop-test .taken) (l .inv .0) (c .before .is-letter-or-digit .ensures) (l .inv .1))
+
+returns : tie.Need-returns Inv-loop μ-loop
+returns c =
+    let l = c .before .loop in
+    let e : l .i ≡ 0 = omega arith in
+    l .inv .1 ∙ ap (λ (n : ℕ). isSpaced (drop n (now (c .before .before .before .args .text)))) e
+
+pub is-spaced-spec : {M : Type 1} → statement M
+is-spaced-spec =
+    tie.close
+    (tie.spec
+    Inv-loop
+    μ-loop
+    loop-holds
+    sub-i
+    shared-slice-read-is-letter-or-digit
+    is-letter-or-digit-requires
+    shared-slice-read-spaced
+    loop-less
+    loop-again
+    returns)

@@ -1,0 +1,21 @@
+-- `twos_complement::signed_16` meets its contract. Assumes nothing.
+use native.Mathlib.Omega.{arith}
+use borrow.Author.Needs.{needs}
+use Rattle.twos_complement.proofs.Negative.{narrow-fits, narrowed-back}
+use Rattle.twos_complement.proofs.signed_16.Statement.{statement}
+use Rattle.twos_complement.proofs.signed_16.Tie as tie
+
+to-signed-requires : tie.Need-to-signed-requires
+to-signed-requires c κs = search needs
+
+narrowed-requires : tie.Need-narrowed-requires
+narrowed-requires c κs =
+    narrow-fits 32768 (c .before .args .bits) (omega arith) (omega arith) (c .to-signed .result) (c .to-signed .ensures)
+
+returns : tie.Need-returns
+returns c =
+    narrowed-back 32768 (c .before .before .args .bits) (omega arith) (omega arith) (c .before .to-signed .result)
+    (c .narrowed .result) (c .before .to-signed .ensures) (c .narrowed .ensures)
+
+pub signed-16-spec : {M : Type 1} → statement M
+signed-16-spec = tie.close (tie.spec to-signed-requires narrowed-requires returns)

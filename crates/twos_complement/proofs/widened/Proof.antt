@@ -1,0 +1,16 @@
+-- `twos_complement::widened` meets its contract. Assumes nothing.
+use mir.Syntax.{w16, w32}
+use mir.ValLaws.{toZ-ofZ}
+use Rattle.twos_complement.proofs.Negative.{wider}
+use Rattle.twos_complement.proofs.widened.Statement.{statement}
+use Rattle.twos_complement.proofs.widened.Tie as tie
+
+cast-result : tie.Need-cast-result
+cast-result c = rw (toZ-ofZ w16 (c .args .number) (c .fits .number)) (wider (c .args .number) (c .fits .number))
+
+returns : tie.Need-returns
+returns c =
+    rw (toZ-ofZ w16 (c .args .number) (c .fits .number)) (toZ-ofZ w32 (c .args .number) (wider (c .args .number) (c .fits .number)))
+
+pub widened-spec : {M : Type 1} → statement M
+widened-spec = tie.close (tie.spec cast-result returns)
