@@ -12,6 +12,10 @@ text = octet ∷ octet ∷ octet ∷ octet ∷ octet ∷ octet ∷ octet ∷ oct
 abbrev pub textOctets : Text → List ℕ
 textOctets t = t .c0 ∷ t .c1 ∷ t .c2 ∷ t .c3 ∷ t .c4 ∷ t .c5 ∷ t .c6 ∷ t .c7 ∷ []
 
+-- eight zeros, where there is no text
+abbrev pub noText : Text
+noText = record { c0 = 0; c1 = 0; c2 = 0; c3 = 0; c4 = 0; c5 = 0; c6 = 0; c7 = 0 }
+
 -- the text from a place of a list on
 abbrev pub textAt : List ℕ → ℕ → Text
 textAt xs at = record {

@@ -11,7 +11,7 @@ ghost use mir.Val.{SFits};
 ghost use lib.ListN.{length, getD, drop};
 ghost use Rattle.octet_fields.specs.Digits.{bitOf};
 ghost use Rattle.octet_fields.specs.Numbers.{big16, big24, big32, little16, little24, little32};
-ghost use Rattle.octet_fields.specs.Texts.{textAt};
+ghost use Rattle.octet_fields.specs.Texts.{textAt, textOctets, noText};
 ghost use Rattle.octet_fields.specs.Signed.{signed, complement, holds};
 
 // A text of eight octets. (An enum can't hold an array, and messages are held in one.)
@@ -60,6 +60,38 @@ pub fn text_at(octets: &[u8], at: u8) -> Text
         c5: octet_at(octets, i + 5),
         c6: octet_at(octets, i + 6),
         c7: octet_at(octets, i + 7),
+    }
+}
+
+// A text as the array of its octets.
+pub fn text_octets(text: Text) -> [u8; 8]
+    ensures { λ r. ⌜ r ≡ textOctets text ⌝ }
+{
+    [
+        text.c0,
+        text.c1,
+        text.c2,
+        text.c3,
+        text.c4,
+        text.c5,
+        text.c6,
+        text.c7,
+    ]
+}
+
+// Eight zeros, for where there is no text.
+pub fn no_text() -> Text
+    ensures { λ r. ⌜ r ≡ noText ⌝ }
+{
+    Text {
+        c0: 0,
+        c1: 0,
+        c2: 0,
+        c3: 0,
+        c4: 0,
+        c5: 0,
+        c6: 0,
+        c7: 0,
     }
 }
 
