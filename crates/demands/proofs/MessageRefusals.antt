@@ -13,8 +13,9 @@ use Rattle.ucp_messages.specs.declared.Kind.{Kind}
 use Rattle.ucp_messages.specs.declared.Kind.the-variants.{Heartbeat, Uplink, Ownship, GeometricAltitude, Traffic, Request, Control, Initialization, Unknown}
 use Rattle.ucp_messages.specs.declared.Message.{Message}
 use Rattle.ucp_messages.specs.Reads as Reads
-use Rattle.ucp_messages.specs.Reads.{given, refusalBy, refusalIn, answerAs}
-use Rattle.ucp_messages.specs.Writes.{answerDue}
+use Rattle.message_answers.specs.Refusals.{refusalBy}
+use Rattle.ucp_messages.specs.Reads.{given, refusalIn, answerAs}
+use Rattle.message_answers.specs.Writes.{answerDue}
 use Rattle.mavlink_frame.specs.declared.Kind as kind-as
 use Rattle.mavlink_frame.specs.declared.Header.{Header}
 use Rattle.mavlink_frame.specs.declared.Lookup.{Lookup}

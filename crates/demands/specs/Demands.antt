@@ -31,7 +31,7 @@ use Rattle.ucp_messages.specs.declared.Message as ucp
 use Rattle.ucp_messages.specs.declared.Read as ucp-read
 use Rattle.ucp_messages.specs.Bodies.{messageFits, messageBody}
 use Rattle.ucp_messages.specs.Reads as Reads
-use Rattle.ucp_messages.specs.Writes as Message
+use Rattle.message_answers.specs.Writes as Message
 use Rattle.writer_history.specs.Calls.{WriterLists}
 use Rattle.receiver_history.specs.Line.{Observed, callOf, upTo, Line}
 use Rattle.receiver_history.specs.Slice.{LineOfSlices, SliceIsCall}

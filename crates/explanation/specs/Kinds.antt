@@ -4,12 +4,12 @@ use Prim.Native.Nat.{ℕ, _+_, _*_, _/_}
 use lib.ListN.{drop}
 use Rattle.message_meanings.specs.Meanings.{geometricMeans}
 use Rattle.listing.specs.Listing.{hexOctets}
-use Rattle.ucp_messages.specs.declared.Heartbeat.{Heartbeat}
-use Rattle.ucp_messages.specs.declared.Report.{Report}
-use Rattle.ucp_messages.specs.declared.GeometricAltitude.{GeometricAltitude}
-use Rattle.ucp_messages.specs.declared.Request.{Request}
-use Rattle.ucp_messages.specs.declared.Control.{Control}
-use Rattle.ucp_messages.specs.declared.Initialization.{Initialization}
+use Rattle.gdl90_messages.specs.declared.Heartbeat.{Heartbeat}
+use Rattle.gdl90_messages.specs.declared.Report.{Report}
+use Rattle.gdl90_messages.specs.declared.GeometricAltitude.{GeometricAltitude}
+use Rattle.control_messages.specs.declared.Request.{Request}
+use Rattle.control_messages.specs.declared.Control.{Control}
+use Rattle.control_messages.specs.declared.Initialization.{Initialization}
 use Rattle.ucp_messages.specs.declared.Message.{Message}
 use Rattle.ucp_messages.specs.declared.Message.the-variants.{Heartbeat as HeartbeatMessage, Uplink as UplinkMessage, Ownship as OwnshipMessage, GeometricAltitude as GeometricMessage, Traffic as TrafficMessage, Request as RequestMessage, Control as ControlMessage, Initialization as InitializationMessage}
 use Rattle.explanation.specs.Values.{codes, number, amount, measure, altitude, rate, angle, track, millimetres, squawk, hexadecimal, quoted, truth, Part, _is_, fields}

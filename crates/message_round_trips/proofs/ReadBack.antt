@@ -11,23 +11,24 @@ use Rattle.twos_complement.specs.Signed.{holds}
 use Rattle.octet_fields.proofs.RoundTrips.{fields-octets}
 use Rattle.twos_complement.proofs.Signed.{signed-complement}
 use Rattle.ucp_messages.specs.declared.Message.the-variants.{Heartbeat, Uplink, Ownship, GeometricAltitude, Traffic, Request, Control, Initialization}
-use Rattle.ucp_messages.specs.declared.Heartbeat as heartbeat
-use Rattle.ucp_messages.specs.declared.Report as report
-use Rattle.ucp_messages.specs.declared.GeometricAltitude as geometric
-use Rattle.ucp_messages.specs.declared.Request as request
-use Rattle.ucp_messages.specs.declared.Control as control
-use Rattle.ucp_messages.specs.declared.Initialization as initialization
-use Rattle.ucp_messages.specs.Heartbeat.{heartbeatLayout, heartbeatOf, heartbeatFields, heartbeatIn, heartbeatBody}
-use Rattle.ucp_messages.specs.Uplink.{uplinkFits}
-use Rattle.ucp_messages.specs.Report.{reportLayout, reportOf, reportFields, reportIn, reportBody, reportFits}
-use Rattle.ucp_messages.specs.GeometricAltitude.{geometricLayout, geometricOf, geometricFields, geometricIn, geometricBody}
-use Rattle.ucp_messages.specs.Request.{requestLayout, requestOf, requestFields, requestIn, requestBody}
-use Rattle.ucp_messages.specs.Control.{controlLayout, controlOf, controlFields, controlIn, controlBody, controlFits}
-use Rattle.ucp_messages.specs.Initialization.{initializationLayout, initializationOf, initializationFields, initializationIn, initializationBody, initializationFits}
+use Rattle.gdl90_messages.specs.declared.Heartbeat as heartbeat
+use Rattle.gdl90_messages.specs.declared.Report as report
+use Rattle.gdl90_messages.specs.declared.GeometricAltitude as geometric
+use Rattle.control_messages.specs.declared.Request as request
+use Rattle.control_messages.specs.declared.Control as control
+use Rattle.control_messages.specs.declared.Initialization as initialization
+use Rattle.gdl90_messages.specs.Heartbeat.{heartbeatLayout, heartbeatOf, heartbeatFields, heartbeatIn, heartbeatBody}
+use Rattle.gdl90_messages.specs.Uplink.{uplinkFits}
+use Rattle.gdl90_messages.specs.Report.{reportLayout, reportOf, reportFields, reportIn, reportBody, reportFits}
+use Rattle.gdl90_messages.specs.GeometricAltitude.{geometricLayout, geometricOf, geometricFields, geometricIn, geometricBody}
+use Rattle.control_messages.specs.Request.{requestLayout, requestOf, requestFields, requestIn, requestBody}
+use Rattle.control_messages.specs.Control.{controlLayout, controlOf, controlFields, controlIn, controlBody, controlFits}
+use Rattle.control_messages.specs.Initialization.{initializationLayout, initializationOf, initializationFields, initializationIn, initializationBody, initializationFits}
 use Rattle.ucp_messages.specs.Kinds.{kindOf}
-use Rattle.ucp_messages.specs.Reads.{means, refusalBy, refusalIn, answerAs}
+use Rattle.message_answers.specs.Refusals.{refusalBy}
+use Rattle.ucp_messages.specs.Reads.{means, refusalIn, answerAs}
 use Rattle.ucp_messages.specs.Bodies.{messageFits, messageBody}
-use Rattle.ucp_messages.proofs.Fits.{both}
+use Rattle.message_answers.proofs.Both.{both}
 use Rattle.message_round_trips.specs.Typed.{Typed, TypedReport, U16}
 use Rattle.message_round_trips.specs.RoundTrips.{WrittenReadsBack, UplinkReadsBack}
 use Rattle.message_round_trips.proofs.Within.{bit-back, holds-all, report-within, geometric-within, control-within, initialization-within}

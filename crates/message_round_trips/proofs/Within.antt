@@ -10,15 +10,16 @@ use Rattle.octet_fields.specs.Digits.{Within, bitOf, isSet}
 use Rattle.octet_fields.specs.Layout.{layoutWidths}
 use Rattle.twos_complement.specs.Signed.{holds}
 use Rattle.twos_complement.proofs.Signed.{complement-lt}
-use Rattle.ucp_messages.specs.declared.Report.{Report}
-use Rattle.ucp_messages.specs.declared.GeometricAltitude.{GeometricAltitude}
-use Rattle.ucp_messages.specs.declared.Control.{Control}
-use Rattle.ucp_messages.specs.declared.Initialization.{Initialization}
-use Rattle.ucp_messages.specs.Report.{reportLayout, reportFields, reportFits}
-use Rattle.ucp_messages.specs.GeometricAltitude.{geometricLayout, geometricFields}
-use Rattle.ucp_messages.specs.Control.{controlLayout, controlFields, controlFits}
-use Rattle.ucp_messages.specs.Initialization.{initializationLayout, initializationFields, initializationFits}
-use Rattle.ucp_messages.proofs.Fits.{report-bounds, control-bounds, initialization-bounds}
+use Rattle.gdl90_messages.specs.declared.Report.{Report}
+use Rattle.gdl90_messages.specs.declared.GeometricAltitude.{GeometricAltitude}
+use Rattle.control_messages.specs.declared.Control.{Control}
+use Rattle.control_messages.specs.declared.Initialization.{Initialization}
+use Rattle.gdl90_messages.specs.Report.{reportLayout, reportFields, reportFits}
+use Rattle.gdl90_messages.specs.GeometricAltitude.{geometricLayout, geometricFields}
+use Rattle.control_messages.specs.Control.{controlLayout, controlFields, controlFits}
+use Rattle.control_messages.specs.Initialization.{initializationLayout, initializationFields, initializationFits}
+use Rattle.gdl90_messages.proofs.Fits.{report-bounds}
+use Rattle.control_messages.proofs.Fits.{control-bounds, initialization-bounds}
 use Rattle.message_round_trips.specs.Typed.{TypedReport, TypedText, U8, U16}
 
 pub bit-lt : (b : Bool) → bitOf b < 2

@@ -16,17 +16,18 @@ use Rattle.octet_fields.proofs.Spelled.{elements, field-at, bounds, same-octets
 use Rattle.ucp_messages.specs.declared.Kind.{Kind}
 use Rattle.ucp_messages.specs.declared.Kind.the-variants.{Heartbeat, Uplink, Ownship, GeometricAltitude, Traffic, Request, Control, Initialization, Unknown}
 use Rattle.ucp_messages.specs.declared.Message.{Message}
-use Rattle.ucp_messages.specs.Heartbeat.{heartbeatLayout, heartbeatIn, heartbeatBody}
-use Rattle.ucp_messages.specs.Uplink.{uplinkFits}
-use Rattle.ucp_messages.specs.Report.{reportLayout, reportIn, reportBody, reportFits}
-use Rattle.ucp_messages.specs.GeometricAltitude.{geometricLayout, geometricIn, geometricBody}
-use Rattle.ucp_messages.specs.Request.{requestLayout, requestIn, requestBody}
-use Rattle.ucp_messages.specs.Control.{controlLayout, controlIn, controlBody}
-use Rattle.ucp_messages.specs.Initialization.{initializationLayout, initializationIn, initializationBody}
+use Rattle.gdl90_messages.specs.Heartbeat.{heartbeatLayout, heartbeatIn, heartbeatBody}
+use Rattle.gdl90_messages.specs.Uplink.{uplinkFits}
+use Rattle.gdl90_messages.specs.Report.{reportLayout, reportIn, reportBody, reportFits}
+use Rattle.gdl90_messages.specs.GeometricAltitude.{geometricLayout, geometricIn, geometricBody}
+use Rattle.control_messages.specs.Request.{requestLayout, requestIn, requestBody}
+use Rattle.control_messages.specs.Control.{controlLayout, controlIn, controlBody}
+use Rattle.control_messages.specs.Initialization.{initializationLayout, initializationIn, initializationBody}
 use Rattle.ucp_messages.specs.Kinds.{kindOf, kindIn}
-use Rattle.ucp_messages.specs.Reads.{means, refused, given, refusalBy, refusalIn, answerAs}
+use Rattle.message_answers.specs.Refusals.{refusalBy}
+use Rattle.ucp_messages.specs.Reads.{means, refused, given, refusalIn, answerAs}
 use Rattle.ucp_messages.specs.Bodies.{messageFits, messageBody}
-use Rattle.ucp_messages.proofs.Fits.{both}
+use Rattle.message_answers.proofs.Both.{both}
 use Rattle.message_round_trips.specs.RoundTrips.{AcceptedWritesBack}
 
 -- ---- the ID of a kind

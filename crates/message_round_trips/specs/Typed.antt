@@ -4,7 +4,7 @@ use lib.Signed.{mag}
 use Rattle.octet_fields.specs.declared.Text.{Text}
 use Rattle.ucp_messages.specs.declared.Message.{Message}
 use Rattle.ucp_messages.specs.declared.Message.the-variants.{Heartbeat, Uplink, Ownship, GeometricAltitude, Traffic, Request, Control, Initialization}
-use Rattle.ucp_messages.specs.declared.Report as report
+use Rattle.gdl90_messages.specs.declared.Report as report
 
 -- the numbers of a u8 and of a u16
 abbrev pub U8 : ℕ → Type 0

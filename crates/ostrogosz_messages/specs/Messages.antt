@@ -1,13 +1,15 @@
 -- The message reader's answer in one struct, for C: a refusal's number, or the ID and the fields of its kind. Assumes nothing.
 use Prim.Native.Nat.{ℕ}
 use lib.IntN.{pos}
-use Rattle.octet_fields.specs.declared.Text.{Text}
-use Rattle.ucp_messages.specs.declared.Heartbeat.{Heartbeat}
-use Rattle.ucp_messages.specs.declared.Report.{Report}
-use Rattle.ucp_messages.specs.declared.GeometricAltitude.{GeometricAltitude}
-use Rattle.ucp_messages.specs.declared.Request.{Request}
-use Rattle.ucp_messages.specs.declared.Control.{Control}
-use Rattle.ucp_messages.specs.declared.Initialization.{Initialization}
+use Rattle.octet_fields.specs.Texts.{noText}
+use Rattle.gdl90_messages.specs.declared.Heartbeat.{Heartbeat}
+use Rattle.gdl90_messages.specs.declared.Report.{Report}
+use Rattle.gdl90_messages.specs.declared.ReportRead.{ReportRead}
+use Rattle.gdl90_messages.specs.declared.ReportRead.the-variants as report
+use Rattle.gdl90_messages.specs.declared.GeometricAltitude.{GeometricAltitude}
+use Rattle.control_messages.specs.declared.Request.{Request}
+use Rattle.control_messages.specs.declared.Control.{Control}
+use Rattle.control_messages.specs.declared.Initialization.{Initialization}
 use Rattle.ucp_messages.specs.declared.Message.{Message}
 use Rattle.ucp_messages.specs.declared.Message.the-variants as message
 use Rattle.ucp_messages.specs.Reads.{Answer, refused, means}
@@ -15,9 +17,6 @@ use mathlib.Core.Bool.{false}
 use Rattle.ostrogosz_messages.specs.declared.OstrogoszMessage.{OstrogoszMessage}
 
 -- ---- what the fields of the other kinds hold: nothing but zeros
-abbrev pub noText : Text
-noText = record { c0 = 0; c1 = 0; c2 = 0; c3 = 0; c4 = 0; c5 = 0; c6 = 0; c7 = 0 }
-
 abbrev pub noHeartbeat : Heartbeat
 noHeartbeat = record { «status_1» = 0; «status_2» = 0; «time_stamp» = 0; counts = 0 }
 
@@ -106,3 +105,8 @@ meant (message.Initialization i) = parts 0 117 noHeartbeat noReport noGeometric 
 abbrev pub messageNumbers : Answer → OstrogoszMessage
 messageNumbers (refused number) = blank number 0
 messageNumbers (means m) = meant m
+
+-- the same of the reader of 10 and 20, by the ID
+abbrev pub reportNumbers : ℕ → ReportRead → OstrogoszMessage
+reportNumbers id (report.Refused number) = blank number 0
+reportNumbers id (report.Report r) = parts 0 id noHeartbeat r noGeometric noRequest noControl noInitialization

@@ -4,7 +4,7 @@ use Prim.Native.Nat.{ℕ}
 use Rattle.frame_format.specs.Frame.{frame}
 use Rattle.ucp_messages.specs.declared.Message.{Message}
 use Rattle.ucp_messages.specs.Bodies.{messageFits, messageBody}
-use Rattle.ucp_messages.specs.Writes.{answerDue}
+use Rattle.message_answers.specs.Writes.{answerDue}
 use Rattle.ucp_send.specs.Sends.{answerDue as sendDue}
 use Rattle.writer_answers.specs.declared.OstrogoszWritten.{OstrogoszWritten}
 use Rattle.writer_answers.specs.Numbers.{WritingNumbers}

@@ -1,20 +1,26 @@
 // The messages of the UCP line for C and Rust; include/ostrogosz.h says the same in C.
-use octet_fields::Text;
-use ucp_messages::Control;
-use ucp_messages::GeometricAltitude;
-use ucp_messages::Heartbeat;
-use ucp_messages::Initialization;
+use control_messages::Control;
+use control_messages::ControlRead;
+use control_messages::Initialization;
+use control_messages::InitializationRead;
+use control_messages::Request;
+use control_messages::RequestRead;
+use gdl90_messages::GeometricAltitude;
+use gdl90_messages::GeometricAltitudeRead;
+use gdl90_messages::Heartbeat;
+use gdl90_messages::HeartbeatRead;
+use gdl90_messages::Report;
+use gdl90_messages::ReportRead;
+use gdl90_messages::UplinkRead;
 use ucp_messages::Kind;
 use ucp_messages::Message;
-use ucp_messages::Read;
-use ucp_messages::Report;
-use ucp_messages::Request;
 use writer_answers::OstrogoszWritten;
 ghost use mathlib.Core.Path.{_≡_};
 ghost use mathlib.Core.List.{[]};
-ghost use Rattle.ucp_messages.specs.Reads.{answerOf, answerAs, answerDue};
+ghost use Rattle.gdl90_messages.specs.Report.{reportRead};
+ghost use Rattle.ucp_messages.specs.Reads.{answerAs, answerDue};
 ghost use Rattle.ostrogosz_messages.specs.Writers.{WritesBody, SendsFrame};
-ghost use Rattle.ostrogosz_messages.specs.Messages.{noText, noHeartbeat, noReport, noGeometric, noRequest, noControl, noInitialization, blank, meant, messageNumbers};
+ghost use Rattle.ostrogosz_messages.specs.Messages.{noHeartbeat, noReport, noGeometric, noRequest, noControl, noInitialization, blank, messageNumbers, reportNumbers};
 
 // The message reader's answer. The fields of the kind that `id` names are filled, all others are 0.
 #[repr(C)]
@@ -33,21 +39,6 @@ pub struct OstrogoszMessage {
 }
 
 // ---- no fields
-
-fn no_text() -> Text
-    ensures { λ r. ⌜ r ≡ noText ⌝ }
-{
-    Text {
-        c0: 0,
-        c1: 0,
-        c2: 0,
-        c3: 0,
-        c4: 0,
-        c5: 0,
-        c6: 0,
-        c7: 0,
-    }
-}
 
 fn no_heartbeat() -> Heartbeat
     ensures { λ r. ⌜ r ≡ noHeartbeat ⌝ }
@@ -77,7 +68,7 @@ fn no_report() -> Report
         vertical_rate: 0,
         track: 0,
         emitter: 0,
-        callsign: no_text(),
+        callsign: octet_fields::no_text(),
         emergency: 0,
         spare: 0,
     }
@@ -112,7 +103,7 @@ fn no_control() -> Control
         altitude: 0,
         squawk: 0,
         emergency: 0,
-        identity: no_text(),
+        identity: octet_fields::no_text(),
     }
 }
 
@@ -123,7 +114,7 @@ fn no_initialization() -> Initialization
         version: 0,
         address: 0,
         emitter: 0,
-        callsign: no_text(),
+        callsign: octet_fields::no_text(),
         stall_speed: 0,
         size: 0,
         lateral: 0,
@@ -146,114 +137,93 @@ fn blank(refusal: u8, id: u8) -> OstrogoszMessage
     }
 }
 
-// ---- the fields of a kind
+// ---- the fields of a kind, or why there are none. Each calls its kind's reader: a message as an enum would be copied on the way.
 
-fn of_message(message: Message) -> OstrogoszMessage
-    ensures { λ r. ⌜ r ≡ meant message ⌝ }
+fn heartbeat(body: &[u8]) -> OstrogoszMessage
+    ensures { λ r. ⌜ r ≡ messageNumbers (answerAs Kind.Heartbeat (now (body .entry))) ⌝ }
 {
-    let mut m = blank(0, 0);
-    match message {
-        Message::Heartbeat(heartbeat) => {
+    match gdl90_messages::message_0::read(body) {
+        HeartbeatRead::Heartbeat(heartbeat) => {
+            let mut m = blank(0, 0);
             m.heartbeat = heartbeat;
             m
         }
-        Message::Uplink => {
-            m.id = 7;
-            m
-        }
-        Message::Ownship(report) => {
-            m.id = 10;
+        HeartbeatRead::Refused(number) => blank(number, 0),
+    }
+}
+
+fn uplink(body: &[u8]) -> OstrogoszMessage
+    ensures { λ r. ⌜ r ≡ messageNumbers (answerAs Kind.Uplink (now (body .entry))) ⌝ }
+{
+    match gdl90_messages::message_7::read(body) {
+        UplinkRead::Uplink => blank(0, 7),
+        UplinkRead::Refused(number) => blank(number, 0),
+    }
+}
+
+// 10 or 20.
+fn report(id: u8, body: &[u8]) -> OstrogoszMessage
+    ensures { λ r. ⌜ r ≡ reportNumbers id (reportRead (now (body .entry))) ⌝ }
+{
+    match gdl90_messages::message_10::read(body) {
+        ReportRead::Report(report) => {
+            let mut m = blank(0, id);
             m.report = report;
             m
         }
-        Message::GeometricAltitude(geometric_altitude) => {
-            m.id = 11;
+        ReportRead::Refused(number) => blank(number, 0),
+    }
+}
+
+fn geometric_altitude(body: &[u8]) -> OstrogoszMessage
+    ensures { λ r. ⌜ r ≡ messageNumbers (answerAs Kind.GeometricAltitude (now (body .entry))) ⌝ }
+{
+    match gdl90_messages::message_11::read(body) {
+        GeometricAltitudeRead::GeometricAltitude(geometric_altitude) => {
+            let mut m = blank(0, 11);
             m.geometric_altitude = geometric_altitude;
             m
         }
-        Message::Traffic(report) => {
-            m.id = 20;
-            m.report = report;
-            m
-        }
-        Message::Request(request) => {
-            m.id = 44;
+        GeometricAltitudeRead::Refused(number) => blank(number, 0),
+    }
+}
+
+fn request(body: &[u8]) -> OstrogoszMessage
+    ensures { λ r. ⌜ r ≡ messageNumbers (answerAs Kind.Request (now (body .entry))) ⌝ }
+{
+    match control_messages::message_44::read(body) {
+        RequestRead::Request(request) => {
+            let mut m = blank(0, 44);
             m.request = request;
             m
         }
-        Message::Control(control) => {
-            m.id = 45;
-            m.control = control;
-            m
-        }
-        Message::Initialization(initialization) => {
-            m.id = 117;
-            m.initialization = initialization;
-            m
-        }
-    }
-}
-
-// A reader's answer, of any kind.
-fn of_read(read: Read) -> OstrogoszMessage
-    ensures { λ r. ⌜ r ≡ messageNumbers (answerOf read) ⌝ }
-{
-    match read {
-        Read::Message(message) => of_message(message),
-        Read::Refused(number) => blank(number, 0),
-    }
-}
-
-// The two that come most often have the fields put in place with no copy of a message between: 10 or 20, and 45.
-fn report(id: u8, body: &[u8]) -> OstrogoszMessage
-    ensures { λ r. ⌜ (id ≡ 10 → r ≡ messageNumbers (answerAs Kind.Ownship (now (body .entry)))) ⌝ }
-    ensures { λ r. ⌜ ((id ≡ 10 → ⊥) → r ≡ messageNumbers (answerAs Kind.Traffic (now (body .entry)))) ⌝ }
-{
-    match ucp_messages::message_10::read(id, body) {
-        Read::Message(message) => of_report(message),
-        Read::Refused(number) => blank(number, 0),
-    }
-}
-
-fn of_report(message: Message) -> OstrogoszMessage
-    ensures { λ r. ⌜ r ≡ meant message ⌝ }
-{
-    let mut m = blank(0, 0);
-    match message {
-        Message::Ownship(report) => {
-            m.id = 10;
-            m.report = report;
-            m
-        }
-        Message::Traffic(report) => {
-            m.id = 20;
-            m.report = report;
-            m
-        }
-        _ => of_message(message),
+        RequestRead::Refused(number) => blank(number, 0),
     }
 }
 
 fn control(body: &[u8]) -> OstrogoszMessage
     ensures { λ r. ⌜ r ≡ messageNumbers (answerAs Kind.Control (now (body .entry))) ⌝ }
 {
-    match ucp_messages::message_45::read(body) {
-        Read::Message(message) => of_control(message),
-        Read::Refused(number) => blank(number, 0),
-    }
-}
-
-fn of_control(message: Message) -> OstrogoszMessage
-    ensures { λ r. ⌜ r ≡ meant message ⌝ }
-{
-    let mut m = blank(0, 0);
-    match message {
-        Message::Control(control) => {
-            m.id = 45;
+    match control_messages::message_45::read(body) {
+        ControlRead::Control(control) => {
+            let mut m = blank(0, 45);
             m.control = control;
             m
         }
-        _ => of_message(message),
+        ControlRead::Refused(number) => blank(number, 0),
+    }
+}
+
+fn initialization(body: &[u8]) -> OstrogoszMessage
+    ensures { λ r. ⌜ r ≡ messageNumbers (answerAs Kind.Initialization (now (body .entry))) ⌝ }
+{
+    match control_messages::message_117::read(body) {
+        InitializationRead::Initialization(initialization) => {
+            let mut m = blank(0, 117);
+            m.initialization = initialization;
+            m
+        }
+        InitializationRead::Refused(number) => blank(number, 0),
     }
 }
 
@@ -266,20 +236,19 @@ pub extern "C" fn ostrogosz_read_message(body: &[u8]) -> OstrogoszMessage
         return blank(10, 0);
     }
     match ucp_messages::kind_of(body[0]) {
-        Kind::Heartbeat => of_read(ucp_messages::message_0::read(body)),
-        Kind::Uplink => of_read(ucp_messages::message_7::read(body)),
+        Kind::Heartbeat => heartbeat(body),
+        Kind::Uplink => uplink(body),
         Kind::Ownship => report(10, body),
-        Kind::GeometricAltitude => of_read(ucp_messages::message_11::read(body)),
+        Kind::GeometricAltitude => geometric_altitude(body),
         Kind::Traffic => report(20, body),
-        Kind::Request => of_read(ucp_messages::message_44::read(body)),
+        Kind::Request => request(body),
         Kind::Control => control(body),
-        Kind::Initialization => of_read(ucp_messages::message_117::read(body)),
+        Kind::Initialization => initialization(body),
         Kind::Unknown => blank(10, 0),
     }
 }
 
-// ---- writing a body: 13 for a field outside its range or too wide for its bits, then 8 for room. Each calls its kind's writer:
-// a message as an enum would be copied on the way.
+// ---- writing a body: 13 for a field outside its range or too wide for its bits, then 8 for room. Each calls its kind's writer.
 
 #[no_mangle]
 pub extern "C" fn ostrogosz_write_heartbeat(
@@ -288,7 +257,7 @@ pub extern "C" fn ostrogosz_write_heartbeat(
 ) -> OstrogoszWritten
     ensures { λ r. ⌜ WritesBody (Message.Heartbeat heartbeat) [] (now (output .entry)) r (now (output .exit)) ⌝ }
 {
-    writer_answers::in_numbers(ucp_messages::message_0::write(heartbeat, output))
+    writer_answers::in_numbers(gdl90_messages::message_0::write(heartbeat, output))
 }
 
 // An uplink's payload has 435 octets, else 13.
@@ -296,14 +265,14 @@ pub extern "C" fn ostrogosz_write_heartbeat(
 pub extern "C" fn ostrogosz_write_uplink(payload: &[u8], output: &mut [u8]) -> OstrogoszWritten
     ensures { λ r. ⌜ WritesBody Message.Uplink (now (payload .entry)) (now (output .entry)) r (now (output .exit)) ⌝ }
 {
-    writer_answers::in_numbers(ucp_messages::message_7::write(payload, output))
+    writer_answers::in_numbers(gdl90_messages::message_7::write(payload, output))
 }
 
 #[no_mangle]
 pub extern "C" fn ostrogosz_write_ownship(report: Report, output: &mut [u8]) -> OstrogoszWritten
     ensures { λ r. ⌜ WritesBody (Message.Ownship report) [] (now (output .entry)) r (now (output .exit)) ⌝ }
 {
-    writer_answers::in_numbers(ucp_messages::message_10::write_ownship(report, output))
+    writer_answers::in_numbers(gdl90_messages::message_10::write_ownship(report, output))
 }
 
 #[no_mangle]
@@ -313,28 +282,28 @@ pub extern "C" fn ostrogosz_write_geometric_altitude(
 ) -> OstrogoszWritten
     ensures { λ r. ⌜ WritesBody (Message.GeometricAltitude altitude) [] (now (output .entry)) r (now (output .exit)) ⌝ }
 {
-    writer_answers::in_numbers(ucp_messages::message_11::write(altitude, output))
+    writer_answers::in_numbers(gdl90_messages::message_11::write(altitude, output))
 }
 
 #[no_mangle]
 pub extern "C" fn ostrogosz_write_traffic(report: Report, output: &mut [u8]) -> OstrogoszWritten
     ensures { λ r. ⌜ WritesBody (Message.Traffic report) [] (now (output .entry)) r (now (output .exit)) ⌝ }
 {
-    writer_answers::in_numbers(ucp_messages::message_10::write_traffic(report, output))
+    writer_answers::in_numbers(gdl90_messages::message_10::write_traffic(report, output))
 }
 
 #[no_mangle]
 pub extern "C" fn ostrogosz_write_request(request: Request, output: &mut [u8]) -> OstrogoszWritten
     ensures { λ r. ⌜ WritesBody (Message.Request request) [] (now (output .entry)) r (now (output .exit)) ⌝ }
 {
-    writer_answers::in_numbers(ucp_messages::message_44::write(request, output))
+    writer_answers::in_numbers(control_messages::message_44::write(request, output))
 }
 
 #[no_mangle]
 pub extern "C" fn ostrogosz_write_control(control: Control, output: &mut [u8]) -> OstrogoszWritten
     ensures { λ r. ⌜ WritesBody (Message.Control control) [] (now (output .entry)) r (now (output .exit)) ⌝ }
 {
-    writer_answers::in_numbers(ucp_messages::message_45::write(control, output))
+    writer_answers::in_numbers(control_messages::message_45::write(control, output))
 }
 
 #[no_mangle]
@@ -344,7 +313,7 @@ pub extern "C" fn ostrogosz_write_initialization(
 ) -> OstrogoszWritten
     ensures { λ r. ⌜ WritesBody (Message.Initialization initialization) [] (now (output .entry)) r (now (output .exit)) ⌝ }
 {
-    writer_answers::in_numbers(ucp_messages::message_117::write(initialization, output))
+    writer_answers::in_numbers(control_messages::message_117::write(initialization, output))
 }
 
 // ---- sending a frame: 13, then 7 and 8 as the frame writer gives them

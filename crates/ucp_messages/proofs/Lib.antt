@@ -1,4 +1,2 @@
-pub mod Behind
-pub mod Fits
-pub mod Answers
 pub mod Judged
+pub mod Retold

@@ -4,13 +4,13 @@ use mathlib.Core.List.{List}
 use Prim.Native.Nat.{ℕ}
 use Rattle.ucp_messages.specs.declared.Message.{Message}
 use Rattle.ucp_messages.specs.declared.Message.the-variants.{Heartbeat, Uplink, Ownship, GeometricAltitude, Traffic, Request, Control, Initialization}
-use Rattle.ucp_messages.specs.Heartbeat.{heartbeatBody}
-use Rattle.ucp_messages.specs.Uplink.{uplinkFits, uplinkBody}
-use Rattle.ucp_messages.specs.Report.{reportFits, reportBody}
-use Rattle.ucp_messages.specs.GeometricAltitude.{geometricBody}
-use Rattle.ucp_messages.specs.Request.{requestBody}
-use Rattle.ucp_messages.specs.Control.{controlFits, controlBody}
-use Rattle.ucp_messages.specs.Initialization.{initializationFits, initializationBody}
+use Rattle.gdl90_messages.specs.Heartbeat.{heartbeatBody}
+use Rattle.gdl90_messages.specs.Uplink.{uplinkFits, uplinkBody}
+use Rattle.gdl90_messages.specs.Report.{reportFits, reportBody}
+use Rattle.gdl90_messages.specs.GeometricAltitude.{geometricBody}
+use Rattle.control_messages.specs.Request.{requestBody}
+use Rattle.control_messages.specs.Control.{controlFits, controlBody}
+use Rattle.control_messages.specs.Initialization.{initializationFits, initializationBody}
 
 -- every field is in its range and has no more bits than the body has for it
 unfoldable pub messageFits : Message → List ℕ → Bool

@@ -1,11 +1,3 @@
-pub mod Heartbeat
-pub mod Uplink
-pub mod Report
-pub mod GeometricAltitude
-pub mod Request
-pub mod Control
-pub mod Initialization
-pub mod Writes
 pub mod Kinds
 pub mod Reads
 pub mod Bodies

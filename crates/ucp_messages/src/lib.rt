@@ -1,105 +1,26 @@
-// The messages of the UCP line: each kind's fields from a body, and a body from the fields.
-pub mod message_0;
-pub mod message_10;
-pub mod message_11;
-pub mod message_117;
-pub mod message_44;
-pub mod message_45;
-pub mod message_7;
-mod output;
-mod texts;
+// The messages of the UCP line: what a body means, and the body of a message. The kinds' own fields are read and written by
+// gdl90_messages and control_messages.
+mod kinds;
 
-use octet_fields::Text;
+use control_messages::Control;
+use control_messages::Initialization;
+use control_messages::Request;
+use control_messages::message_44;
+use control_messages::message_45;
+use control_messages::message_117;
+use gdl90_messages::GeometricAltitude;
+use gdl90_messages::Heartbeat;
+use gdl90_messages::Report;
+use gdl90_messages::message_0;
+use gdl90_messages::message_7;
+use gdl90_messages::message_10;
+use gdl90_messages::message_11;
 use writer_answers::Written;
 ghost use mathlib.Core.Path.{_≡_};
+ghost use Rattle.message_answers.specs.Writes.{Writes};
 ghost use Rattle.ucp_messages.specs.Kinds.{kindOf};
 ghost use Rattle.ucp_messages.specs.Reads.{Reads};
 ghost use Rattle.ucp_messages.specs.Bodies.{messageFits, messageBody};
-ghost use Rattle.ucp_messages.specs.Writes.{Writes};
-
-// Message 0, Heartbeat: all bits carried as they are.
-#[repr(C)]
-pub struct Heartbeat {
-    pub status_1: u8,
-    pub status_2: u8,
-    // Seconds since midnight, bits 0 to 15; status_2 has bit 16.
-    pub time_stamp: u16,
-    pub counts: u16,
-}
-
-// Messages 10 and 20, Ownship and Traffic report. Every number is raw; the crate message_meanings says what it means.
-#[repr(C)]
-pub struct Report {
-    // 4 bits each.
-    pub alert: u8,
-    pub address_type: u8,
-    // 24 bits each.
-    pub address: u32,
-    pub latitude: i32,
-    pub longitude: i32,
-    // 12 bits, and 4.
-    pub altitude: u16,
-    pub miscellaneous: u8,
-    // 4 bits each.
-    pub nic: u8,
-    pub nacp: u8,
-    // 12 bits each.
-    pub speed: u16,
-    pub vertical_rate: i16,
-    pub track: u8,
-    pub emitter: u8,
-    pub callsign: Text,
-    // 4 bits each.
-    pub emergency: u8,
-    pub spare: u8,
-}
-
-// Message 11, Ownship geometric altitude: in steps of 5 feet, and its metrics.
-#[repr(C)]
-pub struct GeometricAltitude {
-    pub altitude: i16,
-    pub metrics: u16,
-}
-
-// Message 44, Message Request.
-#[repr(C)]
-pub struct Request {
-    pub requested_id: u8,
-}
-
-// Message 45, Control.
-#[repr(C)]
-pub struct Control {
-    // 1090ES transmission enabled; replies enabled for modes S, C and A; the ident button.
-    pub es_enabled: bool,
-    pub mode_s: bool,
-    pub mode_c: bool,
-    pub mode_a: bool,
-    pub ident: bool,
-    // 2 bits.
-    pub air_ground: u8,
-    pub baro_checked: bool,
-    // Pressure altitude in millimetres.
-    pub altitude: i32,
-    pub squawk: u16,
-    pub emergency: u8,
-    pub identity: Text,
-}
-
-// Message 117, Initialization.
-#[repr(C)]
-pub struct Initialization {
-    pub version: u8,
-    // 24 bits.
-    pub address: u32,
-    pub emitter: u8,
-    pub callsign: Text,
-    pub stall_speed: u8,
-    pub size: u8,
-    // The antenna's offsets: 3 bits, and 5.
-    pub lateral: u8,
-    pub longitudinal: u8,
-}
 
 // The kinds of message. An ID that is none of theirs is of an unknown kind.
 pub enum Kind {
@@ -160,14 +81,14 @@ pub fn read_message(body: &[u8]) -> Read
         return Read::Refused(10);
     }
     match kind_of(body[0]) {
-        Kind::Heartbeat => message_0::read(body),
-        Kind::Uplink => message_7::read(body),
-        Kind::Ownship => message_10::read(10, body),
-        Kind::GeometricAltitude => message_11::read(body),
-        Kind::Traffic => message_10::read(20, body),
-        Kind::Request => message_44::read(body),
-        Kind::Control => message_45::read(body),
-        Kind::Initialization => message_117::read(body),
+        Kind::Heartbeat => kinds::heartbeat(body),
+        Kind::Uplink => kinds::uplink(body),
+        Kind::Ownship => kinds::ownship(body),
+        Kind::GeometricAltitude => kinds::geometric_altitude(body),
+        Kind::Traffic => kinds::traffic(body),
+        Kind::Request => kinds::request(body),
+        Kind::Control => kinds::control(body),
+        Kind::Initialization => kinds::initialization(body),
         Kind::Unknown => Read::Refused(10),
     }
 }

@@ -11,16 +11,16 @@ use lib.Seq.{take-at}
 use Rattle.ucp_messages.specs.declared.Message.{Message}
 use Rattle.ucp_messages.specs.declared.Message.the-variants.{Heartbeat, Uplink, Ownship, GeometricAltitude, Traffic, Request, Control, Initialization}
 use Rattle.writer_answers.specs.declared.Written.the-variants.{Wrote, Refused}
-use Rattle.ucp_messages.specs.Heartbeat.{heartbeatBody}
-use Rattle.ucp_messages.specs.Uplink.{uplinkFits}
-use Rattle.ucp_messages.specs.Report.{reportBody}
-use Rattle.ucp_messages.specs.GeometricAltitude.{geometricBody}
-use Rattle.ucp_messages.specs.Request.{requestBody}
-use Rattle.ucp_messages.specs.Control.{controlBody}
-use Rattle.ucp_messages.specs.Initialization.{initializationBody}
+use Rattle.gdl90_messages.specs.Heartbeat.{heartbeatBody}
+use Rattle.gdl90_messages.specs.Uplink.{uplinkFits}
+use Rattle.gdl90_messages.specs.Report.{reportBody}
+use Rattle.gdl90_messages.specs.GeometricAltitude.{geometricBody}
+use Rattle.control_messages.specs.Request.{requestBody}
+use Rattle.control_messages.specs.Control.{controlBody}
+use Rattle.control_messages.specs.Initialization.{initializationBody}
 use Rattle.ucp_messages.specs.Bodies.{messageFits, messageBody}
 use Rattle.writer_answers.specs.Answers.{refused, wrote}
-use Rattle.ucp_messages.specs.Writes.{answerDue, Writes}
+use Rattle.message_answers.specs.Writes.{answerDue, Writes}
 
 -- no kind makes a body of more than 436 octets
 pub body-length : (m : Message) (payload : List ℕ) → messageFits m payload ≡ true → length (messageBody m payload) ≤ 436

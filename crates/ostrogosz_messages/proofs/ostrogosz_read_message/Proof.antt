@@ -1,10 +1,10 @@
 -- `ostrogosz_messages::ostrogosz_read_message` meets its contract, kind by kind. Assumes nothing.
-use mathlib.Core.Path.{refl, _∙_, ap}
+use mathlib.Core.Path.{_∙_}
 use native.Mathlib.Omega.{arith}
 use denote.Ref.{now}
 use Rattle.ucp_messages.specs.Reads.{answerAs}
 use Rattle.ucp_messages.proofs.Judged.{kind-so, kind-none}
-use Rattle.ostrogosz_messages.specs.Messages.{messageNumbers}
+use Rattle.ostrogosz_messages.proofs.Reports.{ownship-numbers, traffic-numbers}
 use borrow.Author.Needs.{needs}
 use Rattle.ostrogosz_messages.proofs.ostrogosz_read_message.Statement.{statement}
 use Rattle.ostrogosz_messages.proofs.ostrogosz_read_message.Tie as tie
@@ -25,20 +25,14 @@ kind-of-requires c κs = search needs
 enum-told : tie.Need-enum-told
 enum-told c = search needs
 
-read-requires : tie.Need-read-requires
-read-requires c κs = search needs
-
-of-read-requires : tie.Need-of-read-requires
-of-read-requires c κs = search needs
+heartbeat-requires : tie.Need-heartbeat-requires
+heartbeat-requires c κs = search needs
 
 enum-told-2 : tie.Need-enum-told-2
 enum-told-2 c = search needs
 
-read-requires-2 : tie.Need-read-requires-2
-read-requires-2 c κs = search needs
-
-of-read-requires-2 : tie.Need-of-read-requires-2
-of-read-requires-2 c κs = search needs
+uplink-requires : tie.Need-uplink-requires
+uplink-requires c κs = search needs
 
 enum-told-3 : tie.Need-enum-told-3
 enum-told-3 c = search needs
@@ -49,11 +43,8 @@ report-requires c κs = search needs
 enum-told-4 : tie.Need-enum-told-4
 enum-told-4 c = search needs
 
-read-requires-3 : tie.Need-read-requires-3
-read-requires-3 c κs = search needs
-
-of-read-requires-3 : tie.Need-of-read-requires-3
-of-read-requires-3 c κs = search needs
+geometric-altitude-requires : tie.Need-geometric-altitude-requires
+geometric-altitude-requires c κs = search needs
 
 enum-told-5 : tie.Need-enum-told-5
 enum-told-5 c = search needs
@@ -64,11 +55,8 @@ report-requires-2 c κs = search needs
 enum-told-6 : tie.Need-enum-told-6
 enum-told-6 c = search needs
 
-read-requires-4 : tie.Need-read-requires-4
-read-requires-4 c κs = search needs
-
-of-read-requires-4 : tie.Need-of-read-requires-4
-of-read-requires-4 c κs = search needs
+request-requires : tie.Need-request-requires
+request-requires c κs = search needs
 
 enum-told-7 : tie.Need-enum-told-7
 enum-told-7 c = search needs
@@ -79,11 +67,8 @@ control-requires c κs = search needs
 enum-told-8 : tie.Need-enum-told-8
 enum-told-8 c = search needs
 
-read-requires-5 : tie.Need-read-requires-5
-read-requires-5 c κs = search needs
-
-of-read-requires-5 : tie.Need-of-read-requires-5
-of-read-requires-5 c κs = search needs
+initialization-requires : tie.Need-initialization-requires
+initialization-requires c κs = search needs
 
 enum-told-9 : tie.Need-enum-told-9
 enum-told-9 c = search needs
@@ -92,28 +77,28 @@ blank-requires-2 : tie.Need-blank-requires-2
 blank-requires-2 c κs = search needs
 
 returns-2 : tie.Need-returns-2
-returns-2 c = rw (kind-so (now (c .before .before .before .before .before .before .before .before .args .body)) (omega arith) (c .before .before .before .before .kind-of .ensures) (c .before .before .enum-told .given .1)) (c .of-read .ensures ∙ ap messageNumbers (c .before .read .ensures))
+returns-2 c = rw (kind-so (now (c .before .before .before .before .before .before .before .args .body)) (omega arith) (c .before .before .before .kind-of .ensures) (c .before .enum-told .given .1)) (c .heartbeat .ensures)
 
 returns-3 : tie.Need-returns-3
-returns-3 c = rw (kind-so (now (c .before .before .before .before .before .before .before .before .args .body)) (omega arith) (c .before .before .before .before .kind-of .ensures) (c .before .before .enum-told2 .given .1)) (c .of-read2 .ensures ∙ ap messageNumbers (c .before .read2 .ensures))
+returns-3 c = rw (kind-so (now (c .before .before .before .before .before .before .before .args .body)) (omega arith) (c .before .before .before .kind-of .ensures) (c .before .enum-told2 .given .1)) (c .uplink .ensures)
 
 returns-4 : tie.Need-returns-4
-returns-4 c = rw (kind-so (now (c .before .before .before .before .before .before .before .args .body)) (omega arith) (c .before .before .before .kind-of .ensures) (c .before .enum-told3 .given .1)) (c .report .ensures .0 refl)
+returns-4 c = rw (kind-so (now (c .before .before .before .before .before .before .before .args .body)) (omega arith) (c .before .before .before .kind-of .ensures) (c .before .enum-told3 .given .1)) (c .report .ensures ∙ ownship-numbers _)
 
 returns-5 : tie.Need-returns-5
-returns-5 c = rw (kind-so (now (c .before .before .before .before .before .before .before .before .args .body)) (omega arith) (c .before .before .before .before .kind-of .ensures) (c .before .before .enum-told4 .given .1)) (c .of-read3 .ensures ∙ ap messageNumbers (c .before .read3 .ensures))
+returns-5 c = rw (kind-so (now (c .before .before .before .before .before .before .before .args .body)) (omega arith) (c .before .before .before .kind-of .ensures) (c .before .enum-told4 .given .1)) (c .geometric-altitude .ensures)
 
 returns-6 : tie.Need-returns-6
-returns-6 c = rw (kind-so (now (c .before .before .before .before .before .before .before .args .body)) (omega arith) (c .before .before .before .kind-of .ensures) (c .before .enum-told5 .given .1)) (c .report2 .ensures .1 (λ h. omega arith))
+returns-6 c = rw (kind-so (now (c .before .before .before .before .before .before .before .args .body)) (omega arith) (c .before .before .before .kind-of .ensures) (c .before .enum-told5 .given .1)) (c .report2 .ensures ∙ traffic-numbers _)
 
 returns-7 : tie.Need-returns-7
-returns-7 c = rw (kind-so (now (c .before .before .before .before .before .before .before .before .args .body)) (omega arith) (c .before .before .before .before .kind-of .ensures) (c .before .before .enum-told6 .given .1)) (c .of-read4 .ensures ∙ ap messageNumbers (c .before .read4 .ensures))
+returns-7 c = rw (kind-so (now (c .before .before .before .before .before .before .before .args .body)) (omega arith) (c .before .before .before .kind-of .ensures) (c .before .enum-told6 .given .1)) (c .request .ensures)
 
 returns-8 : tie.Need-returns-8
 returns-8 c = rw (kind-so (now (c .before .before .before .before .before .before .before .args .body)) (omega arith) (c .before .before .before .kind-of .ensures) (c .before .enum-told7 .given .1)) (c .control .ensures)
 
 returns-9 : tie.Need-returns-9
-returns-9 c = rw (kind-so (now (c .before .before .before .before .before .before .before .before .args .body)) (omega arith) (c .before .before .before .before .kind-of .ensures) (c .before .before .enum-told8 .given .1)) (c .of-read5 .ensures ∙ ap messageNumbers (c .before .read5 .ensures))
+returns-9 c = rw (kind-so (now (c .before .before .before .before .before .before .before .args .body)) (omega arith) (c .before .before .before .kind-of .ensures) (c .before .enum-told8 .given .1)) (c .initialization .ensures)
 
 returns-10 : tie.Need-returns-10
 unfolding answerAs
@@ -128,26 +113,21 @@ ostrogosz-read-message-spec =
     shared-slice-read-kind-of
     kind-of-requires
     enum-told
-    read-requires
-    of-read-requires
+    heartbeat-requires
     enum-told-2
-    read-requires-2
-    of-read-requires-2
+    uplink-requires
     enum-told-3
     report-requires
     enum-told-4
-    read-requires-3
-    of-read-requires-3
+    geometric-altitude-requires
     enum-told-5
     report-requires-2
     enum-told-6
-    read-requires-4
-    of-read-requires-4
+    request-requires
     enum-told-7
     control-requires
     enum-told-8
-    read-requires-5
-    of-read-requires-5
+    initialization-requires
     enum-told-9
     blank-requires-2
     returns-2

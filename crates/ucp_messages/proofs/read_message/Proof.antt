@@ -1,5 +1,4 @@
 -- `ucp_messages::read_message` meets its contract, kind by kind. Assumes nothing.
-use mathlib.Core.Path.{refl}
 use native.Mathlib.Omega.{arith}
 use denote.Ref.{now}
 use Rattle.ucp_messages.specs.Reads.{answerAs}
@@ -21,77 +20,77 @@ kind-of-requires c κs = search needs
 enum-told : tie.Need-enum-told
 enum-told c = search needs
 
-read-requires : tie.Need-read-requires
-read-requires c κs = search needs
+heartbeat-requires : tie.Need-heartbeat-requires
+heartbeat-requires c κs = search needs
 
 enum-told-2 : tie.Need-enum-told-2
 enum-told-2 c = search needs
 
-read-requires-2 : tie.Need-read-requires-2
-read-requires-2 c κs = search needs
+uplink-requires : tie.Need-uplink-requires
+uplink-requires c κs = search needs
 
 enum-told-3 : tie.Need-enum-told-3
 enum-told-3 c = search needs
 
-read-requires-3 : tie.Need-read-requires-3
-read-requires-3 c κs = search needs
+ownship-requires : tie.Need-ownship-requires
+ownship-requires c κs = search needs
 
 enum-told-4 : tie.Need-enum-told-4
 enum-told-4 c = search needs
 
-read-requires-4 : tie.Need-read-requires-4
-read-requires-4 c κs = search needs
+geometric-altitude-requires : tie.Need-geometric-altitude-requires
+geometric-altitude-requires c κs = search needs
 
 enum-told-5 : tie.Need-enum-told-5
 enum-told-5 c = search needs
 
-read-requires-5 : tie.Need-read-requires-5
-read-requires-5 c κs = search needs
+traffic-requires : tie.Need-traffic-requires
+traffic-requires c κs = search needs
 
 enum-told-6 : tie.Need-enum-told-6
 enum-told-6 c = search needs
 
-read-requires-6 : tie.Need-read-requires-6
-read-requires-6 c κs = search needs
+request-requires : tie.Need-request-requires
+request-requires c κs = search needs
 
 enum-told-7 : tie.Need-enum-told-7
 enum-told-7 c = search needs
 
-read-requires-7 : tie.Need-read-requires-7
-read-requires-7 c κs = search needs
+control-requires : tie.Need-control-requires
+control-requires c κs = search needs
 
 enum-told-8 : tie.Need-enum-told-8
 enum-told-8 c = search needs
 
-read-requires-8 : tie.Need-read-requires-8
-read-requires-8 c κs = search needs
+initialization-requires : tie.Need-initialization-requires
+initialization-requires c κs = search needs
 
 enum-told-9 : tie.Need-enum-told-9
 enum-told-9 c = search needs
 
 returns-2 : tie.Need-returns-2
-returns-2 c = rw (kind-so (now (c .before .before .before .before .before .before .before .args .body)) (omega arith) (c .before .before .before .kind-of .ensures) (c .before .enum-told .given .1)) (c .read .ensures)
+returns-2 c = rw (kind-so (now (c .before .before .before .before .before .before .before .args .body)) (omega arith) (c .before .before .before .kind-of .ensures) (c .before .enum-told .given .1)) (c .heartbeat .ensures)
 
 returns-3 : tie.Need-returns-3
-returns-3 c = rw (kind-so (now (c .before .before .before .before .before .before .before .args .body)) (omega arith) (c .before .before .before .kind-of .ensures) (c .before .enum-told2 .given .1)) (c .read2 .ensures)
+returns-3 c = rw (kind-so (now (c .before .before .before .before .before .before .before .args .body)) (omega arith) (c .before .before .before .kind-of .ensures) (c .before .enum-told2 .given .1)) (c .uplink .ensures)
 
 returns-4 : tie.Need-returns-4
-returns-4 c = rw (kind-so (now (c .before .before .before .before .before .before .before .args .body)) (omega arith) (c .before .before .before .kind-of .ensures) (c .before .enum-told3 .given .1)) (c .read3 .ensures .0 refl)
+returns-4 c = rw (kind-so (now (c .before .before .before .before .before .before .before .args .body)) (omega arith) (c .before .before .before .kind-of .ensures) (c .before .enum-told3 .given .1)) (c .ownship .ensures)
 
 returns-5 : tie.Need-returns-5
-returns-5 c = rw (kind-so (now (c .before .before .before .before .before .before .before .args .body)) (omega arith) (c .before .before .before .kind-of .ensures) (c .before .enum-told4 .given .1)) (c .read4 .ensures)
+returns-5 c = rw (kind-so (now (c .before .before .before .before .before .before .before .args .body)) (omega arith) (c .before .before .before .kind-of .ensures) (c .before .enum-told4 .given .1)) (c .geometric-altitude .ensures)
 
 returns-6 : tie.Need-returns-6
-returns-6 c = rw (kind-so (now (c .before .before .before .before .before .before .before .args .body)) (omega arith) (c .before .before .before .kind-of .ensures) (c .before .enum-told5 .given .1)) (c .read5 .ensures .1 (λ h. omega arith))
+returns-6 c = rw (kind-so (now (c .before .before .before .before .before .before .before .args .body)) (omega arith) (c .before .before .before .kind-of .ensures) (c .before .enum-told5 .given .1)) (c .traffic .ensures)
 
 returns-7 : tie.Need-returns-7
-returns-7 c = rw (kind-so (now (c .before .before .before .before .before .before .before .args .body)) (omega arith) (c .before .before .before .kind-of .ensures) (c .before .enum-told6 .given .1)) (c .read6 .ensures)
+returns-7 c = rw (kind-so (now (c .before .before .before .before .before .before .before .args .body)) (omega arith) (c .before .before .before .kind-of .ensures) (c .before .enum-told6 .given .1)) (c .request .ensures)
 
 returns-8 : tie.Need-returns-8
-returns-8 c = rw (kind-so (now (c .before .before .before .before .before .before .before .args .body)) (omega arith) (c .before .before .before .kind-of .ensures) (c .before .enum-told7 .given .1)) (c .read7 .ensures)
+returns-8 c = rw (kind-so (now (c .before .before .before .before .before .before .before .args .body)) (omega arith) (c .before .before .before .kind-of .ensures) (c .before .enum-told7 .given .1)) (c .control .ensures)
 
 returns-9 : tie.Need-returns-9
-returns-9 c = rw (kind-so (now (c .before .before .before .before .before .before .before .args .body)) (omega arith) (c .before .before .before .kind-of .ensures) (c .before .enum-told8 .given .1)) (c .read8 .ensures)
+returns-9 c = rw (kind-so (now (c .before .before .before .before .before .before .before .args .body)) (omega arith) (c .before .before .before .kind-of .ensures) (c .before .enum-told8 .given .1)) (c .initialization .ensures)
 
 returns-10 : tie.Need-returns-10
 unfolding answerAs
@@ -105,21 +104,21 @@ read-message-spec =
     shared-slice-read-kind-of
     kind-of-requires
     enum-told
-    read-requires
+    heartbeat-requires
     enum-told-2
-    read-requires-2
+    uplink-requires
     enum-told-3
-    read-requires-3
+    ownship-requires
     enum-told-4
-    read-requires-4
+    geometric-altitude-requires
     enum-told-5
-    read-requires-5
+    traffic-requires
     enum-told-6
-    read-requires-6
+    request-requires
     enum-told-7
-    read-requires-7
+    control-requires
     enum-told-8
-    read-requires-8
+    initialization-requires
     enum-told-9
     returns-2
     returns-3

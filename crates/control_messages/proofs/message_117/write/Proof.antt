@@ -1,0 +1,19 @@
+-- `message_117::write` meets its contract, by its two ways. Assumes nothing.
+use denote.Ref.{now}
+use Rattle.message_answers.proofs.Ways.{fitting, refused-13, body-put}
+use Rattle.control_messages.specs.Initialization.{initializationBody}
+use Rattle.control_messages.proofs.Fits.{initialization-bounds}
+use borrow.Author.Needs.{needs}
+use Rattle.control_messages.proofs.message_117.write.Statement.{statement}
+use Rattle.control_messages.proofs.message_117.write.Tie as tie
+
+pub write-spec : {M : Type 1} → statement M
+write-spec =
+    tie.close
+    (tie.spec (λ c κs. search needs)
+    (λ c. refused-13 (c .before .fits2 .ensures) (initializationBody (c .before .before .before .args .initialization)) (now (c .before .before .before .args .output)) (c .if1 .taken))
+    (λ c κs. initialization-bounds (c .before .before .before .args .initialization) (fitting (c .before .fits2 .ensures) (c .if1 .left)))
+    (λ c. search needs) (λ c κs. search needs) (λ c. search needs)
+    (λ c. body-put (c .before .before .before .before .before .before .before .fits2 .ensures)
+    (c .before .before .before .before .before .before .if1 .left) (c .before .before .before .before .before .octets .ensures)
+    (c .before .before .put .ensures)))

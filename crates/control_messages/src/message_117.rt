@@ -1,0 +1,99 @@
+// Message 117, Initialization.
+use super::Initialization;
+use super::InitializationRead;
+use writer_answers::Written;
+ghost use mathlib.Core.Path.{_≡_};
+ghost use Prim.Native.Nat.{_<_};
+ghost use lib.ListN.{length};
+ghost use Rattle.control_messages.specs.Initialization.{initializationIn, initializationBody, initializationFits, initializationRead};
+ghost use Rattle.message_answers.specs.Writes.{Writes};
+
+fn fields(body: &[u8]) -> Initialization
+    requires { ⌜ length (now body) ≡ 19 ⌝ }
+    ensures { λ r. ⌜ r ≡ initializationIn (now (body .entry)) ⌝ }
+{
+    let offsets = octet_fields::octet(body, 18);
+    Initialization {
+        version: octet_fields::octet(body, 3),
+        address: octet_fields::little_24(body, 4),
+        emitter: octet_fields::octet(body, 7),
+        callsign: octet_fields::text_at(body, 8),
+        stall_speed: octet_fields::octet(body, 16),
+        size: octet_fields::octet(body, 17),
+        lateral: offsets / 32,
+        longitudinal: offsets % 32,
+    }
+}
+
+// What a body that has the kind's ID means.
+pub fn read(body: &[u8]) -> InitializationRead
+    ensures { λ r. ⌜ r ≡ initializationRead (now (body .entry)) ⌝ }
+{
+    if body.len() != 19 {
+        return InitializationRead::Refused(11);
+    }
+    if octet_fields::octet(body, 1) != 65 {
+        return InitializationRead::Refused(12);
+    }
+    if octet_fields::octet(body, 2) != 1 {
+        return InitializationRead::Refused(12);
+    }
+    let fields = fields(body);
+    if !fits(fields) {
+        return InitializationRead::Refused(13);
+    }
+    InitializationRead::Initialization(fields)
+}
+
+// Whether each field is in its range and has no more bits than the body has for it.
+pub fn fits(initialization: Initialization) -> bool
+    ensures { λ r. ⌜ r ≡ initializationFits initialization ⌝ }
+{
+    let callsign = octet_fields::text_octets(initialization.callsign);
+    let ranges = field_rules::is_emitter(initialization.emitter)
+        & text_rules::is_spaced(&callsign)
+        & field_rules::is_size_code(initialization.size);
+    ranges
+        & (initialization.address < 16777216)
+        & (initialization.lateral < 8)
+        & (initialization.longitudinal < 32)
+}
+
+fn octets(initialization: Initialization) -> [u8; 19]
+    requires { ⌜ (initialization .address < 16777216) × (initialization .lateral < 8) × (initialization .longitudinal < 32) ⌝ }
+    ensures { λ r. ⌜ r ≡ initializationBody initialization ⌝ }
+{
+    let address = initialization.address;
+    let text = initialization.callsign;
+    [
+        117,
+        65,
+        1,
+        initialization.version,
+        (address % 65536 % 256) as u8,
+        (address % 65536 / 256) as u8,
+        (address / 65536) as u8,
+        initialization.emitter,
+        text.c0,
+        text.c1,
+        text.c2,
+        text.c3,
+        text.c4,
+        text.c5,
+        text.c6,
+        text.c7,
+        initialization.stall_speed,
+        initialization.size,
+        initialization.lateral * 32 + initialization.longitudinal,
+    ]
+}
+
+pub fn write(initialization: Initialization, output: &mut [u8]) -> Written
+    ensures { λ r. ⌜ Writes (initializationFits initialization) (initializationBody initialization) (now (output .entry)) r (now (output .exit)) ⌝ }
+{
+    if !fits(initialization) {
+        return Written::Refused(13);
+    }
+    let body = octets(initialization);
+    message_answers::put(&body, output)
+}

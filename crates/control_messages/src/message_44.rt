@@ -1,0 +1,44 @@
+// Message 44, Message Request.
+use super::Request;
+use super::RequestRead;
+use writer_answers::Written;
+ghost use mathlib.Core.Path.{_≡_};
+ghost use mathlib.Core.Bool.{true};
+ghost use lib.ListN.{length};
+ghost use Rattle.control_messages.specs.Request.{requestIn, requestBody, requestRead};
+ghost use Rattle.message_answers.specs.Writes.{Writes};
+
+fn fields(body: &[u8]) -> Request
+    requires { ⌜ length (now body) ≡ 3 ⌝ }
+    ensures { λ r. ⌜ r ≡ requestIn (now (body .entry)) ⌝ }
+{
+    Request {
+        requested_id: octet_fields::octet(body, 2),
+    }
+}
+
+// What a body that has the kind's ID means.
+pub fn read(body: &[u8]) -> RequestRead
+    ensures { λ r. ⌜ r ≡ requestRead (now (body .entry)) ⌝ }
+{
+    if body.len() != 3 {
+        return RequestRead::Refused(11);
+    }
+    if octet_fields::octet(body, 1) != 2 {
+        return RequestRead::Refused(12);
+    }
+    RequestRead::Request(fields(body))
+}
+
+fn octets(request: Request) -> [u8; 3]
+    ensures { λ r. ⌜ r ≡ requestBody request ⌝ }
+{
+    [44, 2, request.requested_id]
+}
+
+pub fn write(request: Request, output: &mut [u8]) -> Written
+    ensures { λ r. ⌜ Writes true (requestBody request) (now (output .entry)) r (now (output .exit)) ⌝ }
+{
+    let body = octets(request);
+    message_answers::put(&body, output)
+}

@@ -1,0 +1,132 @@
+-- `message_10::fields` meets its contract, field by field. Assumes nothing.
+use mathlib.Core.Path.{_≡_, _∙_, ap}
+use Prim.Native.Nat.{ℕ, _/_, _%_}
+use denote.Ref.{now}
+use lib.ListN.{getD}
+use mir.Syntax.{w16, w32}
+use mir.ValLaws.{toZ-ofZ}
+use Rattle.octet_fields.specs.Layout.{fields}
+use Rattle.twos_complement.specs.Signed.{signed}
+use Rattle.octet_fields.proofs.Spelled.{elements, field-at, text-at}
+use Rattle.gdl90_messages.specs.Report.{reportLayout, reportIn}
+use borrow.Author.Needs.{needs}
+use Rattle.gdl90_messages.proofs.message_10.fields.Statement.{statement}
+use Rattle.gdl90_messages.proofs.message_10.fields.Tie as tie
+
+octet-requires : tie.Need-octet-requires
+octet-requires c κs = search needs
+
+big-16-requires : tie.Need-big-16-requires
+big-16-requires c κs = search needs
+
+octet-requires-2 : tie.Need-octet-requires-2
+octet-requires-2 c κs = search needs
+
+big-32-requires : tie.Need-big-32-requires
+big-32-requires c κs = search needs
+
+octet-requires-3 : tie.Need-octet-requires-3
+octet-requires-3 c κs = search needs
+
+big-24-requires : tie.Need-big-24-requires
+big-24-requires c κs = search needs
+
+big-24-requires-2 : tie.Need-big-24-requires-2
+big-24-requires-2 c κs = search needs
+
+signed-24-requires : tie.Need-signed-24-requires
+signed-24-requires c κs = search needs
+
+big-24-requires-3 : tie.Need-big-24-requires-3
+big-24-requires-3 c κs = search needs
+
+signed-24-requires-2 : tie.Need-signed-24-requires-2
+signed-24-requires-2 c κs = search needs
+
+cast-t17 : tie.Need-cast-t17
+cast-t17 c = search needs
+
+cast-t21 : tie.Need-cast-t21
+cast-t21 c = search needs
+
+cast-signed-12 : tie.Need-cast-signed-12
+cast-signed-12 c = search needs
+
+signed-12-requires : tie.Need-signed-12-requires
+signed-12-requires c κs = search needs
+
+cast-t26 : tie.Need-cast-t26
+cast-t26 c = search needs
+
+octet-requires-4 : tie.Need-octet-requires-4
+octet-requires-4 c κs = search needs
+
+text-at-requires : tie.Need-text-at-requires
+text-at-requires c κs = search needs
+
+returns : tie.Need-returns
+unfolding reportIn
+returns c =
+    let s = c .before .before .before .before .before .before .before .before .before .before .before .before .before .before in
+    let body = now (s .args .body) in
+    let at : (k : ℕ) → getD (fields reportLayout (elements 28 0 body)) k 0 ≡ getD (fields reportLayout body) k 0 =
+    λ k. field-at reportLayout 28 k body (s .pre)
+    in
+    let first = c .before .before .before .before .before .before .before .before .before .before .before .before .octet .ensures in
+    let height = c .before .before .before .before .before .before .before .before .before .before .before .big-16 .ensures in
+    let integrity = c .before .before .before .before .before .before .before .before .before .before .octet2 .ensures in
+    let motion = c .before .before .before .before .before .before .before .before .before .big-32 .ensures in
+    let last = c .before .before .before .before .before .before .before .before .octet3 .ensures in
+    λ i. record {
+      alert = (ap (λ (n : ℕ). n / 16) first ∙ at 1) i;
+      «address_type» = (ap (λ (n : ℕ). n % 16) first ∙ at 2) i;
+      address = (c .before .before .before .before .before .before .before .big-24 .ensures ∙ at 3) i;
+      latitude =
+          (toZ-ofZ w32 (c .before .before .before .before .before .signed-24 .result) (record { sfits = c .before .before .before .before .before .signed-24 .ok })
+          ∙ c .before .before .before .before .before .signed-24 .ensures
+          ∙ ap (signed 8388608) (c .before .before .before .before .before .before .big-242 .ensures ∙ at 4))
+          i;
+      longitude =
+          (toZ-ofZ w32 (c .before .before .before .signed-242 .result) (record { sfits = c .before .before .before .signed-242 .ok })
+          ∙ c .before .before .before .signed-242 .ensures
+          ∙ ap (signed 8388608) (c .before .before .before .before .big-243 .ensures ∙ at 5))
+          i;
+      altitude = (ap (λ (n : ℕ). n / 16) height ∙ at 6) i;
+      miscellaneous = (ap (λ (n : ℕ). n % 16) height ∙ at 7) i;
+      nic = (ap (λ (n : ℕ). n / 16) integrity ∙ at 8) i;
+      nacp = (ap (λ (n : ℕ). n % 16) integrity ∙ at 9) i;
+      speed = (ap (λ (n : ℕ). n / 1048576) motion ∙ at 10) i;
+      «vertical_rate» =
+          (toZ-ofZ w16 (c .before .before .signed-12 .result) (record { sfits = c .before .before .signed-12 .ok })
+          ∙ c .before .before .signed-12 .ensures
+          ∙ ap (signed 2048) (ap (λ (n : ℕ). n % 1048576 / 256) motion ∙ at 11))
+          i;
+      track = (ap (λ (n : ℕ). n % 1048576 % 256) motion ∙ at 12) i;
+      emitter = (c .before .octet4 .ensures ∙ at 13) i;
+      callsign = (c .text-at .ensures ∙ text-at reportLayout 28 14 body (s .pre)) i;
+      emergency = (ap (λ (n : ℕ). n / 16) last ∙ at 22) i;
+      spare = (ap (λ (n : ℕ). n % 16) last ∙ at 23) i;
+    }
+
+pub fields-spec : {M : Type 1} → statement M
+fields-spec =
+    tie.close
+    (tie.spec
+    octet-requires
+    big-16-requires
+    octet-requires-2
+    big-32-requires
+    octet-requires-3
+    big-24-requires
+    big-24-requires-2
+    signed-24-requires
+    big-24-requires-3
+    signed-24-requires-2
+    cast-t17
+    cast-t21
+    cast-signed-12
+    signed-12-requires
+    cast-t26
+    octet-requires-4
+    text-at-requires
+    returns)

@@ -1,0 +1,58 @@
+-- `message_10::octets` meets its contract. Assumes nothing.
+use mir.Syntax.{w16, w32}
+use mir.ValLaws.{toZ-ofZ}
+use Rattle.gdl90_messages.specs.Report.{reportBody}
+use borrow.Author.Needs.{needs}
+use Rattle.gdl90_messages.proofs.message_10.octets.Statement.{statement}
+use Rattle.gdl90_messages.proofs.message_10.octets.Tie as tie
+
+three-of-requires : tie.Need-three-of-requires
+three-of-requires c κs = search needs
+
+position-of-requires : tie.Need-position-of-requires
+position-of-requires c κs = search needs
+
+height-of-requires : tie.Need-height-of-requires
+height-of-requires c κs = search needs
+
+motion-of-requires : tie.Need-motion-of-requires
+motion-of-requires c κs = (c .before .before .before .before .before .before .pre .speed, rw (toZ-ofZ w16 (c .before .before .before .before .before .before .args .report .«vertical_rate») (record { sfits = c .struct-told3 .given .1 .1 .1 .1 .1 .1 .1 .1 .1 .1 .0 .1 })) (c .before .before .before .before .before .before .pre .rate))
+
+halves-requires : tie.Need-halves-requires
+halves-requires c κs = search needs
+
+halves-requires-2 : tie.Need-halves-requires-2
+halves-requires-2 c κs = search needs
+
+halves-requires-3 : tie.Need-halves-requires-3
+halves-requires-3 c κs = search needs
+
+returns : tie.Need-returns
+unfolding reportBody
+returns c =
+    let r = c .before .before .before .before .before .before .before .before .before .before .args .report in
+    rw (
+      c .before .before .before .before .before .before .before .before .before .three-of .ensures,
+      c .before .before .before .before .before .before .position-of .ensures,
+      c .before .before .before .before .before .height-of .ensures,
+      c .before .before .before .motion-of .ensures,
+      c .before .before .halves .ensures,
+      c .before .halves2 .ensures,
+      c .halves3 .ensures,
+      toZ-ofZ w32 (r .latitude) (record { sfits = c .before .before .before .before .before .before .before .before .struct-told .given .1 .1 .1 .0 .1 }),
+      toZ-ofZ w32 (r .longitude) (record { sfits = c .before .before .before .before .before .before .before .struct-told2 .given .1 .1 .1 .1 .0 .1 }),
+      toZ-ofZ w16 (r .«vertical_rate») (record { sfits = c .before .before .before .before .struct-told3 .given .1 .1 .1 .1 .1 .1 .1 .1 .1 .1 .0 .1 }),
+    )
+
+pub octets-spec : {M : Type 1} → statement M
+octets-spec =
+    tie.close
+    (tie.spec
+    three-of-requires
+    position-of-requires
+    height-of-requires
+    motion-of-requires
+    halves-requires
+    halves-requires-2
+    halves-requires-3
+    returns)

@@ -1,0 +1,37 @@
+-- `message_11::fields` meets its contract, field by field. Assumes nothing.
+use mathlib.Core.Path.{_∙_, ap}
+use denote.Ref.{now}
+use mir.Syntax.{w16}
+use mir.ValLaws.{toZ-ofZ}
+use Rattle.twos_complement.specs.Signed.{signed}
+use Rattle.octet_fields.proofs.Spelled.{field-at}
+use Rattle.gdl90_messages.specs.GeometricAltitude.{geometricLayout, geometricIn}
+use borrow.Author.Needs.{needs}
+use Rattle.gdl90_messages.proofs.message_11.fields.Statement.{statement}
+use Rattle.gdl90_messages.proofs.message_11.fields.Tie as tie
+
+big-16-requires : tie.Need-big-16-requires
+big-16-requires c κs = search needs
+
+signed-16-requires : tie.Need-signed-16-requires
+signed-16-requires c κs = search needs
+
+big-16-requires-2 : tie.Need-big-16-requires-2
+big-16-requires-2 c κs = search needs
+
+returns : tie.Need-returns
+unfolding geometricIn
+returns c =
+    let s = c .before .before .before .before in
+    let body = now (s .args .body) in
+    λ i. record {
+      altitude =
+          (toZ-ofZ w16 (c .before .signed-16 .result) (record { sfits = c .before .signed-16 .ok })
+          ∙ c .before .signed-16 .ensures
+          ∙ ap (signed 32768) (c .before .before .big-16 .ensures ∙ field-at geometricLayout 5 1 body (s .pre)))
+          i;
+      metrics = (c .big-162 .ensures ∙ field-at geometricLayout 5 2 body (s .pre)) i;
+    }
+
+pub fields-spec : {M : Type 1} → statement M
+fields-spec = tie.close (tie.spec big-16-requires signed-16-requires big-16-requires-2 returns)

@@ -1,0 +1,33 @@
+-- `message_11::octets` meets its contract. Assumes nothing.
+use mir.Syntax.{w16}
+use mir.Val.{SFits}
+use mir.ValLaws.{toZ-ofZ}
+use Rattle.gdl90_messages.specs.GeometricAltitude.{geometricBody}
+use borrow.Author.Needs.{needs}
+use Rattle.gdl90_messages.proofs.message_11.octets.Statement.{statement}
+use Rattle.gdl90_messages.proofs.message_11.octets.Tie as tie
+
+bits-16-requires : tie.Need-bits-16-requires
+bits-16-requires c κs = search needs
+
+cast-t5 : tie.Need-cast-t5
+cast-t5 c = search needs
+
+cast-t7 : tie.Need-cast-t7
+cast-t7 c = search needs
+
+cast-t9 : tie.Need-cast-t9
+cast-t9 c = search needs
+
+cast-t11 : tie.Need-cast-t11
+cast-t11 c = search needs
+
+returns : tie.Need-returns
+unfolding geometricBody
+returns c =
+    let z = c .before .before .args .geometric .altitude in
+    let f : SFits w16 z = record { sfits = c .before .before .good .0 .1 .1 .0 .1 } in
+    rw (c .bits-16 .ensures, toZ-ofZ w16 z f)
+
+pub octets-spec : {M : Type 1} → statement M
+octets-spec = tie.close (tie.spec bits-16-requires cast-t5 cast-t7 cast-t9 cast-t11 returns)

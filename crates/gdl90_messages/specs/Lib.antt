@@ -1,0 +1,4 @@
+pub mod Heartbeat
+pub mod Uplink
+pub mod Report
+pub mod GeometricAltitude

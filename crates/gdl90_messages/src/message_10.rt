@@ -1,0 +1,207 @@
+// Messages 10 and 20, Ownship and Traffic report: they differ in the ID alone.
+use super::Report;
+use super::ReportRead;
+use writer_answers::Written;
+ghost use mathlib.Core.Path.{_≡_};
+ghost use lib.ListN.{length};
+ghost use Rattle.twos_complement.specs.Signed.{complement};
+ghost use Prim.Native.Nat.{_+_, _*_, _<_};
+ghost use Rattle.gdl90_messages.specs.Report.{reportIn, reportBody, reportFits, ReportBounds, heightOf, threeOf, positionOf, motionOf, reportRead};
+ghost use Rattle.message_answers.specs.Writes.{Writes};
+
+fn fields(body: &[u8]) -> Report
+    requires { ⌜ length (now body) ≡ 28 ⌝ }
+    ensures { λ r. ⌜ r ≡ reportIn (now (body .entry)) ⌝ }
+{
+    let first = octet_fields::octet(body, 1);
+    let height = octet_fields::big_16(body, 11);
+    let integrity = octet_fields::octet(body, 13);
+    let motion = octet_fields::big_32(body, 14);
+    let last = octet_fields::octet(body, 27);
+    let rate = motion % 1048576 / 256;
+    Report {
+        alert: first / 16,
+        address_type: first % 16,
+        address: octet_fields::big_24(body, 2),
+        latitude: twos_complement::signed_24(octet_fields::big_24(body, 5)),
+        longitude: twos_complement::signed_24(octet_fields::big_24(body, 8)),
+        altitude: height / 16,
+        miscellaneous: (height % 16) as u8,
+        nic: integrity / 16,
+        nacp: integrity % 16,
+        speed: (motion / 1048576) as u16,
+        vertical_rate: twos_complement::signed_12(rate as u16),
+        track: (motion % 1048576 % 256) as u8,
+        emitter: octet_fields::octet(body, 18),
+        callsign: octet_fields::text_at(body, 19),
+        emergency: last / 16,
+        spare: last % 16,
+    }
+}
+
+// What a body that has the ID of either kind means.
+pub fn read(body: &[u8]) -> ReportRead
+    ensures { λ r. ⌜ r ≡ reportRead (now (body .entry)) ⌝ }
+{
+    if body.len() != 28 {
+        return ReportRead::Refused(11);
+    }
+    ReportRead::Report(fields(body))
+}
+
+// Whether each field has no more bits than the body has for it.
+pub fn fits(report: Report) -> bool
+    ensures { λ r. ⌜ r ≡ reportFits report ⌝ }
+{
+    let position = twos_complement::holds_24(report.latitude)
+        & twos_complement::holds_24(report.longitude);
+    let rate = twos_complement::holds_12(report.vertical_rate);
+    let address = (report.alert < 16) & (report.address_type < 16) & (report.address < 16777216);
+    let height = (report.altitude < 4096) & (report.miscellaneous < 16);
+    let integrity = (report.nic < 16) & (report.nacp < 16);
+    let speed = report.speed < 4096;
+    let last = (report.emergency < 16) & (report.spare < 16);
+    address & position & height & integrity & speed & rate & last
+}
+
+// ---- runs of fields as octets, most significant first
+
+// Two fields of 4 bits.
+fn halves(high: u8, low: u8) -> u8
+    requires { ⌜ (high < 16) × (low < 16) ⌝ }
+    ensures { λ r. ⌜ r ≡ high * 16 + low ⌝ }
+{
+    high * 16 + low
+}
+
+struct Two {
+    high: u8,
+    low: u8,
+}
+
+fn height_of(altitude: u16, miscellaneous: u8) -> Two
+    requires { ⌜ (altitude < 4096) × (miscellaneous < 16) ⌝ }
+    ensures { λ r. ⌜ r ≡ heightOf altitude miscellaneous ⌝ }
+{
+    let height = altitude * 16 + miscellaneous as u16;
+    Two {
+        high: (height / 256) as u8,
+        low: (height % 256) as u8,
+    }
+}
+
+struct Three {
+    high: u8,
+    middle: u8,
+    low: u8,
+}
+
+fn three_of(number: u32) -> Three
+    requires { ⌜ number < 16777216 ⌝ }
+    ensures { λ r. ⌜ r ≡ threeOf number ⌝ }
+{
+    Three {
+        high: (number / 65536) as u8,
+        middle: (number % 65536 / 256) as u8,
+        low: (number % 65536 % 256) as u8,
+    }
+}
+
+struct Position {
+    latitude: Three,
+    longitude: Three,
+}
+
+fn position_of(latitude: i32, longitude: i32) -> Position
+    requires { ⌜ (complement 8388608 latitude < 16777216) × (complement 8388608 longitude < 16777216) ⌝ }
+    ensures { λ r. ⌜ r ≡ positionOf latitude longitude ⌝ }
+{
+    Position {
+        latitude: three_of(twos_complement::bits_24(latitude)),
+        longitude: three_of(twos_complement::bits_24(longitude)),
+    }
+}
+
+struct Four {
+    high: u8,
+    upper: u8,
+    lower: u8,
+    low: u8,
+}
+
+fn motion_of(speed: u16, vertical_rate: i16, track: u8) -> Four
+    requires { ⌜ (speed < 4096) × (complement 2048 «vertical_rate» < 4096) ⌝ }
+    ensures { λ r. ⌜ r ≡ motionOf speed «vertical_rate» track ⌝ }
+{
+    let rate = twos_complement::bits_12(vertical_rate) as u32;
+    let motion = speed as u32 * 1048576 + (rate * 256 + track as u32);
+    Four {
+        high: (motion / 16777216) as u8,
+        upper: (motion % 16777216 / 65536) as u8,
+        lower: (motion % 16777216 % 65536 / 256) as u8,
+        low: (motion % 16777216 % 65536 % 256) as u8,
+    }
+}
+
+fn octets(id: u8, report: Report) -> [u8; 28]
+    requires { ⌜ ReportBounds report ⌝ }
+    ensures { λ r. ⌜ r ≡ reportBody id report ⌝ }
+{
+    let address = three_of(report.address);
+    let position = position_of(report.latitude, report.longitude);
+    let height = height_of(report.altitude, report.miscellaneous);
+    let motion = motion_of(report.speed, report.vertical_rate, report.track);
+    [
+        id,
+        halves(report.alert, report.address_type),
+        address.high,
+        address.middle,
+        address.low,
+        position.latitude.high,
+        position.latitude.middle,
+        position.latitude.low,
+        position.longitude.high,
+        position.longitude.middle,
+        position.longitude.low,
+        height.high,
+        height.low,
+        halves(report.nic, report.nacp),
+        motion.high,
+        motion.upper,
+        motion.lower,
+        motion.low,
+        report.emitter,
+        report.callsign.c0,
+        report.callsign.c1,
+        report.callsign.c2,
+        report.callsign.c3,
+        report.callsign.c4,
+        report.callsign.c5,
+        report.callsign.c6,
+        report.callsign.c7,
+        halves(report.emergency, report.spare),
+    ]
+}
+
+fn write(id: u8, report: Report, output: &mut [u8]) -> Written
+    ensures { λ r. ⌜ Writes (reportFits report) (reportBody id report) (now (output .entry)) r (now (output .exit)) ⌝ }
+{
+    if !fits(report) {
+        return Written::Refused(13);
+    }
+    let body = octets(id, report);
+    message_answers::put(&body, output)
+}
+
+// Two writers rather than one that takes the ID: no other can then be written.
+pub fn write_ownship(report: Report, output: &mut [u8]) -> Written
+    ensures { λ r. ⌜ Writes (reportFits report) (reportBody 10 report) (now (output .entry)) r (now (output .exit)) ⌝ }
+{
+    write(10, report, output)
+}
+
+pub fn write_traffic(report: Report, output: &mut [u8]) -> Written
+    ensures { λ r. ⌜ Writes (reportFits report) (reportBody 20 report) (now (output .entry)) r (now (output .exit)) ⌝ }
+{
+    write(20, report, output)
+}

@@ -1,0 +1,37 @@
+-- `output::put` meets its contract, by its two answers. Assumes nothing.
+use mathlib.Core.Path.{sym, _∙_}
+use denote.Ref.{now}
+use lib.ListN.{length}
+use borrow.Author.Tests.{leb-true, leb-false, lt-ltb, le-ltb}
+use Rattle.message_answers.specs.Writes.{answerDue}
+use borrow.Author.Needs.{needs}
+use Rattle.message_answers.proofs.put.Statement.{statement}
+use Rattle.message_answers.proofs.put.Tie as tie
+
+store-requires : tie.Need-store-requires
+store-requires c κs = search needs
+
+same-length : tie.Need-same-length
+same-length c = search needs
+
+returns : tie.Need-returns
+unfolding answerDue
+returns c =
+    let e = c .before .before .before .store .ensures in
+    let a = c .before .before .before .before .before .before .before .args in
+    let room = leb-true (length (now (a .body))) (length (now (a .output))) (sym (e .0) ∙ c .if1 .taken) in
+    record { answers = rw (le-ltb _ _ room); leaves = rw (c .if1 .taken) at (e .1) }
+
+same-length-2 : tie.Need-same-length-2
+same-length-2 c = search needs
+
+returns-2 : tie.Need-returns-2
+unfolding answerDue
+returns-2 c =
+    let e = c .before .before .before .store .ensures in
+    let a = c .before .before .before .before .before .before .before .args in
+    let short = leb-false (length (now (a .body))) (length (now (a .output))) (sym (e .0) ∙ c .if1 .left) in
+    record { answers = rw (lt-ltb _ _ short); leaves = rw (c .if1 .left) at (e .1) }
+
+pub put-spec : {M : Type 1} → statement M
+put-spec = tie.close (tie.spec store-requires same-length returns same-length-2 returns-2)
