@@ -16,8 +16,9 @@ use Rattle.ucp_messages.specs.Bodies.{messageFits, messageBody}
 use Rattle.ucp_messages.specs.Kinds.{kindIn}
 use Rattle.demands.proofs.MessageRefusals.{tabled-message, message-refused, mavlink-refused, tabled-mavlink}
 use Rattle.frame_room.proofs.Due.{refused-so, refused-7, refused-8, due-accepted}
-use Rattle.receiver.specs.Step as Step
-use Rattle.receiver.specs.Step.{nothing, refusal, told, answerDue}
+use Rattle.closing_flag.specs.Answers as receiver-answers
+use Rattle.closing_flag.specs.Answers.{nothing, refusal, told}
+use Rattle.receiver.specs.Step.{answerDue}
 use Rattle.check_strength.proofs.Caught.{strength}
 use Rattle.writer_history.proofs.Calls.{writer-lists}
 use Rattle.receiver_history.specs.Line.{Line}
@@ -30,14 +31,14 @@ use Rattle.demands.proofs.Refusals.{Tabled, quiet, numbered, whole, tab
 -- ---- one call of the receiver
 
 told-refusal : (v : Verdict) (n : ℕ) (output : List ℕ) → Tabled v → told v ≡ refusal n
-    → (1 ≤ n) × (n ≤ 6) × (Step.outputAfter v output ≡ output)
+    → (1 ≤ n) × (n ≤ 6) × (receiver-answers.outputAfter v output ≡ output)
 told-refusal _ n output quiet e = let z : _≡_ {A = ℕ} 0 1 = cc in absurd (omega arith)
 told-refusal _ n output (numbered m least most) e =
     let same : m ≡ n = cc in
     (omega arith, omega arith, refl)
 told-refusal _ n output (whole octets) e = let z : _≡_ {A = ℕ} 0 1 = cc in absurd (omega arith)
 
-told-nothing : (v : Verdict) (output : List ℕ) → told v ≡ nothing → Step.outputAfter v output ≡ output
+told-nothing : (v : Verdict) (output : List ℕ) → told v ≡ nothing → receiver-answers.outputAfter v output ≡ output
 told-nothing silent output e = refl
 told-nothing (refused n) output e = let z : _≡_ {A = ℕ} 0 1 = cc in absurd (omega arith)
 told-nothing (delivered octets) output e = let z : _≡_ {A = ℕ} 0 1 = cc in absurd (omega arith)

@@ -21,10 +21,11 @@ use Rattle.mavlink_round_trips.specs.RoundTrips as mavlink-trips
 use Rattle.message_delivery.specs.Delivery.{SentIsDelivered}
 use Rattle.message_round_trips.specs.RoundTrips as message-trips
 use Rattle.receiver.specs.declared.Rest.{Rest}
-use Rattle.receiver.specs.declared.Counts.{Counts}
+use Rattle.byte_account.specs.declared.Counts.{Counts}
 use Rattle.receiver.specs.declared.Received.{Received}
-use Rattle.receiver.specs.Step as Step
-use Rattle.receiver.specs.Step.{nothing, refusal, Receives}
+use Rattle.closing_flag.specs.Answers as receiver-answers
+use Rattle.closing_flag.specs.Answers.{nothing, refusal}
+use Rattle.receiver.specs.Step.{Receives}
 use Rattle.line_history.specs.History.{answer}
 use Rattle.check_strength.specs.Strength.{TwoBodies, AtMostThreeBits, Within16Bits, Strength}
 use Rattle.ucp_messages.specs.declared.Message as ucp
@@ -74,12 +75,12 @@ pub record Demand1 : Type 0 where
       (rest : Rest) (counts : Counts) (store : List ℕ) (octet : ℕ) (output : List ℕ) (given : Received)
       (storeAfter outputThen : List ℕ) (number : ℕ)
       → Receives rest counts store octet output given storeAfter outputThen
-      → Step.answerOf (given .answer) ≡ refusal number → (1 ≤ number) × (number ≤ 6) × (outputThen ≡ output)
+      → receiver-answers.answerOf (given .answer) ≡ refusal number → (1 ≤ number) × (number ≤ 6) × (outputThen ≡ output)
   pub receiverIsSilent :
       (rest : Rest) (counts : Counts) (store : List ℕ) (octet : ℕ) (output : List ℕ) (given : Received)
       (storeAfter outputThen : List ℕ)
       → Receives rest counts store octet output given storeAfter outputThen
-      → Step.answerOf (given .answer) ≡ nothing → outputThen ≡ output
+      → receiver-answers.answerOf (given .answer) ≡ nothing → outputThen ≡ output
   pub flagClears : FlagClears
   pub storeClean : StoreClean
   pub laterOnly : LaterOnly
@@ -120,7 +121,7 @@ ReceiverLists =
     × ((before : List Observed) (last : Observed) → calls ≡ before ++ last ∷ []
     → (a b : List ℕ) → TwoBodies a b → 1 ≤ length a → length a ≤ longestBody → AtMostThreeBits a b ⊎ Within16Bits a b
     → EndsIn (carrying a b) (upTo before last)
-    → Step.answerOf (last .given .answer) ≡ refusal 5)
+    → receiver-answers.answerOf (last .given .answer) ≡ refusal 5)
 
 -- Demand 3. The check's strength, and with it the receiver's lists and the writer's.
 pub record Demand3 : Type 0 where

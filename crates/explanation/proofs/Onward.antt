@@ -7,9 +7,10 @@ use native.Mathlib.Numerals.{add-one}
 use lib.ListN.{length, drop}
 use Rattle.frame_format.specs.Stretch.{Verdict, silent, refused, delivered}
 use Rattle.receiver.specs.declared.Rest.{Rest}
-use Rattle.receiver.specs.declared.Counts.{Counts}
-use Rattle.receiver.specs.declared.Taken.{Taken}
-use Rattle.receiver.specs.Step.{State, Run, run, later, endAt, stateAfter, answerDue, countsAfter, Takes, stateOf}
+use Rattle.byte_account.specs.declared.Counts.{Counts}
+use Rattle.slice_receiver.specs.declared.Taken.{Taken}
+use Rattle.receiver.specs.Step.{State, stateAfter, answerDue, countsAfter, stateOf}
+use Rattle.slice_receiver.specs.Run.{Run, run, later, endAt, Takes}
 use Rattle.listing.specs.Listing.{bodyRoom}
 use Rattle.listing.specs.Lists.{behindAll}
 

@@ -7,12 +7,14 @@ use lib.ListN.{length, take, drop, length-append}
 use lib.Seq.{take-append-seam}
 use Rattle.frame_format.specs.Stretch.{Verdict, silent, refused, delivered}
 use Rattle.receiver.specs.declared.Rest.{Rest}
-use Rattle.receiver.specs.declared.Counts.{Counts}
-use Rattle.receiver.specs.declared.Taken.{Taken}
-use Rattle.receiver.specs.declared.Answer.{Answer}
-use Rattle.receiver.specs.declared.Answer.the-variants.{Nothing, Delivered, Refused}
-use Rattle.receiver.specs.Parts.{verdictOf}
-use Rattle.receiver.specs.Step.{Told, nothing, refusal, body, answerOf, told, outputAfter, Takes, Run, run, stateOf}
+use Rattle.byte_account.specs.declared.Counts.{Counts}
+use Rattle.slice_receiver.specs.declared.Taken.{Taken}
+use Rattle.closing_flag.specs.declared.Answer.{Answer}
+use Rattle.closing_flag.specs.declared.Answer.the-variants.{Nothing, Delivered, Refused}
+use Rattle.closing_flag.specs.Answers.{verdictOf}
+use Rattle.closing_flag.specs.Answers.{Told, nothing, refusal, body, answerOf, told, outputAfter}
+use Rattle.receiver.specs.Step.{stateOf}
+use Rattle.slice_receiver.specs.Run.{Takes, Run, run}
 use Rattle.listing.specs.Listing.{bodyRoom}
 use Rattle.explanation.proofs.Longest.{BodyFits}
 

@@ -5,8 +5,9 @@ use Prim.Native.Nat.{ℕ, _≤_}
 use lib.ListN.{length}
 use Rattle.frame_writer.specs.Puts.{Puts}
 use Rattle.receiver.specs.declared.Rest.{Rest}
-use Rattle.receiver.specs.declared.Counts.{Counts}
-use Rattle.receiver.specs.Step.{Takes, stateOf, run}
+use Rattle.byte_account.specs.declared.Counts.{Counts}
+use Rattle.receiver.specs.Step.{stateOf}
+use Rattle.slice_receiver.specs.Run.{Takes, run}
 use Rattle.listing.specs.Listing.{bodyRoom}
 use Rattle.explanation.specs.declared.Explained.{Explained}
 use Rattle.explanation.specs.Explanation.{explanation}

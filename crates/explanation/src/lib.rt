@@ -3,15 +3,15 @@ mod kinds;
 mod text;
 mod values;
 
-use receiver::Answer;
-use receiver::Counts;
+use byte_account::Counts;
+use closing_flag::Answer;
 use receiver::Rest;
-use receiver::Taken;
+use slice_receiver::Taken;
 use ucp_messages::Message;
 use ucp_messages::Read;
 ghost use mathlib.Core.Path.{_≡_};
 ghost use lib.ListN.{length};
-ghost use Rattle.receiver.specs.Parts.{verdictOf};
+ghost use Rattle.closing_flag.specs.Answers.{verdictOf};
 ghost use Rattle.listing.specs.Listing.{bodyRoom};
 ghost use Rattle.listing.specs.Parts.{Fitting};
 ghost use Rattle.frame_format.specs.Stretch.{refused};
@@ -140,7 +140,7 @@ pub fn explain_next(
 ) -> Explained
     ensures { λ r. ⌜ Explains rest counts (now (store .entry)) (now (room .entry)) (now (line .entry)) (now (text .entry)) r (now (store .exit)) (now (room .exit)) (now (text .exit)) ⌝ }
 {
-    let taken = receiver::receive_slice(rest, counts, store, line, room);
+    let taken = slice_receiver::receive_slice(rest, counts, store, line, room);
     let answer = taken.answer;
     let written = put_answer(text, answer, room);
     Explained {

@@ -6,7 +6,7 @@
 ghost use Rattle.receiver.specs.Step.{stateOf};
 ghost use Rattle.listing.specs.Lists.{behindAll};
 ghost use Rattle.standard_streams.specs.Blocks.{Leaves, Zeroed};
-use receiver::Counts;
+use byte_account::Counts;
 use receiver::Rest;
 use standard_streams::Got;
 use standard_streams::Input;
@@ -82,7 +82,7 @@ fn explain_input(
     text: &mut [u8; 1536],
 ) -> bool {
     let mut rest = receiver::fresh_rest();
-    let mut counts = receiver::zero_counts();
+    let mut counts = byte_account::zero_counts();
     let mut turns = u64::MAX;
     while turns > 0 {
         let progress = explain_more(rest, counts, store, room, block, text);

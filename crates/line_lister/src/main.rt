@@ -10,7 +10,7 @@ ghost use Rattle.listing.specs.Listing.{longestLine};
 ghost use Rattle.receiver.specs.Step.{stateOf};
 ghost use Rattle.listing.specs.Lists.{behindAll};
 ghost use Rattle.standard_streams.specs.Blocks.{Leaves};
-use receiver::Counts;
+use byte_account::Counts;
 use receiver::Rest;
 use standard_streams::Got;
 use standard_streams::Input;
@@ -90,7 +90,7 @@ fn list_input(
     requires { ⌜ longestLine ≤ length (now text) ⌝ }
 {
     let mut rest = receiver::fresh_rest();
-    let mut counts = receiver::zero_counts();
+    let mut counts = byte_account::zero_counts();
     let mut turns = u64::MAX;
     while turns > 0 {
         let progress = list_next(rest, counts, store, room, block, text);

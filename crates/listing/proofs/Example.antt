@@ -3,7 +3,8 @@ use mathlib.Core.Path.{_≡_, refl}
 use mathlib.Core.List.{List, [], _∷_, _++_}
 use Prim.Native.Nat.{ℕ}
 use lib.ListN.{replicate}
-use Rattle.receiver.specs.Step.{fresh, zeroCounts, stateAfter, answerDue, countsAfter, storing}
+use Rattle.byte_account.specs.Account.{zeroCounts}
+use Rattle.receiver.specs.Step.{fresh, stateAfter, answerDue, countsAfter, storing}
 use Rattle.frame_format.specs.Stretch.{atFlag}
 use Rattle.binary_polynomial.specs.Bits.{bits, bitsOf}
 use Rattle.binary_polynomial.specs.Division.{divided, step, reduced}

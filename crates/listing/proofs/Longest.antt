@@ -3,7 +3,7 @@ use mathlib.Core.List.{List}
 use Prim.Native.Nat.{ℕ, _+_, _^_, _<_, _≤_}
 use native.Mathlib.Omega.{arith}
 use lib.ListN.{length, length-append}
-use Rattle.receiver.specs.declared.Counts.{Counts}
+use Rattle.byte_account.specs.declared.Counts.{Counts}
 use Rattle.listing.specs.Listing.{okLine, noLine, bodyRoom, longestLine, counted, closingLine, longestClosing, bytesReceived, bytesWord, flagsWord, deliveredWord, refusedWord, skippedWord, openWord}
 use Rattle.listing.proofs.Decimal.{decimal-length}
 use Rattle.listing.proofs.Octets.{octets-length}

@@ -12,11 +12,13 @@ use Rattle.frame_format.specs.Stretch.{Verdict, silent, refused, delivered}
 use Rattle.frame_writer.specs.Puts.{Puts}
 use Rattle.frame_writer.proofs.ToPut.{all-to-put, first-put, last-put}
 use Rattle.receiver.specs.declared.Rest.{Rest}
-use Rattle.receiver.specs.declared.Counts.{Counts}
-use Rattle.receiver.specs.declared.Answer.{Answer}
-use Rattle.receiver.specs.declared.Answer.the-variants.{Nothing, Delivered, Refused}
-use Rattle.receiver.specs.declared.Taken.{Taken}
-use Rattle.receiver.specs.Step.{State, Run, run, later, endAt, stateAfter, answerDue, countsAfter, outputAfter, Told, answerOf, told, Takes, stateOf}
+use Rattle.byte_account.specs.declared.Counts.{Counts}
+use Rattle.closing_flag.specs.declared.Answer.{Answer}
+use Rattle.closing_flag.specs.declared.Answer.the-variants.{Nothing, Delivered, Refused}
+use Rattle.slice_receiver.specs.declared.Taken.{Taken}
+use Rattle.closing_flag.specs.Answers.{outputAfter, Told, answerOf, told}
+use Rattle.receiver.specs.Step.{State, stateAfter, answerDue, countsAfter, stateOf}
+use Rattle.slice_receiver.specs.Run.{Run, run, later, endAt, Takes}
 use Rattle.listing.specs.declared.Listed.{Listed}
 use Rattle.listing.specs.Listing.{lineOf, okLine, bodyRoom, longestLine}
 use Rattle.listing.specs.Lists.{Lines, behind, noLines, lines, Lists}

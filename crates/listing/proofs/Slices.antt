@@ -10,8 +10,9 @@ use lib.Dec.{ltb}
 use lib.ListN.{length, drop}
 use borrow.Author.Tests.{le-ltb}
 use Rattle.receiver.specs.declared.Rest.{Rest}
-use Rattle.receiver.specs.declared.Counts.{Counts}
-use Rattle.receiver.specs.Step.{State, stateAfter, countsAfter, answerDue, outputAfter, stateOf}
+use Rattle.byte_account.specs.declared.Counts.{Counts}
+use Rattle.closing_flag.specs.Answers.{outputAfter}
+use Rattle.receiver.specs.Step.{State, stateAfter, countsAfter, answerDue, stateOf}
 use Rattle.listing.specs.declared.Listed.{Listed}
 use Rattle.listing.specs.Listing.{lineOf, bodyRoom, longestLine}
 use Rattle.listing.specs.Lists.{Lines, behind, noLines, lines, Lists, behindAll, everyLine}

@@ -5,7 +5,7 @@ use Prim.Native.Nat.{ℕ, zero, suc, _+_, _-_, _/_, _%_, _^_}
 use lib.Dec.{ltb}
 use lib.ListN.{length}
 use Rattle.frame_format.specs.Stretch.{Verdict, silent, refused, delivered}
-use Rattle.receiver.specs.declared.Counts.{Counts}
+use Rattle.byte_account.specs.declared.Counts.{Counts}
 
 -- ---- numbers
 

@@ -7,8 +7,9 @@ use lib.Dec.{ltb, leb}
 use lib.ListN.{length}
 use Rattle.frame_writer.specs.Puts.{Puts}
 use Rattle.receiver.specs.declared.Rest.{Rest}
-use Rattle.receiver.specs.declared.Counts.{Counts}
-use Rattle.receiver.specs.Step.{State, stateOf, stateAfter, answerDue, countsAfter, outputAfter}
+use Rattle.byte_account.specs.declared.Counts.{Counts}
+use Rattle.closing_flag.specs.Answers.{outputAfter}
+use Rattle.receiver.specs.Step.{State, stateOf, stateAfter, answerDue, countsAfter}
 use Rattle.listing.specs.Parts.{PutsLine}
 use Rattle.listing.specs.declared.Listed.{Listed}
 use Rattle.listing.specs.Listing.{lineOf, bodyRoom, longestLine, closingLine, longestClosing}

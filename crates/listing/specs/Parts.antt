@@ -3,9 +3,9 @@ use mathlib.Core.List.{List, []}
 use Prim.Native.Nat.{ℕ, _≤_}
 use lib.ListN.{length, take}
 use Rattle.frame_writer.specs.Puts.{Puts}
-use Rattle.receiver.specs.declared.Answer.{Answer}
-use Rattle.receiver.specs.declared.Answer.the-variants.{Nothing, Delivered, Refused}
-use Rattle.receiver.specs.Step.{Told, nothing, refusal, body}
+use Rattle.closing_flag.specs.declared.Answer.{Answer}
+use Rattle.closing_flag.specs.declared.Answer.the-variants.{Nothing, Delivered, Refused}
+use Rattle.closing_flag.specs.Answers.{Told, nothing, refusal, body}
 use Rattle.listing.specs.Listing.{okLine, noLine}
 
 -- the line of an answer as the receiver tells it, a body by its length and where it stands

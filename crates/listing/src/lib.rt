@@ -4,12 +4,12 @@ ghost use mathlib.Core.List.{[], _∷_};
 ghost use Prim.Native.Nat.{_+_, _<_, _≤_};
 ghost use lib.ListN.{length};
 ghost use Rattle.frame_writer.specs.Puts.{Puts};
-ghost use Rattle.receiver.specs.Step.{answerOf};
+ghost use Rattle.closing_flag.specs.Answers.{answerOf};
 ghost use Rattle.listing.specs.Listing.{bodyRoom, longestLine, decimal, hexDigit, hexOctets, newline, okLine, noLine, counted, bytesReceived, closingLine};
 ghost use Rattle.listing.specs.Lists.{Lists, Closes};
 ghost use Rattle.listing.specs.Parts.{Fitting, PutsLine, lineTold};
-use receiver::Answer;
-use receiver::Counts;
+use byte_account::Counts;
+use closing_flag::Answer;
 use receiver::Rest;
 
 // ---- numbers
@@ -129,7 +129,7 @@ pub fn list_some(
         if text.len() - at < 1317 {
             break;
         }
-        let t = receiver::receive_slice(rest, counts, store, &line[taken..], room);
+        let t = slice_receiver::receive_slice(rest, counts, store, &line[taken..], room);
         rest = t.rest;
         counts = t.counts;
         taken += t.taken;

@@ -7,10 +7,11 @@ use lib.ListN.{length, getD, set}
 use Rattle.receiver.specs.declared.Phase.{Phase}
 use Rattle.receiver.specs.declared.Phase.the-variants.{Hunting, Reading, Escape, BadEscape, TooLong}
 use Rattle.receiver.specs.declared.Rest.{Rest}
-use Rattle.receiver.specs.declared.Counts.{Counts}
-use Rattle.receiver.specs.declared.Answer.{Answer}
-use Rattle.receiver.specs.declared.Answer.the-variants.{Nothing, Delivered, Refused}
-use Rattle.receiver.specs.Step.{Receives, Takes}
+use Rattle.byte_account.specs.declared.Counts.{Counts}
+use Rattle.closing_flag.specs.declared.Answer.{Answer}
+use Rattle.closing_flag.specs.declared.Answer.the-variants.{Nothing, Delivered, Refused}
+use Rattle.receiver.specs.Step.{Receives}
+use Rattle.slice_receiver.specs.Run.{Takes}
 use Rattle.ostrogosz_receiver.specs.Numbers.{phaseOf, phaseNumber, restIn, countsIn, lineOf, answerIn, kindOf, valueOf, Written, ReceivesNumbers, TakesNumbers}
 
 pub phase-back : (p : Phase) → phaseOf (phaseNumber p) ≡ p

@@ -12,9 +12,10 @@ use Rattle.frame_format.specs.Stuffing.{flag, escape}
 use Rattle.frame_format.specs.Stretch.{storeOctets}
 use Rattle.receiver.specs.declared.Phase.{Phase}
 use Rattle.receiver.specs.declared.Phase.the-variants.{Reading, BadEscape, TooLong}
-use Rattle.receiver.specs.declared.Counts.{Counts}
-use Rattle.receiver.specs.declared.Answer.the-variants.{Nothing}
-use Rattle.receiver.specs.Step.{State, storing, advancedIn, stateAfter, answerDue, plus, countedOpen, countedOctet, countsAfter}
+use Rattle.byte_account.specs.declared.Counts.{Counts}
+use Rattle.closing_flag.specs.declared.Answer.the-variants.{Nothing}
+use Rattle.byte_account.specs.Account.{plus, countedOpen}
+use Rattle.receiver.specs.Step.{State, storing, advancedIn, stateAfter, answerDue, countedOctet, countsAfter}
 use Rattle.ostrogosz_receiver.specs.Numbers.{phaseOf, phaseNumber, countsIn, ReceivesNumbers}
 use Rattle.ostrogosz_receiver.proofs.Numbers.{phase-back, receives, seven}
 

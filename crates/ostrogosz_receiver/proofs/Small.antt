@@ -12,12 +12,14 @@ use Rattle.frame_format.specs.Stuffing.{flag, escape}
 use Rattle.frame_format.specs.Stretch.{Verdict, silent, refused, delivered, storeOctets, atFlag, bodyOf, checkSent}
 use Rattle.receiver.specs.declared.Phase.{Phase}
 use Rattle.receiver.specs.declared.Phase.the-variants.{Hunting, Reading, Escape, BadEscape, TooLong}
-use Rattle.receiver.specs.declared.Counts.{Counts}
-use Rattle.receiver.specs.declared.Answer.{Answer}
-use Rattle.receiver.specs.declared.Answer.the-variants.{Nothing, Delivered, Refused}
+use Rattle.byte_account.specs.declared.Counts.{Counts}
+use Rattle.closing_flag.specs.declared.Answer.{Answer}
+use Rattle.closing_flag.specs.declared.Answer.the-variants.{Nothing, Delivered, Refused}
 use Rattle.receiver.specs.declared.Received.{Received}
-use Rattle.receiver.specs.declared.Taken.{Taken}
-use Rattle.receiver.specs.Step.{State, storing, advancedIn, closedIn, stateAfter, answerDue, countsAfter, Told, nothing, refusal, body, answerOf, told, Run, run, endAt, countedOctet, Receives, Takes}
+use Rattle.slice_receiver.specs.declared.Taken.{Taken}
+use Rattle.closing_flag.specs.Answers.{Told, nothing, refusal, body, answerOf, told}
+use Rattle.receiver.specs.Step.{State, storing, advancedIn, closedIn, stateAfter, answerDue, countsAfter, countedOctet, Receives}
+use Rattle.slice_receiver.specs.Run.{Run, run, endAt, Takes}
 use Rattle.ostrogosz_receiver.specs.Numbers.{restIn, countsIn, valueOf, Fitting, FittingSlice}
 
 by-test : {A : Type 0} (P : A → Type 0) (b : Bool) {x y : A} → (b ≡ true → P x) → (b ≡ false → P y) → P (cond b x y)

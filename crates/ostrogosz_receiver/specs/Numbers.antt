@@ -8,12 +8,13 @@ use lib.ListN.{getD}
 use Rattle.receiver.specs.declared.Phase.{Phase}
 use Rattle.receiver.specs.declared.Phase.the-variants.{Hunting, Reading, Escape, BadEscape, TooLong}
 use Rattle.receiver.specs.declared.Rest.{Rest}
-use Rattle.receiver.specs.declared.Counts.{Counts}
-use Rattle.receiver.specs.declared.Answer.{Answer}
-use Rattle.receiver.specs.declared.Answer.the-variants.{Nothing, Delivered, Refused}
+use Rattle.byte_account.specs.declared.Counts.{Counts}
+use Rattle.closing_flag.specs.declared.Answer.{Answer}
+use Rattle.closing_flag.specs.declared.Answer.the-variants.{Nothing, Delivered, Refused}
 use Rattle.receiver.specs.declared.Received.{Received}
-use Rattle.receiver.specs.declared.Taken.{Taken}
-use Rattle.receiver.specs.Step.{Receives, Takes}
+use Rattle.slice_receiver.specs.declared.Taken.{Taken}
+use Rattle.receiver.specs.Step.{Receives}
+use Rattle.slice_receiver.specs.Run.{Takes}
 
 -- ---- a phase: 0 hunting, 1 reading, 2 escape, 3 bad escape, 4 and every other number too long
 

@@ -4,14 +4,15 @@ ghost use mathlib.Core.Path.{_≡_};
 ghost use mathlib.Core.List.{List};
 ghost use Prim.Native.Nat.{ℕ, _<_, _^_};
 ghost use lib.ListN.{length, getD};
-ghost use Rattle.receiver.specs.Step.{freshRest, zeroCounts, noOctets};
+ghost use Rattle.byte_account.specs.Account.{zeroCounts};
+ghost use Rattle.receiver.specs.Step.{freshRest, noOctets};
 ghost use Rattle.ostrogosz_receiver.specs.Numbers.{phaseOf, phaseNumber, restIn, countsIn, lineOf, kindOf, valueOf, Fitting, FittingSlice, ReceivesNumbers, TakesNumbers};
-use receiver::Answer;
-use receiver::Counts;
+use byte_account::Counts;
+use closing_flag::Answer;
 use receiver::Phase;
 use receiver::Received;
 use receiver::Rest;
-use receiver::Taken;
+use slice_receiver::Taken;
 
 // kind: 0 nothing, 1 delivered, 2 refused. value: how many octets were delivered, or the refusal's number.
 #[repr(C)]
@@ -146,7 +147,7 @@ pub extern "C" fn ostrogosz_receiver_start(store: &mut [u8; 438], line: &mut [u3
     ensures { λ r. ⌜ (now (store .exit) ≡ noOctets) × (now (line .exit) ≡ lineOf freshRest zeroCounts) ⌝ }
 {
     *store = [0; 438];
-    put_line(line, receiver::fresh_rest(), receiver::zero_counts());
+    put_line(line, receiver::fresh_rest(), byte_account::zero_counts());
 }
 
 // The call on the record that the line stands for.
@@ -247,7 +248,7 @@ pub extern "C" fn ostrogosz_receive(
 fn taken_by(store: &mut [u8; 438], line: &[u32; 7], octets: &[u8], output: &mut [u8]) -> Taken
     ensures { λ r. ⌜ FittingSlice (now (store .entry)) (now (line .entry)) (now (octets .entry)) (now (output .entry)) r (now (store .exit)) (now (output .exit)) ⌝ }
 {
-    receiver::receive_slice(rest_in(line), counts_in(line), store, octets, output)
+    slice_receiver::receive_slice(rest_in(line), counts_in(line), store, octets, output)
 }
 
 // Octets of the line up to and including the one that brings the next answer.

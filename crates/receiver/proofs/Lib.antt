@@ -1,4 +1,1 @@
-pub mod Account
-pub mod Copy
-pub mod Flag
-pub mod Slice
+pub mod Other

@@ -13,8 +13,9 @@ use Rattle.frame_format.specs.Unstuffing.{Ending, whole, escapeLast, badEscape,
 use Rattle.frame_format.specs.Stretch.{Verdict, silent, refused, delivered, storeOctets}
 use Rattle.line_history.specs.History.{Call, Segment, cut, closing, ifDelivered, ifRefused, overClosed, sinceLast, Account, account}
 use Rattle.receiver.specs.declared.Phase.the-variants.{Hunting, TooLong}
-use Rattle.receiver.specs.declared.Counts.{Counts}
-use Rattle.receiver.specs.Step.{State, countedFlag, countedOctet, countedOpen, countsAfter}
+use Rattle.byte_account.specs.declared.Counts.{Counts}
+use Rattle.byte_account.specs.Account.{countedFlag, countedOpen}
+use Rattle.receiver.specs.Step.{State, countedOctet, countsAfter}
 use Rattle.receiver_history.proofs.Reached.{holding, phaseAt, reached}
 use Rattle.receiver_history.proofs.Cut.{segment, flags-flag, hunted-flag, flags-octet, hunted-octet, read-more, hunted-more, since-last, closed-same, closed-more}
 use Rattle.receiver_history.proofs.Stands.{Stands, hunts, reads, stands-closed}

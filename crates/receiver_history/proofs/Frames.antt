@@ -19,8 +19,10 @@ use Rattle.frame_format.proofs.Frame.{append-injective}
 use Rattle.frame_format.proofs.Unstuffing.{octets-cons}
 use Rattle.line_history.specs.History.{Call, Segment, closing, answer}
 use Rattle.receiver.specs.declared.Rest.{Rest}
-use Rattle.receiver.specs.declared.Counts.{Counts}
-use Rattle.receiver.specs.Step.{noOctets, freshRest, zeroCounts, body, told, outputAfter}
+use Rattle.byte_account.specs.declared.Counts.{Counts}
+use Rattle.closing_flag.specs.Answers.{body, told, outputAfter}
+use Rattle.byte_account.specs.Account.{zeroCounts}
+use Rattle.receiver.specs.Step.{noOctets, freshRest}
 use Rattle.receiver_history.specs.Line.{Observed, callOf, Runs}
 use Rattle.receiver_history.specs.Promises.{AnswersAs, EndsIn, BodyLength, DeliveredIsFrame, FrameIsDelivered, frameAnswer, PutOutIsFrame, FrameIsPutOut, carrying, WrongCheckRefused}
 use Rattle.receiver_history.proofs.Stretch.{delivered-answers, carried, is-frame}

@@ -11,8 +11,9 @@ use Rattle.frame_format.specs.Stuffing.{flag}
 use Rattle.frame_format.specs.Stretch.{Verdict, silent, refused, delivered}
 use Rattle.line_history.specs.History.{Call, cut, answer, overClosed, sinceLast, Account, account}
 use Rattle.receiver.specs.declared.Rest.{Rest}
-use Rattle.receiver.specs.declared.Counts.{Counts}
-use Rattle.receiver.specs.Step.{State, afterFlag, stateAfter, answerDue, countsAfter, Told, told, outputAfter}
+use Rattle.byte_account.specs.declared.Counts.{Counts}
+use Rattle.closing_flag.specs.Answers.{Told, told, outputAfter}
+use Rattle.receiver.specs.Step.{State, afterFlag, stateAfter, answerDue, countsAfter}
 use Rattle.receiver_history.specs.Line.{Observed, callOf, upTo, Meets, Runs, Line}
 use Rattle.receiver_history.specs.Promises.{AnswersByHistory, CountsByHistory, EveryOctetCounted, StoreClean, FlagClears, putOut, Seen, seen, LaterOnly}
 use Rattle.receiver_history.proofs.Cut.{account-sum}

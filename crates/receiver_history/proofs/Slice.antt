@@ -8,10 +8,13 @@ use lib.ListN.{length, take, getD, length-replicate}
 use Rattle.binary_polynomial.specs.Bits.{Octets}
 use Rattle.frame_format.specs.Stretch.{Verdict, silent, refused, delivered}
 use Rattle.receiver.specs.declared.Rest.{Rest}
-use Rattle.receiver.specs.declared.Counts.{Counts}
-use Rattle.receiver.specs.declared.Answer.{Answer}
-use Rattle.receiver.specs.declared.Answer.the-variants.{Nothing, Delivered, Refused}
-use Rattle.receiver.specs.Step.{State, noOctets, freshRest, zeroCounts, stateAfter, answerDue, countsAfter, Told, nothing, refusal, body, answerOf, told, outputAfter, Run, later, endAt, run}
+use Rattle.byte_account.specs.declared.Counts.{Counts}
+use Rattle.closing_flag.specs.declared.Answer.{Answer}
+use Rattle.closing_flag.specs.declared.Answer.the-variants.{Nothing, Delivered, Refused}
+use Rattle.closing_flag.specs.Answers.{Told, nothing, refusal, body, answerOf, told, outputAfter}
+use Rattle.byte_account.specs.Account.{zeroCounts}
+use Rattle.receiver.specs.Step.{State, noOctets, freshRest, stateAfter, answerDue, countsAfter}
+use Rattle.slice_receiver.specs.Run.{Run, later, endAt, run}
 use Rattle.receiver_history.specs.Line.{Observed, Meets, Runs, Line}
 use Rattle.receiver_history.specs.Slice.{answersOver, lastOf, TakenAs, SliceIsOctets, ObservedSlice, roomsOf, Held, recordAfter, outputLast, Lent, AnswersLast, CallsOf, SliceRuns, SlicesRun, CallsUpTo, LineOfSlices, SliceIsCall}
 use Rattle.receiver_history.proofs.Stretch.{refused-answers, delivered-answers}

@@ -5,9 +5,10 @@ use Prim.Native.Nat.{ℕ, _<_}
 use lib.ListN.{length}
 use Rattle.line_history.specs.History.{Call}
 use Rattle.receiver.specs.declared.Rest.{Rest}
-use Rattle.receiver.specs.declared.Counts.{Counts}
+use Rattle.byte_account.specs.declared.Counts.{Counts}
 use Rattle.receiver.specs.declared.Received.{Received}
-use Rattle.receiver.specs.Step.{noOctets, freshRest, zeroCounts, Receives}
+use Rattle.byte_account.specs.Account.{zeroCounts}
+use Rattle.receiver.specs.Step.{noOctets, freshRest, Receives}
 
 -- one call: the octet and the output as at entry; what is given back, the store and the output as at return
 pub record Observed : Type 0 where

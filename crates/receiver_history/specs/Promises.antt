@@ -13,9 +13,10 @@ use Rattle.frame_format.specs.Frame.{frame, longestBody}
 use Rattle.frame_format.specs.Stretch.{Verdict, silent, refused, delivered, storeOctets, verdict}
 use Rattle.line_history.specs.History.{Call, answer, Account, account}
 use Rattle.receiver.specs.declared.Rest.{Rest}
-use Rattle.receiver.specs.declared.Counts.{Counts}
+use Rattle.byte_account.specs.declared.Counts.{Counts}
 use Rattle.receiver.specs.declared.Received.{Received}
-use Rattle.receiver.specs.Step.{noOctets, flagRest, Told, nothing, refusal, body, answerOf, told, outputAfter, Receives}
+use Rattle.closing_flag.specs.Answers.{Told, nothing, refusal, body, answerOf, told, outputAfter}
+use Rattle.receiver.specs.Step.{noOctets, flagRest, Receives}
 use Rattle.receiver_history.specs.Line.{Observed, callOf, upTo, Line}
 
 -- ---- the answers (document 01, "The receiver, byte by byte" and the table's rows 1 to 6)

@@ -7,9 +7,12 @@ use lib.ListN.{length, take, getD, replicate}
 use Rattle.binary_polynomial.specs.Bits.{Octets}
 use Rattle.frame_format.specs.Stretch.{Verdict, silent}
 use Rattle.receiver.specs.declared.Rest.{Rest}
-use Rattle.receiver.specs.declared.Counts.{Counts}
-use Rattle.receiver.specs.declared.Taken.{Taken}
-use Rattle.receiver.specs.Step.{State, noOctets, freshRest, zeroCounts, stateAfter, answerDue, countsAfter, Told, nothing, answerOf, Run, run, Takes}
+use Rattle.byte_account.specs.declared.Counts.{Counts}
+use Rattle.slice_receiver.specs.declared.Taken.{Taken}
+use Rattle.closing_flag.specs.Answers.{Told, nothing, answerOf}
+use Rattle.byte_account.specs.Account.{zeroCounts}
+use Rattle.receiver.specs.Step.{State, noOctets, freshRest, stateAfter, answerDue, countsAfter}
+use Rattle.slice_receiver.specs.Run.{Run, run, Takes}
 use Rattle.receiver_history.specs.Line.{Observed, Runs, Line}
 
 -- the record, its counts and the answers after a call for each of these octets

@@ -3,7 +3,7 @@ use mathlib.Core.Path.{_≡_}
 use mathlib.Core.List.{List}
 use Prim.Native.Nat.{ℕ, _≤_}
 use lib.ListN.{length, replicate}
-use Rattle.receiver.specs.declared.Counts.{Counts}
+use Rattle.byte_account.specs.declared.Counts.{Counts}
 use Rattle.receiver.specs.Step.{State}
 use Rattle.listing.specs.Lists.{Behind, Closes}
 use Rattle.standard_streams.specs.declared.Got.{Got}

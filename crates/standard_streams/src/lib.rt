@@ -2,9 +2,9 @@
 // read and written no contract can say; each is safe, ends, and fixes what it can.
 ghost use lib.ListN.{length};
 ghost use Rattle.standard_streams.specs.Blocks.{Closed, Zeroed, Within};
+use byte_account::Counts;
 use libc::STDIN_FILENO;
 use libc::STDOUT_FILENO;
-use receiver::Counts;
 use receiver::Rest;
 
 // How far the input is told.

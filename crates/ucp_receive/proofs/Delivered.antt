@@ -6,7 +6,7 @@ use native.Mathlib.Omega.{arith}
 use lib.ListN.{length, take, drop, length-append}
 use lib.Seq.{take-at}
 use Rattle.frame_format.specs.Stretch.{Verdict, silent, refused, delivered}
-use Rattle.receiver.specs.Step.{nothing, refusal as told-refusal, body, told, outputAfter}
+use Rattle.closing_flag.specs.Answers.{nothing, refusal as told-refusal, body, told, outputAfter}
 use Rattle.ucp_messages.specs.Reads.{answerDue as messageDue}
 use Rattle.ucp_receive.specs.Hears.{none, refusal, heard, outcomeDue}
 

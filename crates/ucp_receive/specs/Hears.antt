@@ -5,8 +5,9 @@ use Prim.Native.Nat.{ℕ}
 use lib.ListN.{length}
 use Rattle.frame_format.specs.Stretch.{Verdict, silent, refused, delivered}
 use Rattle.receiver.specs.declared.Rest.{Rest}
-use Rattle.receiver.specs.declared.Counts.{Counts}
-use Rattle.receiver.specs.Step.{stateOf, stateAfter, countsAfter, answerDue, outputAfter}
+use Rattle.byte_account.specs.declared.Counts.{Counts}
+use Rattle.closing_flag.specs.Answers.{outputAfter}
+use Rattle.receiver.specs.Step.{stateOf, stateAfter, countsAfter, answerDue}
 use Rattle.ucp_messages.specs.Reads.{Answer, answerOf, answerDue as messageDue}
 use Rattle.ucp_receive.specs.declared.Event.{Event}
 use Rattle.ucp_receive.specs.declared.Event.the-variants.{Nothing, Delivered, Refused}

@@ -1,6 +1,6 @@
 // The line to typed messages in one call: the receiver by the octet, and what a delivered body means.
-use receiver::Answer;
-use receiver::Counts;
+use byte_account::Counts;
+use closing_flag::Answer;
 use receiver::Rest;
 use ucp_messages::Read;
 ghost use Rattle.ucp_receive.specs.Hears.{Hears};

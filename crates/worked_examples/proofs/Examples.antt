@@ -8,7 +8,8 @@ use Rattle.frame_format.specs.Frame.{frame}
 use Rattle.frame_format.specs.Unstuffing.{unstuffed}
 use Rattle.frame_format.specs.Stretch.{atFlag, judged, verdict}
 use Rattle.line_history.specs.History.{cut, closing, answer}
-use Rattle.receiver.specs.Step.{storing, stateAfter, answerDue, countsAfter, run}
+use Rattle.receiver.specs.Step.{storing, stateAfter, answerDue, countsAfter}
+use Rattle.slice_receiver.specs.Run.{run}
 use Rattle.check_strength.proofs.Limits.{four-bits-unseen}
 use Rattle.worked_examples.specs.Examples.{answersAfter, Examples, DataOctetBecomesFlag}
 

@@ -5,7 +5,9 @@ use Prim.Native.Nat.{ℕ}
 use Rattle.frame_format.specs.Frame.{frame}
 use Rattle.frame_format.specs.Stretch.{Verdict, silent, refused, delivered}
 use Rattle.line_history.specs.History.{Call, answer}
-use Rattle.receiver.specs.Step.{fresh, zeroCounts, run}
+use Rattle.byte_account.specs.Account.{zeroCounts}
+use Rattle.receiver.specs.Step.{fresh}
+use Rattle.slice_receiver.specs.Run.{run}
 use Rattle.check_strength.specs.Limits.{FourBitsUnseen}
 
 -- the answers of a line, those that are given, with 436 octets of room lent to each call

@@ -2,7 +2,8 @@
 use mathlib.Core.Path.{_∙_}
 use native.Mathlib.Omega.{arith}
 use Rattle.listing.proofs.Runs.{body-fits}
-use Rattle.receiver.specs.Step.{run, stateOf}
+use Rattle.receiver.specs.Step.{stateOf}
+use Rattle.slice_receiver.specs.Run.{run}
 use Rattle.listing.specs.Listing.{bodyRoom}
 use Rattle.explanation.proofs.Clipped.{all-put}
 use Rattle.explanation.proofs.Longest.{line-most}

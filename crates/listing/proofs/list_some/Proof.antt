@@ -6,7 +6,8 @@ use native.Mathlib.Omega.{arith}
 use denote.Ref.{now}
 use lib.ListN.{length, take, drop, length-drop}
 use lib.Seq.{take-all}
-use Rattle.receiver.specs.Step.{Takes, stateOf}
+use Rattle.receiver.specs.Step.{stateOf}
+use Rattle.slice_receiver.specs.Run.{Takes}
 use Rattle.listing.specs.Lists.{lines}
 use Rattle.listing.proofs.Whole.{same-long}
 use Rattle.listing.proofs.Runs.{SoFar, none-so-far, more-so-far, body-fits, takes-within, slice-ends, text-full, all-so-far}

@@ -1,13 +1,7 @@
--- `receiver::close` meets its contract: by the answer, what is put out. Assumes nothing.
-use Rattle.receiver.proofs.Flag.{closes, put-out}
-use mathlib.Core.Path.{_∙_}
-use denote.Ref.{now}
+-- `receiver::close` meets its contract, phase by phase. Assumes nothing.
 use borrow.Author.Needs.{needs}
 use Rattle.receiver.proofs.close.Statement.{statement}
 use Rattle.receiver.proofs.close.Tie as tie
-
-verdict-requires : tie.Need-verdict-requires
-verdict-requires c κs = search needs
 
 enum-told : tie.Need-enum-told
 enum-told c = search needs
@@ -15,38 +9,49 @@ enum-told c = search needs
 enum-told-2 : tie.Need-enum-told-2
 enum-told-2 c = search needs
 
-enum-known-answer : tie.Need-enum-known-answer
-enum-known-answer c = search needs
+close-stretch-requires : tie.Need-close-stretch-requires
+close-stretch-requires c κs = search needs
 
-deliver-requires : tie.Need-deliver-requires
-deliver-requires c κs = rw (c .before .before .before .answer .given .1) at (c .before .before .before .before .before .verdict .ensures .hasRoom)
+enum-told-3 : tie.Need-enum-told-3
+enum-told-3 c = search needs
+
+enum-told-4 : tie.Need-enum-told-4
+enum-told-4 c = search needs
+
+enum-told-5 : tie.Need-enum-told-5
+enum-told-5 c = search needs
 
 returns : tie.Need-returns
-returns c = closes _ _ _ _ _ (c .before .before .verdict .ensures) (rw (c .enum-told .given .1))
-
-returns-2 : tie.Need-returns-2
-returns-2 c = closes _ _ _ _ _ (c .before .before .verdict .ensures) (rw (c .enum-told2 .given .1))
+returns c = search needs
 
 same-length : tie.Need-same-length
 same-length c = search needs
 
+returns-2 : tie.Need-returns-2
+returns-2 c = rw (c .before .before .before .before .enum-told2 .given .1) (c .before .before .close-stretch .ensures)
+
 returns-3 : tie.Need-returns-3
-returns-3 c =
-    let a = c .before .before .before .before .before .before .before .before .before .before .args in
-    let answer = c .before .before .before .before .before .before .answer .given in
-    let j = rw (answer .1) at (c .before .before .before .before .before .before .before .before .verdict .ensures) in
-    closes _ _ _ _ _ j (c .before .before .deliver .ensures ∙ put-out _ (now (a .store)) (now (a .output)) (j .hasRoom .0))
+returns-3 c = search needs
+
+returns-4 : tie.Need-returns-4
+returns-4 c = search needs
+
+returns-5 : tie.Need-returns-5
+returns-5 c = search needs
 
 pub close-spec : {M : Type 1} → statement M
 close-spec =
     tie.close
     (tie.spec
-    verdict-requires
     enum-told
     enum-told-2
-    enum-known-answer
-    deliver-requires
+    close-stretch-requires
+    enum-told-3
+    enum-told-4
+    enum-told-5
     returns
-    returns-2
     same-length
-    returns-3)
+    returns-2
+    returns-3
+    returns-4
+    returns-5)

@@ -1,5 +1,6 @@
 -- `receiver::receive` meets its contract: the flag by `receive_flag`, any other octet by `receive_other`. Assumes nothing.
 use denote.Ref.{now}
+use Rattle.receiver.proofs.Other.{other-received}
 use borrow.Author.Needs.{needs}
 use Rattle.receiver.proofs.receive.Statement.{statement}
 use Rattle.receiver.proofs.receive.Tie as tie
@@ -17,7 +18,7 @@ returns : tie.Need-returns
 returns c = rw (c .before .before .before .before .before .if1 .taken) (c .before .before .receive-flag .ensures)
 
 returns-2 : tie.Need-returns-2
-returns-2 c = c .receive-other .ensures (now (c .before .before .before .before .args .output))
+returns-2 c = other-received (c .before .before .if1 .left) (c .receive-other .ensures) (now (c .before .before .before .before .args .output))
 
 pub receive-spec : {M : Type 1} → statement M
 receive-spec =

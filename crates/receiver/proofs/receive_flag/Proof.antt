@@ -2,7 +2,8 @@
 use mathlib.Core.Path.{refl, ap, _∙_}
 use denote.Ref.{now}
 use Rattle.frame_format.specs.Stretch.{Verdict}
-use Rattle.receiver.specs.Step.{stateAfter, countsAfter, answerDue, countedFlag}
+use Rattle.byte_account.specs.Account.{countedFlag}
+use Rattle.receiver.specs.Step.{stateAfter, countsAfter, answerDue}
 use borrow.Author.Needs.{needs}
 use Rattle.receiver.proofs.receive_flag.Statement.{statement}
 use Rattle.receiver.proofs.receive_flag.Tie as tie

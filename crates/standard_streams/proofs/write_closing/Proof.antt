@@ -8,7 +8,7 @@ use denote.Ref.{now}
 use lib.Dec.{leb}
 use lib.ListN.{length}
 use lib.Seq.{length-take-le}
-use Rattle.receiver.specs.declared.Counts.{Counts}
+use Rattle.byte_account.specs.declared.Counts.{Counts}
 use Rattle.listing.specs.Listing.{longestClosing}
 use Rattle.listing.specs.Lists.{ClosesIf, Closes}
 use borrow.Author.Needs.{needs}

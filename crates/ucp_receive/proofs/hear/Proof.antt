@@ -3,7 +3,8 @@ use mathlib.Core.Path.{sym, ap, _∙_}
 use denote.Ref.{now}
 use lib.ListN.{length}
 use lib.Seq.{length-take-le}
-use Rattle.receiver.specs.Step.{answerOf, answerDue}
+use Rattle.closing_flag.specs.Answers.{answerOf}
+use Rattle.receiver.specs.Step.{answerDue}
 use Rattle.ucp_receive.specs.Hears.{heard}
 use Rattle.ucp_receive.proofs.Delivered.{none-due, refusal-due, body-due}
 use borrow.Author.Needs.{needs}

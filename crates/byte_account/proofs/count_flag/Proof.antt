@@ -1,0 +1,45 @@
+-- `byte_account::count_flag` meets its contract, answer by answer. Assumes nothing.
+use borrow.Author.Needs.{needs}
+use Rattle.byte_account.proofs.count_flag.Statement.{statement}
+use Rattle.byte_account.proofs.count_flag.Tie as tie
+
+wrapping-add-u32-requires : tie.Need-wrapping-add-u32-requires
+wrapping-add-u32-requires c κs = search needs
+
+enum-told : tie.Need-enum-told
+enum-told c = search needs
+
+enum-told-2 : tie.Need-enum-told-2
+enum-told-2 c = search needs
+
+wrapping-add-u32-requires-2 : tie.Need-wrapping-add-u32-requires-2
+wrapping-add-u32-requires-2 c κs = search needs
+
+enum-told-3 : tie.Need-enum-told-3
+enum-told-3 c = search needs
+
+wrapping-add-u32-requires-3 : tie.Need-wrapping-add-u32-requires-3
+wrapping-add-u32-requires-3 c κs = search needs
+
+returns : tie.Need-returns
+returns c = λ store. rw (c .enum-told .given .1, c .before .before .wrapping-add-u32 .ensures)
+
+returns-2 : tie.Need-returns-2
+returns-2 c = λ store. rw (c .before .enum-told2 .given .1, c .before .before .before .wrapping-add-u32 .ensures, c .wrapping-add-u322 .ensures)
+
+returns-3 : tie.Need-returns-3
+returns-3 c = λ store. rw (c .before .enum-told3 .given .1, c .before .before .before .wrapping-add-u32 .ensures, c .wrapping-add-u323 .ensures)
+
+pub count-flag-spec : {M : Type 1} → statement M
+count-flag-spec =
+    tie.close
+    (tie.spec
+    wrapping-add-u32-requires
+    enum-told
+    enum-told-2
+    wrapping-add-u32-requires-2
+    enum-told-3
+    wrapping-add-u32-requires-3
+    returns
+    returns-2
+    returns-3)

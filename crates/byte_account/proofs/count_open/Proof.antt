@@ -1,0 +1,24 @@
+-- `byte_account::count_open` meets its contract. Assumes nothing.
+use mathlib.Core.Path.{refl}
+use Prim.Native.Nat.{ℕ}
+use Rattle.byte_account.specs.declared.Counts.{Counts}
+use Rattle.byte_account.specs.Account.{countedOpen}
+use Rattle.byte_account.proofs.Counting.{many-rounded}
+use borrow.Author.Needs.{needs}
+use Rattle.byte_account.proofs.count_open.Statement.{statement}
+use Rattle.byte_account.proofs.count_open.Tie as tie
+
+rounded-requires : tie.Need-rounded-requires
+rounded-requires c κs = search needs
+
+wrapping-add-u32-requires : tie.Need-wrapping-add-u32-requires
+wrapping-add-u32-requires c κs = search needs
+
+returns : tie.Need-returns
+returns c =
+    let a = c .before .before .args in
+    let put : ℕ → Counts = λ k. record { flags = a .counts .flags; delivered = a .counts .delivered; refused = a .counts .refused; skipped = a .counts .skipped; unclosed = k } in
+    many-rounded put countedOpen (λ k. refl) (a .counts .unclosed) (a .n) (c .before .rounded .result) _ (search needs) (c .before .rounded .ensures) (c .wrapping-add-u32 .ensures)
+
+pub count-open-spec : {M : Type 1} → statement M
+count-open-spec = tie.close (tie.spec rounded-requires wrapping-add-u32-requires returns)

@@ -1,0 +1,24 @@
+-- `byte_account::count_skipped` meets its contract. Assumes nothing.
+use mathlib.Core.Path.{refl}
+use Prim.Native.Nat.{ℕ}
+use Rattle.byte_account.specs.declared.Counts.{Counts}
+use Rattle.byte_account.specs.Account.{countedSkipped}
+use Rattle.byte_account.proofs.Counting.{many-rounded}
+use borrow.Author.Needs.{needs}
+use Rattle.byte_account.proofs.count_skipped.Statement.{statement}
+use Rattle.byte_account.proofs.count_skipped.Tie as tie
+
+rounded-requires : tie.Need-rounded-requires
+rounded-requires c κs = search needs
+
+wrapping-add-u32-requires : tie.Need-wrapping-add-u32-requires
+wrapping-add-u32-requires c κs = search needs
+
+returns : tie.Need-returns
+returns c =
+    let a = c .before .before .args in
+    let put : ℕ → Counts = λ k. record { flags = a .counts .flags; delivered = a .counts .delivered; refused = a .counts .refused; skipped = k; unclosed = a .counts .unclosed } in
+    many-rounded put countedSkipped (λ k. refl) (a .counts .skipped) (a .n) (c .before .rounded .result) _ (search needs) (c .before .rounded .ensures) (c .wrapping-add-u32 .ensures)
+
+pub count-skipped-spec : {M : Type 1} → statement M
+count-skipped-spec = tie.close (tie.spec rounded-requires wrapping-add-u32-requires returns)

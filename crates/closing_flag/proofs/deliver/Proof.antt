@@ -1,0 +1,69 @@
+-- `closing_flag::deliver` meets its contract. The loop's invariant: the first i octets of the output are those of the store, and
+-- the others are as they were. Assumes nothing.
+use mathlib.Core.Path.{_≡_, refl, ap, _∙_}
+use mathlib.Core.List.{List, _++_}
+use Prim.Native.Nat.{ℕ, _-_, _≤_}
+use native.Mathlib.Omega.{arith}
+use lib.ListN.{length, getD, set, take, drop, length-set}
+use Rattle.closing_flag.proofs.Copy.{copied-more}
+use denote.Ref.{now}
+use borrow.Author.Needs.{needs}
+use Rattle.closing_flag.proofs.deliver.Statement.{statement}
+use Rattle.closing_flag.proofs.deliver.Tie as tie
+
+abbrev Inv-loop : tie.InvT-loop
+Inv-loop store n output₀ i₀ output i = (i ≤ n) × (length output ≡ length output₀) × (output ≡ take i store ++ drop i output₀)
+
+abbrev μ-loop : tie.MeasureT-loop
+μ-loop store n output₀ i₀ output i = n - i
+
+loop-holds : tie.Need-loop-holds Inv-loop μ-loop
+loop-holds c = (search needs, refl, refl)
+
+shared-slice-read-output : tie.Need-shared-slice-read-output Inv-loop μ-loop
+shared-slice-read-output c = omega arith
+
+slice-write-output : tie.Need-slice-write-output Inv-loop μ-loop
+slice-write-output c = omega arith
+
+add-i : tie.Need-add-i Inv-loop μ-loop
+add-i c = omega arith
+
+loop-less : tie.Need-loop-less Inv-loop μ-loop
+loop-less c = omega arith
+
+loop-again : tie.Need-loop-again Inv-loop μ-loop
+loop-again c =
+    let a = c .before .before .before .args in
+    let store = now (a .store) in
+    let l = c .before .before .loop in (
+      omega arith,
+      simp length-set (l .inv .1),
+      ap (λ (xs : List ℕ). set xs (l .i) (getD store (l .i) 0)) (l .inv .2)
+          ∙ copied-more (now (a .output)) store (l .i) (omega arith) (omega arith),
+    )
+
+same-length : tie.Need-same-length Inv-loop μ-loop
+same-length c = search needs
+
+returns : tie.Need-returns Inv-loop μ-loop
+returns c =
+    let a = c .before .before .args in
+    let l = c .before .loop in
+    let e : l .i ≡ a .n = omega arith in
+    l .inv .2 ∙ ap (λ (k : ℕ). take k (now (a .store)) ++ drop k (now (a .output))) e
+
+pub deliver-spec : {M : Type 1} → statement M
+deliver-spec =
+    tie.close
+    (tie.spec
+    Inv-loop
+    μ-loop
+    loop-holds
+    shared-slice-read-output
+    slice-write-output
+    add-i
+    loop-less
+    loop-again
+    same-length
+    returns)

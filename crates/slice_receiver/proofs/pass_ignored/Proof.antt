@@ -1,0 +1,34 @@
+-- `slice_receiver::pass_ignored` meets its contract, by the run over octets that are only counted. Assumes nothing.
+use mathlib.Core.Path.{sym, ap, _∙_}
+use Prim.Native.Nat.{_+_}
+use lib.ListN.{drop}
+use denote.Ref.{now}
+use Rattle.byte_account.specs.declared.Counts.{Counts}
+use Rattle.receiver.specs.Step.{stateOf}
+use Rattle.slice_receiver.specs.Run.{run}
+use Rattle.slice_receiver.specs.Parts.{laterBy}
+use Rattle.slice_receiver.proofs.Slice.{ignored}
+use borrow.Author.Needs.{needs}
+use Rattle.slice_receiver.proofs.pass_ignored.Statement.{statement}
+use Rattle.slice_receiver.proofs.pass_ignored.Tie as tie
+
+to-flag-requires : tie.Need-to-flag-requires
+to-flag-requires c κs = search needs
+
+count-octets-requires : tie.Need-count-octets-requires
+count-octets-requires c κs = search needs
+
+returns : tie.Need-returns
+returns c =
+    let a = c .before .before .before .args in
+    let line = now (a .line) in
+    let n = c .before .to-flag .result in
+    let e = c .before .to-flag .ensures in
+    λ store. record {
+      within = e .within;
+      runs = λ room. ignored (stateOf (a .rest) store) (c .before .before .before .pre .1) line (a .from) n (a .counts) room (e .within) (e .other)
+          ∙ ap (λ (cs : Counts). laterBy n (run (stateOf (a .rest) store) cs (drop (a .from + n) line) room)) (sym (c .count-octets .ensures));
+    }
+
+pub pass-ignored-spec : {M : Type 1} → statement M
+pass-ignored-spec = tie.close (tie.spec to-flag-requires count-octets-requires returns)

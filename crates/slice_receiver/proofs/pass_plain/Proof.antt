@@ -1,0 +1,48 @@
+-- `slice_receiver::pass_plain` meets its contract, by what `put_plain` ensures. Assumes nothing.
+use mathlib.Core.Path.{sym, ap, _∙_}
+use Prim.Native.Nat.{ℕ, _+_}
+use lib.ListN.{drop}
+use denote.Ref.{now}
+use Rattle.receiver.specs.declared.Phase.{Phase}
+use Rattle.byte_account.specs.declared.Counts.{Counts}
+use Rattle.receiver.specs.Step.{stateOf}
+use Rattle.slice_receiver.specs.Run.{Run, run}
+use Rattle.slice_receiver.specs.Parts.{reading, laterBy}
+use Rattle.slice_receiver.proofs.Slice.{none-taken}
+use borrow.Author.Needs.{needs}
+use Rattle.slice_receiver.proofs.pass_plain.Statement.{statement}
+use Rattle.slice_receiver.proofs.pass_plain.Tie as tie
+
+put-plain-requires : tie.Need-put-plain-requires
+put-plain-requires c κs = search needs
+
+add-t12 : tie.Need-add-t12
+add-t12 c = search needs
+
+count-open-requires : tie.Need-count-open-requires
+count-open-requires c κs = search needs
+
+returns : tie.Need-returns
+returns c =
+    let start = c .before .before .before .before .before in
+    let a = start .args in
+    let line = now (a .line) in
+    let put = c .before .put-plain in
+    let n = put .result in
+    let first : Phase → ℕ → Run =
+    λ p room. run (stateOf (record { phase = p; stored = a .rest .stored }) (now (a .store))) (a .counts) (drop (a .from) line) room in
+    let next : Counts → ℕ → Run =
+    λ cs room. laterBy n (run (stateOf (reading (a .rest .stored + n)) (put .last .0)) cs (drop (a .from + n) line) room) in
+    record {
+      within = put .ensures .within;
+      runs = λ room. ap (λ (p : Phase). first p room) (start .pre .1)
+          ∙ put .ensures .runs (a .counts) room
+          ∙ ap (λ (cs : Counts). next cs room) (sym (c .count-open .ensures));
+    }
+
+returns-2 : tie.Need-returns-2
+returns-2 c = record { within = search needs; runs = none-taken _ (now (c .before .before .args .line)) (c .before .before .args .from) _ }
+
+pub pass-plain-spec : {M : Type 1} → statement M
+pass-plain-spec =
+    tie.close (tie.spec put-plain-requires add-t12 count-open-requires returns returns-2)

@@ -1,0 +1,86 @@
+-- `slice_receiver::put_plain` meets its contract. The loop's invariant: the run over the slice is the run behind the n octets stored
+-- so far. Assumes nothing.
+use mathlib.Core.Path.{_≡_, _∙_}
+use Prim.Native.Nat.{ℕ, _+_, _-_, _≤_}
+use native.Mathlib.Nat.{add-zero}
+use lib.ListN.{getD, drop}
+use denote.Ref.{now}
+use Rattle.receiver.specs.declared.Phase.the-variants.{Reading}
+use Rattle.byte_account.specs.declared.Counts.{Counts}
+use Rattle.receiver.specs.Step.{stateOf, countedBy}
+use Rattle.slice_receiver.specs.Run.{run}
+use Rattle.slice_receiver.specs.Parts.{reading, laterBy}
+use Rattle.slice_receiver.proofs.Slice.{none-taken, other-more, stores}
+use borrow.Author.Needs.{needs}
+use Rattle.slice_receiver.proofs.put_plain.Statement.{statement}
+use Rattle.slice_receiver.proofs.put_plain.Tie as tie
+
+abbrev Inv-loop : tie.InvT-loop
+Inv-loop store₀ stored line from most n₀ store n =
+    (n ≤ most) × ((counts : Counts) (room : ℕ) → run (stateOf (reading stored) store₀) counts (drop from line) room
+    ≡ laterBy n (run (stateOf (reading (stored + n)) store) (countedBy Reading n counts) (drop (from + n) line) room))
+
+abbrev μ-loop : tie.MeasureT-loop
+μ-loop store₀ stored line from most n₀ store n = most - n
+
+most-plain-requires : tie.Need-most-plain-requires Inv-loop μ-loop
+most-plain-requires c κs = search needs
+
+loop-holds : tie.Need-loop-holds Inv-loop μ-loop
+loop-holds c =
+    let a = c .before .before .args in
+    (search needs, λ counts room. rw (add-zero (a .stored)) (none-taken _ (now (a .line)) (a .from) counts room))
+
+add-octet : tie.Need-add-octet Inv-loop μ-loop
+add-octet c = search needs
+
+shared-slice-read-octet : tie.Need-shared-slice-read-octet Inv-loop μ-loop
+shared-slice-read-octet c = search needs
+
+returns : tie.Need-returns Inv-loop μ-loop
+returns c = search needs
+
+returns-2 : tie.Need-returns-2 Inv-loop μ-loop
+returns-2 c = search needs
+
+add-store : tie.Need-add-store Inv-loop μ-loop
+add-store c = search needs
+
+element-write-store : tie.Need-element-write-store Inv-loop μ-loop
+element-write-store c = search needs
+
+add-n : tie.Need-add-n Inv-loop μ-loop
+add-n c = search needs
+
+loop-less : tie.Need-loop-less Inv-loop μ-loop
+loop-less c = search needs
+
+loop-again : tie.Need-loop-again Inv-loop μ-loop
+loop-again c =
+    let a = c .before .before .before .before .before .before .before .args in
+    let line = now (a .line) in
+    let l = c .before .before .before .before .loop in
+    let stored = stores (l .store) (a .stored) (l .n) (getD line (a .from + l .n) 0) (search needs) (c .before .if1 .left) in
+    (search needs, λ counts room. l .inv .1 counts room ∙ other-more _ _ line (a .from) (l .n) counts room (search needs) (c .if2 .left) stored)
+
+returns-3 : tie.Need-returns-3 Inv-loop μ-loop
+returns-3 c = search needs
+
+pub put-plain-spec : {M : Type 1} → statement M
+put-plain-spec =
+    tie.close
+    (tie.spec
+    Inv-loop
+    μ-loop
+    most-plain-requires
+    loop-holds
+    add-octet
+    shared-slice-read-octet
+    returns
+    returns-2
+    add-store
+    element-write-store
+    add-n
+    loop-less
+    loop-again
+    returns-3)

@@ -1,0 +1,128 @@
+-- `slice_receiver::receive_slice` meets its contract. The loop's invariant: the run over the slice is the run behind the i octets
+-- taken so far, and nothing was put out. Assumes nothing.
+use mathlib.Core.Path.{_≡_, refl, ap, _∙_}
+use Prim.Native.Nat.{_+_, _-_, _≤_}
+use native.Mathlib.Omega.{arith}
+use lib.ListN.{length, drop}
+use denote.Ref.{now}
+use Rattle.frame_format.specs.Stretch.{silent}
+use Rattle.closing_flag.specs.Answers.{nothing, answerOf}
+use Rattle.receiver.specs.Step.{stateOf}
+use Rattle.slice_receiver.specs.Run.{run, Takes}
+use Rattle.slice_receiver.specs.Parts.{laterBy, Turns}
+use Rattle.slice_receiver.proofs.Slice.{none-taken, turned-on, turned-out, used-up, takes, body-told, refusal-told}
+use borrow.Author.Needs.{needs}
+use Rattle.slice_receiver.proofs.receive_slice.Statement.{statement}
+use Rattle.slice_receiver.proofs.receive_slice.Tie as tie
+
+abbrev Inv-loop : tie.InvT-loop
+Inv-loop store₀ line output₀ rest₀ counts₀ i₀ store output rest counts i =
+    (i ≤ length line) × (output ≡ output₀)
+    × (run (stateOf rest₀ store₀) counts₀ line (length output₀) ≡ laterBy i (run (stateOf rest store) counts (drop i line) (length output₀)))
+
+abbrev μ-loop : tie.MeasureT-loop
+μ-loop store₀ line output₀ rest₀ counts₀ i₀ store output rest counts i = length line - i
+
+-- behind a turn: what is known of it, with the output as at entry
+turned : (c : tie.After-turn Inv-loop μ-loop)
+    → Turns (c .before .before .before .before .loop .rest) (c .before .before .before .before .loop .counts) (c .before .before .before .before .loop .store)
+    (now (c .before .before .before .before .before .before .before .args .line)) (c .before .before .before .before .loop .i)
+    (now (c .before .before .before .before .before .before .before .args .output)) (c .turn .result) (c .turn .last .1 .1 .0)
+    (c .turn .last .1 .1 .1 .1 .1 .0)
+turned c = rw (c .before .before .before .before .loop .inv .1) at (c .turn .ensures)
+
+kept-length : (c : tie.After-turn Inv-loop μ-loop)
+    → length (c .turn .last .1 .1 .1 .1 .1 .0) ≡ length (now (c .before .before .before .before .before .before .before .args .output))
+kept-length c = c .turn .kept .1 .1 .1 .1 .1 .0 ∙ ap length (c .before .before .before .before .loop .inv .1)
+
+-- the turn's answer is the run's
+answered : (c : tie.After-turn Inv-loop μ-loop) → (nothing ≡ answerOf (c .turn .result .answer) → ⊥)
+    → Takes (c .before .before .before .before .before .before .before .args .rest) (c .before .before .before .before .before .before .before .args .counts)
+    (now (c .before .before .before .before .before .before .before .args .store)) (now (c .before .before .before .before .before .before .before .args .line))
+    (now (c .before .before .before .before .before .before .before .args .output))
+    (record {
+      rest = c .turn .result .rest;
+      counts = c .turn .result .counts;
+      answer = c .turn .result .answer;
+      taken = c .before .before .before .before .loop .i + c .turn .result .taken;
+    })
+    (c .turn .last .1 .1 .0) (c .turn .last .1 .1 .1 .1 .1 .0)
+answered c h =
+    let l = c .before .before .before .before .loop in
+    let t = turned c in
+    takes _ _ _ _ _ _ _ _ (t .due) (turned-out _ _ _ _ _ (l .i) _ _ _ _ (l .inv .2) t h) (t .answers) (t .puts)
+
+loop-holds : tie.Need-loop-holds Inv-loop μ-loop
+loop-holds c =
+    let a = c .before .before .args in
+    (search needs, refl, none-taken _ (now (a .line)) 0 (a .counts) (length (now (a .output))))
+
+turn-requires : tie.Need-turn-requires Inv-loop μ-loop
+turn-requires c κs = search needs
+
+add-i : tie.Need-add-i Inv-loop μ-loop
+add-i c =
+    let turned = c .before .before .before .before .before in
+    omega (arith, turned .turn .ensures .within, turned .before .before .before .before .before .before .before .good)
+
+enum-told : tie.Need-enum-told Inv-loop μ-loop
+enum-told c = search needs
+
+loop-less : tie.Need-loop-less Inv-loop μ-loop
+loop-less c =
+    let e = c .before .before .before .before .before .before .before .turn .ensures in
+    omega (arith, e .within, e .moved)
+
+loop-again : tie.Need-loop-again Inv-loop μ-loop
+loop-again c =
+    let turn = c .before .before .before .before .before .before .before in
+    let l = turn .before .before .before .before .loop in
+    let on = turned-on _ _ _ _ _ (l .i) _ _ _ _ (l .inv .2) (turned turn) (c .enum-told .given .1) in
+    (turn .turn .ensures .within, on .0, on .1)
+
+enum-told-2 : tie.Need-enum-told-2 Inv-loop μ-loop
+enum-told-2 c = search needs
+
+same-length : tie.Need-same-length Inv-loop μ-loop
+same-length c = kept-length (c .before .before .before .before .before .before .before)
+
+returns : tie.Need-returns Inv-loop μ-loop
+returns c = answered (c .before .before .before .before .before .before .before) (body-told _ _ (c .enum-told2 .given .1))
+
+enum-told-3 : tie.Need-enum-told-3 Inv-loop μ-loop
+enum-told-3 c = search needs
+
+same-length-2 : tie.Need-same-length-2 Inv-loop μ-loop
+same-length-2 c = kept-length (c .before .before .before .before .before .before .before)
+
+returns-2 : tie.Need-returns-2 Inv-loop μ-loop
+returns-2 c = answered (c .before .before .before .before .before .before .before) (refusal-told _ _ (c .enum-told3 .given .1))
+
+same-length-3 : tie.Need-same-length-3 Inv-loop μ-loop
+same-length-3 c = search needs
+
+returns-3 : tie.Need-returns-3 Inv-loop μ-loop
+returns-3 c =
+    let l = c .before .loop in
+    takes _ _ _ _ _ _ _ _ silent (l .inv .2 ∙ used-up _ _ (now (c .before .before .before .before .args .line)) (l .i) _ (c .loop-test .left)) refl (l .inv .1)
+
+pub receive-slice-spec : {M : Type 1} → statement M
+receive-slice-spec =
+    tie.close
+    (tie.spec
+    Inv-loop
+    μ-loop
+    loop-holds
+    turn-requires
+    add-i
+    enum-told
+    loop-less
+    loop-again
+    enum-told-2
+    same-length
+    returns
+    enum-told-3
+    same-length-2
+    returns-2
+    same-length-3
+    returns-3)

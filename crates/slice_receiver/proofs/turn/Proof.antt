@@ -1,0 +1,68 @@
+-- `slice_receiver::turn` meets its contract: what is passed, and then an octet. Assumes nothing.
+use mathlib.Core.Path.{refl, _∙_}
+use Prim.Native.Nat.{_+_}
+use native.Mathlib.Omega.{arith}
+use lib.ListN.{length, getD}
+use denote.Ref.{now}
+use Rattle.receiver.specs.Step.{answerDue, stateOf}
+use Rattle.frame_format.specs.Stretch.{silent}
+use Rattle.slice_receiver.proofs.Slice.{stepped}
+use borrow.Author.Needs.{needs}
+use Rattle.slice_receiver.proofs.turn.Statement.{statement}
+use Rattle.slice_receiver.proofs.turn.Tie as tie
+
+pass-requires : tie.Need-pass-requires
+pass-requires c κs = search needs
+
+add-at : tie.Need-add-at
+add-at c = search needs
+
+shared-slice-read-step : tie.Need-shared-slice-read-step
+shared-slice-read-step c = search needs
+
+step-requires : tie.Need-step-requires
+step-requires c κs = search needs
+
+add-t24 : tie.Need-add-t24
+add-t24 c =
+    let tested = c .before .before .before .before .before .before .before .before .before in
+    omega (arith, tested .if1 .taken, tested .before .before .before .before .before .before .before .before .good)
+
+same-length : tie.Need-same-length
+same-length c = search needs
+
+returns : tie.Need-returns
+returns c =
+    let tested = c .before .before .before .before .before .before .before .before .before in
+    let passed = tested .before .before .before .before in
+    let a = passed .before .before .before .before .args in
+    let line = now (a .line) in
+    let room = length (now (a .output)) in
+    let p = passed .pass in
+    let r = c .before .before .before .before .before .step .ensures in
+    record {
+      due = answerDue (stateOf (p .result .rest) (p .last .1 .1 .0)) (getD line (a .from + p .result .taken) 0) room;
+      moved = omega arith;
+      within = omega (arith, tested .if1 .taken);
+      answers = r .answers;
+      puts = r .puts;
+      runs = p .ensures .runs room
+          ∙ stepped _ _ _ _ line (a .from) (p .result .taken) room (tested .if1 .taken) (r .state) (r .account);
+    }
+
+returns-2 : tie.Need-returns-2
+returns-2 c =
+    let passed = c .before .before .before .before in
+    let start = passed .before .before .before .before in
+    record {
+      due = silent;
+      moved = omega (arith, start .pre);
+      within = passed .pass .ensures .within;
+      answers = refl;
+      puts = refl;
+      runs = passed .pass .ensures .runs (length (now (start .args .output)));
+    }
+
+pub turn-spec : {M : Type 1} → statement M
+turn-spec =
+    tie.close (tie.spec pass-requires add-at shared-slice-read-step step-requires add-t24 same-length returns returns-2)

@@ -1,0 +1,57 @@
+-- What the parts of a call with a slice ensure, in the terms of `run`. Assumes nothing.
+use mathlib.Core.Path.{_≡_}
+use mathlib.Core.List.{List}
+use Prim.Native.Nat.{ℕ, _+_, _<_, _≤_}
+use lib.ListN.{length, getD, drop}
+use Rattle.frame_format.specs.Stuffing.{flag}
+use Rattle.frame_format.specs.Stretch.{Verdict, storeOctets}
+use Rattle.closing_flag.specs.Answers.{answerOf, told, outputAfter}
+use Rattle.byte_account.specs.declared.Counts.{Counts}
+use Rattle.receiver.specs.declared.Phase.{Phase}
+use Rattle.receiver.specs.declared.Phase.the-variants.{Reading}
+use Rattle.receiver.specs.declared.Rest.{Rest}
+use Rattle.receiver.specs.Step.{State, stateOf, advancedIn, countedBy}
+use Rattle.slice_receiver.specs.declared.Passed.{Passed}
+use Rattle.slice_receiver.specs.declared.Taken.{Taken}
+use Rattle.slice_receiver.specs.Run.{Run, run, endAt}
+
+-- n octets more were taken before all this
+abbrev pub laterBy : ℕ → Run → Run
+laterBy n r = record { state = r .state; counts = r .counts; taken = r .taken + n; verdict = r .verdict }
+
+abbrev pub reading : ℕ → Rest
+reading stored = record { phase = Reading; stored = stored }
+
+-- the n octets of the line at `at` are stored as they are, and the run goes on behind them
+pub record PutsPlain (store : List ℕ) (stored : ℕ) (line : List ℕ) (at n : ℕ) (storeAfter : List ℕ) : Type 0 where
+  pub fits : stored + n ≤ storeOctets
+  pub within : at + n ≤ length line
+  pub runs : (counts : Counts) (room : ℕ) → run (stateOf (reading stored) store) counts (drop at line) room
+      ≡ laterBy n (run (stateOf (reading (stored + n)) storeAfter) (countedBy Reading n counts) (drop (at + n) line) room)
+
+-- none of the n octets of the line at `at` is a flag
+pub record NoFlag (line : List ℕ) (at n : ℕ) : Type 0 where
+  pub within : at + n ≤ length line
+  pub other : (i : ℕ) → i < n → getD line (at + i) 0 ≡ flag → ⊥
+
+-- the phases in which an octet other than the flag is only counted
+abbrev pub Ignores : Phase → Type 0
+Ignores p = (x : ℕ) (s : State) → advancedIn p x s ≡ s
+
+-- octets at `at` that bring no answer, and the run behind them
+pub record Passes (rest : Rest) (counts : Counts) (store line : List ℕ) (at : ℕ) (given : Passed) (storeAfter : List ℕ) : Type 0 where
+  pub within : at + given .taken ≤ length line
+  pub runs : (room : ℕ) → run (stateOf rest store) counts (drop at line) room
+      ≡ laterBy (given .taken) (run (stateOf (given .rest) storeAfter) (given .counts) (drop (at + given .taken) line) room)
+
+-- some octets at `at`, up to one that may bring an answer, and the run behind them where it brings none
+pub record Turns (rest : Rest) (counts : Counts) (store line : List ℕ) (at : ℕ) (output : List ℕ)
+    (given : Taken) (storeAfter outputThen : List ℕ) : Type 0 where
+  pub due : Verdict
+  pub moved : 0 < given .taken
+  pub within : at + given .taken ≤ length line
+  pub answers : answerOf (given .answer) ≡ told due
+  pub puts : outputThen ≡ outputAfter due output
+  pub runs : run (stateOf rest store) counts (drop at line) (length output)
+      ≡ endAt due (record { state = stateOf (given .rest) storeAfter; counts = given .counts; taken = given .taken; verdict = due })
+      (laterBy (given .taken) (run (stateOf (given .rest) storeAfter) (given .counts) (drop (at + given .taken) line) (length output)))
