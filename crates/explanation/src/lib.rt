@@ -1,12 +1,9 @@
 // A line explained: for each answer of the receiver a line of text, with a message's fields by name and in users' units.
-mod kinds;
-mod text;
-mod values;
-
 use byte_account::Counts;
 use closing_flag::Answer;
 use receiver::Rest;
 use slice_receiver::Taken;
+use text_output::Spelling;
 use ucp_messages::Message;
 use ucp_messages::Read;
 ghost use mathlib.Core.Path.{_≡_};
@@ -16,89 +13,34 @@ ghost use Rattle.listing.specs.Listing.{bodyRoom};
 ghost use Rattle.listing.specs.Parts.{Fitting};
 ghost use Rattle.frame_format.specs.Stretch.{refused};
 ghost use Rattle.ucp_messages.specs.Reads.{answerDue, means, refused as unread};
-ghost use Rattle.explanation.specs.Clips.{Clips};
-ghost use Rattle.explanation.specs.Kinds.{messageShown};
-ghost use Rattle.explanation.specs.Explanation.{reason, refusal, readLine, explanation};
+ghost use Rattle.text_output.specs.Clips.{Clips};
+ghost use Rattle.explanation.specs.Explanation.{readLine, explanation};
 ghost use Rattle.explanation.specs.Calls.{Explains};
-
-// How octets are written: as they are; in a text, escaped where they have to be; in hexadecimal, a space before each.
-pub enum Spelling {
-    Plain,
-    Escaped,
-    Hex,
-}
-
-// A message behind its body's length.
-fn put_message(text: &mut [u8], at: usize, message: Message, body: &[u8]) -> usize
-    ensures { λ r. ⌜ Clips (now (text .entry)) at (messageShown message (now (body .entry))) r (now (text .exit)) ⌝ }
-{
-    match message {
-        Message::Heartbeat(heartbeat) => kinds::put_heartbeat(text, at, heartbeat),
-        Message::Uplink => kinds::put_uplink(text, at, body),
-        Message::Ownship(report) => kinds::put_report(text, at, b" ownship", report),
-        Message::GeometricAltitude(geometric) => kinds::put_geometric(text, at, geometric),
-        Message::Traffic(report) => kinds::put_report(text, at, b" traffic", report),
-        Message::Request(request) => kinds::put_request(text, at, request),
-        Message::Control(control) => kinds::put_control(text, at, control),
-        Message::Initialization(initialization) => {
-            kinds::put_initialization(text, at, initialization)
-        }
-    }
-}
-
-// A refusal in words.
-fn put_reason(text: &mut [u8], at: usize, number: u8) -> usize
-    ensures { λ r. ⌜ Clips (now (text .entry)) at (reason number) r (now (text .exit)) ⌝ }
-{
-    match number {
-        1 => text::put_word(text, at, b" bad escape"),
-        2 => text::put_word(text, at, b" escape before the flag"),
-        3 => text::put_word(text, at, b" too long"),
-        4 => text::put_word(text, at, b" too short"),
-        5 => text::put_word(text, at, b" check wrong"),
-        6 => text::put_word(text, at, b" no room for the body"),
-        10 => text::put_word(text, at, b" unknown message"),
-        11 => text::put_word(text, at, b" wrong length"),
-        12 => text::put_word(text, at, b" wrong version, signature or subtype"),
-        13 => text::put_word(text, at, b" field outside its range"),
-        _ => text::put_word(text, at, b" refused"),
-    }
-}
-
-fn put_refusal(text: &mut [u8], at: usize, number: u8) -> usize
-    ensures { λ r. ⌜ Clips (now (text .entry)) at (refusal number) r (now (text .exit)) ⌝ }
-{
-    let at = text::put_word(text, at, b"no ");
-    let at = text::put_natural(text, at, number as u64);
-    put_reason(text, at, number)
-}
-
-// ---- lines
 
 fn put_refused(text: &mut [u8], number: u8) -> usize
     ensures { λ r. ⌜ Clips (now (text .entry)) 0 (explanation (refused number)) r (now (text .exit)) ⌝ }
 {
-    let at = put_refusal(text, 0, number);
-    text::put_octet(text, at, b'\n')
+    let at = refusal_text::put_refusal(text, 0, number);
+    text_output::put_octet(text, at, b'\n')
 }
 
 fn put_unread(text: &mut [u8], number: u8, body: &[u8]) -> usize
     ensures { λ r. ⌜ Clips (now (text .entry)) 0 (readLine (unread number) (now (body .entry))) r (now (text .exit)) ⌝ }
 {
-    let at = put_refusal(text, 0, number);
-    let at = text::put_word(text, at, b" body ");
-    let at = text::put_natural(text, at, body.len() as u64);
-    let at = text::put_spelled(text, at, Spelling::Hex, body, 0);
-    text::put_octet(text, at, b'\n')
+    let at = refusal_text::put_refusal(text, 0, number);
+    let at = text_output::put_word(text, at, b" body ");
+    let at = text_output::put_natural(text, at, body.len() as u64);
+    let at = text_output::put_spelled(text, at, Spelling::Hex, body, 0);
+    text_output::put_octet(text, at, b'\n')
 }
 
 fn put_read(text: &mut [u8], message: Message, body: &[u8]) -> usize
     ensures { λ r. ⌜ Clips (now (text .entry)) 0 (readLine (means message) (now (body .entry))) r (now (text .exit)) ⌝ }
 {
-    let at = text::put_word(text, 0, b"ok ");
-    let at = text::put_natural(text, at, body.len() as u64);
-    let at = put_message(text, at, message, body);
-    text::put_octet(text, at, b'\n')
+    let at = text_output::put_word(text, 0, b"ok ");
+    let at = text_output::put_natural(text, at, body.len() as u64);
+    let at = message_text::put_message(text, at, message, body);
+    text_output::put_octet(text, at, b'\n')
 }
 
 fn put_body(text: &mut [u8], body: &[u8]) -> usize

@@ -5,7 +5,7 @@ use Rattle.listing.proofs.Runs.{body-fits}
 use Rattle.receiver.specs.Step.{stateOf}
 use Rattle.slice_receiver.specs.Run.{run}
 use Rattle.listing.specs.Listing.{bodyRoom}
-use Rattle.explanation.proofs.Clipped.{all-put}
+use Rattle.text_output.proofs.Clipped.{all-fits}
 use Rattle.explanation.proofs.Longest.{line-most}
 use Rattle.explanation.proofs.Verdicts.{verdict-told, verdict-fits}
 use denote.Ref.{now}
@@ -28,8 +28,9 @@ returns c =
     let long = c .before .before .before .before .before .receive-slice-arg2 .given .0 .1 in
     let v = run (stateOf (a .rest) (now (a .store))) (a .counts) (now (a .line)) bodyRoom .verdict in
     let few = line-most v (verdict-fits (t .ensures) long (t .kept .1 .1 .1 .1 .0)) in
-    let puts = all-put (rw (verdict-told (t .ensures) long) at (c .put-answer .ensures)) (omega (arith, few, c .before .before .before .put-answer-arg .given .0 .1)) in
-    record { long = long; takes = t .ensures; puts = puts; within = omega (arith, few, puts .ends) }
+    let clips = rw (verdict-told (t .ensures) long) at (c .put-answer .ensures) in
+    let ends = all-fits clips (omega (arith, few, c .before .before .before .put-answer-arg .given .0 .1)) in
+    record { long = long; takes = t .ensures; puts = record { ends = ends; leaves = clips .leaves }; within = omega (arith, few, ends) }
 
 pub explain-next-spec : {M : Type 1} → statement M
 explain-next-spec = tie.close (tie.spec receive-slice-requires put-answer-requires returns)

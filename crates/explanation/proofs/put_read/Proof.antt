@@ -1,7 +1,7 @@
 -- `explanation::put_read` meets its contract. Assumes nothing.
 use mathlib.Core.Path.{refl}
 use Rattle.explanation.specs.Explanation.{readLine}
-use Rattle.explanation.proofs.Clipped.{then}
+use Rattle.text_output.proofs.Clipped.{then}
 use borrow.Author.Needs.{needs}
 use Rattle.explanation.proofs.put_read.Statement.{statement}
 use Rattle.explanation.proofs.put_read.Tie as tie

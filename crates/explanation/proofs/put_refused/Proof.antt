@@ -1,5 +1,5 @@
 -- `explanation::put_refused` meets its contract. Assumes nothing.
-use Rattle.explanation.proofs.Clipped.{then}
+use Rattle.text_output.proofs.Clipped.{then}
 use borrow.Author.Needs.{needs}
 use Rattle.explanation.proofs.put_refused.Statement.{statement}
 use Rattle.explanation.proofs.put_refused.Tie as tie

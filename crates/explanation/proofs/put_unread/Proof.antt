@@ -1,9 +1,7 @@
 -- `explanation::put_unread` meets its contract. Assumes nothing.
 use mathlib.Core.Path.{refl}
-use denote.Ref.{now}
-use Rattle.explanation.proofs.Spelled.{hex-same}
 use Rattle.explanation.specs.Explanation.{readLine}
-use Rattle.explanation.proofs.Clipped.{then}
+use Rattle.text_output.proofs.Clipped.{then}
 use borrow.Author.Needs.{needs}
 use Rattle.explanation.proofs.put_unread.Statement.{statement}
 use Rattle.explanation.proofs.put_unread.Tie as tie
@@ -31,7 +29,7 @@ same-length c = search needs
 
 returns : tie.Need-returns
 unfolding readLine
-returns c = then (c .before .before .before .before .before .before .before .before .before .before .before .before .before .before .before .before .before .before .before .put-refusal .ensures) (then (c .before .before .before .before .before .before .before .before .before .before .before .before .before .before .put-word .ensures) (then (c .before .before .before .before .before .before .before .before .before .before .put-natural .ensures) (then (rw (hex-same (now (c .before .before .before .before .before .before .before .before .before .before .before .before .before .before .before .before .before .before .before .before .before .before .before .args .body))) at (c .before .before .before .before .before .before .put-spelled .ensures)) (c .before .before .put-octet .ensures))))
+returns c = then (c .before .before .before .before .before .before .before .before .before .before .before .before .before .before .before .before .before .before .before .put-refusal .ensures) (then (c .before .before .before .before .before .before .before .before .before .before .before .before .before .before .put-word .ensures) (then (c .before .before .before .before .before .before .before .before .before .before .put-natural .ensures) (then (c .before .before .before .before .before .before .put-spelled .ensures) (c .before .before .put-octet .ensures))))
 
 pub put-unread-spec : {M : Type 1} → statement M
 put-unread-spec =

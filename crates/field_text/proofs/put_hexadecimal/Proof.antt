@@ -1,0 +1,23 @@
+-- `field_text::put_hexadecimal` meets its contract. Assumes nothing.
+use Rattle.field_text.specs.Fields.{shown}
+use Rattle.text_output.proofs.Clipped.{then}
+use borrow.Author.Needs.{needs}
+use Rattle.field_text.proofs.put_hexadecimal.Statement.{statement}
+use Rattle.field_text.proofs.put_hexadecimal.Tie as tie
+
+put-label-requires : tie.Need-put-label-requires
+put-label-requires c κs = tt
+
+put-padded-requires : tie.Need-put-padded-requires
+put-padded-requires c κs = search needs
+
+same-length : tie.Need-same-length
+same-length c = search needs
+
+returns : tie.Need-returns
+unfolding shown
+returns c = then (c .before .before .before .before .before .before .put-label .ensures) (c .before .before .put-padded .ensures)
+
+pub put-hexadecimal-spec : {M : Type 1} → statement M
+put-hexadecimal-spec =
+    tie.close (tie.spec put-label-requires put-padded-requires same-length returns)

@@ -1,0 +1,38 @@
+-- `message_text::put_control` meets its contract. Assumes nothing.
+use mathlib.Core.Path.{refl}
+use Rattle.field_text.proofs.Parts.{fields-split}
+use Rattle.message_text.specs.Messages.{controlParts, messageShown}
+use Rattle.text_output.proofs.Clipped.{then}
+use borrow.Author.Needs.{needs}
+use Rattle.message_text.proofs.put_control.Statement.{statement}
+use Rattle.message_text.proofs.put_control.Tie as tie
+
+slice-aggregate-put-word : tie.Need-slice-aggregate-put-word
+slice-aggregate-put-word c = refl
+
+put-word-requires : tie.Need-put-word-requires
+put-word-requires c κs = tt
+
+put-modes-requires : tie.Need-put-modes-requires
+put-modes-requires c κs = tt
+
+put-flight-requires : tie.Need-put-flight-requires
+put-flight-requires c κs = tt
+
+same-length : tie.Need-same-length
+same-length c = search needs
+
+returns : tie.Need-returns
+unfolding messageShown
+returns c = then (c .before .before .before .before .before .before .before .before .before .before .put-word .ensures) (rw (fields-split 5 (controlParts (c .before .before .before .before .before .before .before .before .before .before .before .before .before .before .args .control))) at (then (c .before .before .before .before .before .before .put-modes .ensures) (c .before .before .put-flight .ensures)))
+
+pub put-control-spec : {M : Type 1} → statement M
+put-control-spec =
+    tie.close
+    (tie.spec
+    slice-aggregate-put-word
+    put-word-requires
+    put-modes-requires
+    put-flight-requires
+    same-length
+    returns)

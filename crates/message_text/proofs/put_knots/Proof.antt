@@ -1,0 +1,19 @@
+-- `message_text::put_knots` meets its contract. Assumes nothing.
+use borrow.Author.Needs.{needs}
+use Rattle.message_text.proofs.put_knots.Statement.{statement}
+use Rattle.message_text.proofs.put_knots.Tie as tie
+
+unsigned-requires : tie.Need-unsigned-requires
+unsigned-requires c κs = search needs
+
+put-reading-requires : tie.Need-put-reading-requires
+put-reading-requires c κs = search needs
+
+same-length : tie.Need-same-length
+same-length c = search needs
+
+returns : tie.Need-returns
+returns c = rw (c .before .before .before .before .unsigned .ensures) at (c .before .before .put-reading .ensures)
+
+pub put-knots-spec : {M : Type 1} → statement M
+put-knots-spec = tie.close (tie.spec unsigned-requires put-reading-requires same-length returns)

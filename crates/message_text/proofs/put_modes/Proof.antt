@@ -1,0 +1,61 @@
+-- `message_text::put_modes` meets its contract. Assumes nothing.
+use mathlib.Core.Path.{refl}
+use Rattle.field_text.specs.Fields.{fields}
+use Rattle.text_output.proofs.Clipped.{then, last-piece}
+use borrow.Author.Needs.{needs}
+use Rattle.message_text.proofs.put_modes.Statement.{statement}
+use Rattle.message_text.proofs.put_modes.Tie as tie
+
+slice-aggregate-put-truth : tie.Need-slice-aggregate-put-truth
+slice-aggregate-put-truth c = refl
+
+put-truth-requires : tie.Need-put-truth-requires
+put-truth-requires c κs = tt
+
+slice-aggregate-put-truth-2 : tie.Need-slice-aggregate-put-truth-2
+slice-aggregate-put-truth-2 c = refl
+
+put-truth-requires-2 : tie.Need-put-truth-requires-2
+put-truth-requires-2 c κs = tt
+
+slice-aggregate-put-truth-3 : tie.Need-slice-aggregate-put-truth-3
+slice-aggregate-put-truth-3 c = refl
+
+put-truth-requires-3 : tie.Need-put-truth-requires-3
+put-truth-requires-3 c κs = tt
+
+slice-aggregate-put-truth-4 : tie.Need-slice-aggregate-put-truth-4
+slice-aggregate-put-truth-4 c = refl
+
+put-truth-requires-4 : tie.Need-put-truth-requires-4
+put-truth-requires-4 c κs = tt
+
+slice-aggregate-put-truth-5 : tie.Need-slice-aggregate-put-truth-5
+slice-aggregate-put-truth-5 c = refl
+
+put-truth-requires-5 : tie.Need-put-truth-requires-5
+put-truth-requires-5 c κs = tt
+
+same-length : tie.Need-same-length
+same-length c = search needs
+
+returns : tie.Need-returns
+unfolding fields
+returns c = then (c .before .before .before .before .before .before .before .before .before .before .before .before .before .before .before .before .before .before .before .before .before .before .put-truth .ensures) (then (c .before .before .before .before .before .before .before .before .before .before .before .before .before .before .before .before .before .put-truth2 .ensures) (then (c .before .before .before .before .before .before .before .before .before .before .before .before .put-truth3 .ensures) (then (c .before .before .before .before .before .before .before .put-truth4 .ensures) (last-piece (c .before .before .put-truth5 .ensures)))))
+
+pub put-modes-spec : {M : Type 1} → statement M
+put-modes-spec =
+    tie.close
+    (tie.spec
+    slice-aggregate-put-truth
+    put-truth-requires
+    slice-aggregate-put-truth-2
+    put-truth-requires-2
+    slice-aggregate-put-truth-3
+    put-truth-requires-3
+    slice-aggregate-put-truth-4
+    put-truth-requires-4
+    slice-aggregate-put-truth-5
+    put-truth-requires-5
+    same-length
+    returns)

@@ -1,0 +1,38 @@
+-- `message_text::put_request` meets its contract. Assumes nothing.
+use mathlib.Core.Path.{refl}
+use Rattle.field_text.specs.Fields.{fields}
+use Rattle.message_text.specs.Messages.{messageShown}
+use Rattle.text_output.proofs.Clipped.{then, last-piece}
+use borrow.Author.Needs.{needs}
+use Rattle.message_text.proofs.put_request.Statement.{statement}
+use Rattle.message_text.proofs.put_request.Tie as tie
+
+slice-aggregate-put-word : tie.Need-slice-aggregate-put-word
+slice-aggregate-put-word c = refl
+
+put-word-requires : tie.Need-put-word-requires
+put-word-requires c κs = tt
+
+slice-aggregate-put-number : tie.Need-slice-aggregate-put-number
+slice-aggregate-put-number c = refl
+
+put-number-requires : tie.Need-put-number-requires
+put-number-requires c κs = tt
+
+same-length : tie.Need-same-length
+same-length c = search needs
+
+returns : tie.Need-returns
+unfolding messageShown fields
+returns c = then (c .before .before .before .before .before .before .before .put-word .ensures) (last-piece (c .before .before .put-number .ensures))
+
+pub put-request-spec : {M : Type 1} → statement M
+put-request-spec =
+    tie.close
+    (tie.spec
+    slice-aggregate-put-word
+    put-word-requires
+    slice-aggregate-put-number
+    put-number-requires
+    same-length
+    returns)

@@ -1,0 +1,37 @@
+-- `refusal_text::put_refusal` meets its contract. Assumes nothing.
+use mathlib.Core.Path.{refl}
+use Rattle.refusal_text.specs.Refusals.{refusal}
+use Rattle.text_output.proofs.Clipped.{then}
+use borrow.Author.Needs.{needs}
+use Rattle.refusal_text.proofs.put_refusal.Statement.{statement}
+use Rattle.refusal_text.proofs.put_refusal.Tie as tie
+
+slice-aggregate-put-word : tie.Need-slice-aggregate-put-word
+slice-aggregate-put-word c = refl
+
+put-word-requires : tie.Need-put-word-requires
+put-word-requires c κs = tt
+
+put-natural-requires : tie.Need-put-natural-requires
+put-natural-requires c κs = tt
+
+put-reason-requires : tie.Need-put-reason-requires
+put-reason-requires c κs = tt
+
+same-length : tie.Need-same-length
+same-length c = search needs
+
+returns : tie.Need-returns
+unfolding refusal
+returns c = then (c .before .before .before .before .before .before .before .before .before .before .put-word .ensures) (then (c .before .before .before .before .before .before .put-natural .ensures) (c .before .before .put-reason .ensures))
+
+pub put-refusal-spec : {M : Type 1} → statement M
+put-refusal-spec =
+    tie.close
+    (tie.spec
+    slice-aggregate-put-word
+    put-word-requires
+    put-natural-requires
+    put-reason-requires
+    same-length
+    returns)

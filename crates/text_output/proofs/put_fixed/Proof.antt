@@ -1,0 +1,62 @@
+-- `text_output::put_fixed` meets its contract. Assumes nothing.
+use mathlib.Core.Path.{_≡_}
+use lib.IntN.{natAbs}
+use mir.Syntax.{w64}
+use mir.ValLaws.{toZ-ofZ}
+use Rattle.text_output.specs.Text.{fixed}
+use Rattle.text_output.proofs.Clipped.{then}
+use borrow.Author.Needs.{needs}
+use Rattle.text_output.proofs.put_fixed.Statement.{statement}
+use Rattle.text_output.proofs.put_fixed.Tie as tie
+
+size-requires : tie.Need-size-requires
+size-requires c κs = search needs
+
+whole-of-requires : tie.Need-whole-of-requires
+whole-of-requires c κs = search needs
+
+put-minus-requires : tie.Need-put-minus-requires
+put-minus-requires c κs = search needs
+
+div-put-natural : tie.Need-div-put-natural
+div-put-natural c = search needs
+
+put-natural-requires : tie.Need-put-natural-requires
+put-natural-requires c κs = search needs
+
+places-of-requires : tie.Need-places-of-requires
+places-of-requires c κs = search needs
+
+rem-put-fraction : tie.Need-rem-put-fraction
+rem-put-fraction c = search needs
+
+put-fraction-requires : tie.Need-put-fraction-requires
+put-fraction-requires c κs = search needs
+
+same-length : tie.Need-same-length
+same-length c = search needs
+
+returns : tie.Need-returns
+unfolding fixed
+returns c =
+    let z = c .before .before .before .before .before .before .before .before .before .before .before .before .before .before .before .before .args .n in
+    let f = c .before .before .before .before .before .before .before .before .before .before .before .before .before .before .before .before .fits .n in
+    let small : c .before .before .before .before .before .before .before .before .before .before .before .before .before .before .size .result ≡ natAbs z = rw (toZ-ofZ w64 z f) at (c .before .before .before .before .before .before .before .before .before .before .before .before .before .before .size .ensures) in
+    then (rw (toZ-ofZ w64 z f) at (c .before .before .before .before .before .before .before .before .before .before .before .put-minus .ensures))
+    (then (rw (small, c .before .before .before .before .before .before .before .before .before .before .before .before .before .whole-of .ensures .0) at (c .before .before .before .before .before .before .before .put-natural .ensures))
+    (rw (small, c .before .before .before .before .before .before .before .before .before .before .before .before .before .whole-of .ensures .0, c .before .before .before .places-of .ensures) at (c .before .before .put-fraction .ensures)))
+
+pub put-fixed-spec : {M : Type 1} → statement M
+put-fixed-spec =
+    tie.close
+    (tie.spec
+    size-requires
+    whole-of-requires
+    put-minus-requires
+    div-put-natural
+    put-natural-requires
+    places-of-requires
+    rem-put-fraction
+    put-fraction-requires
+    same-length
+    returns)

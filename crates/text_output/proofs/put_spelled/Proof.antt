@@ -1,0 +1,69 @@
+-- `text_output::put_spelled` meets its contract. The loop's invariant: once what is left is put, all is there. Assumes
+-- nothing.
+use mathlib.Core.Path.{_≡_, refl, _∙_}
+use Prim.Native.Nat.{_-_, _≤_}
+use native.Mathlib.Omega.{arith}
+use denote.Ref.{now}
+use lib.ListN.{length, drop}
+use Rattle.text_output.specs.Text.{spelled}
+use Rattle.text_output.proofs.Clipped.{clips-long, then}
+use Rattle.text_output.proofs.Spelled.{Left, next-spelled, all-spelled}
+use borrow.Author.Needs.{needs}
+use Rattle.text_output.proofs.put_spelled.Statement.{statement}
+use Rattle.text_output.proofs.put_spelled.Tie as tie
+
+abbrev Inv-loop : tie.InvT-loop
+Inv-loop text₀ at spelling octets from at₀ i₀ text at' i =
+    (at' ≤ length text) × (length text ≡ length text₀) × Left text₀ at₀ (spelled spelling (drop i₀ octets)) text at' (spelled spelling (drop i octets))
+
+abbrev μ-loop : tie.MeasureT-loop
+μ-loop text₀ at spelling octets from at₀ i₀ text at' i = length octets - i
+
+put-nothing-requires : tie.Need-put-nothing-requires Inv-loop μ-loop
+put-nothing-requires c κs = tt
+
+loop-holds : tie.Need-loop-holds Inv-loop μ-loop
+loop-holds c = (omega (arith, c .before .before .put-nothing .ensures .ends, clips-long (c .before .before .put-nothing .ensures)), refl, λ end last p. p)
+
+shared-slice-read-put-spelled-octet : tie.Need-shared-slice-read-put-spelled-octet Inv-loop μ-loop
+shared-slice-read-put-spelled-octet c = search needs
+
+put-spelled-octet-requires : tie.Need-put-spelled-octet-requires Inv-loop μ-loop
+put-spelled-octet-requires c κs = tt
+
+add-i : tie.Need-add-i Inv-loop μ-loop
+add-i c = search needs
+
+loop-less : tie.Need-loop-less Inv-loop μ-loop
+loop-less c = search needs
+
+loop-again : tie.Need-loop-again Inv-loop μ-loop
+loop-again c =
+    let l = c .before .before .before .before .before .before .loop in
+    let p = c .before .before .put-spelled-octet .ensures in
+    (omega (arith, p .ends, clips-long p), clips-long p ∙ l .inv .1, next-spelled (c .before .before .before .before .before .before .before .before .before .before .before .before .before .args .spelling) (now (c .before .before .before .before .before .before .before .before .before .before .before .before .before .args .octets)) (l .i) (c .before .before .before .before .before .loop-test .taken) (l .inv .2) p)
+
+same-length : tie.Need-same-length Inv-loop μ-loop
+same-length c = c .before .loop .inv .1 ∙ clips-long (c .before .before .before .before .put-nothing .ensures)
+
+returns : tie.Need-returns Inv-loop μ-loop
+returns c =
+    let l = c .before .loop in
+    then (c .before .before .before .before .put-nothing .ensures)
+    (all-spelled (c .before .before .before .before .before .before .before .before .args .spelling) (now (c .before .before .before .before .before .before .before .before .args .octets)) (l .i) (c .loop-test .left) (l .inv .2) (record { ends = omega (arith, l .inv .0); leaves = refl }))
+
+pub put-spelled-spec : {M : Type 1} → statement M
+put-spelled-spec =
+    tie.close
+    (tie.spec
+    Inv-loop
+    μ-loop
+    put-nothing-requires
+    loop-holds
+    shared-slice-read-put-spelled-octet
+    put-spelled-octet-requires
+    add-i
+    loop-less
+    loop-again
+    same-length
+    returns)

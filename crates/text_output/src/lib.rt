@@ -1,0 +1,231 @@
+// Text put into a lent slice. What would stand past the slice's end is left out, so that no function here asks for room:
+// `Clips` says so, and of a slice that is long enough it says that all is there.
+ghost use mathlib.Core.Path.{_≡_};
+ghost use mathlib.Core.List.{[], _∷_};
+ghost use Prim.Native.Nat.{_<_, _≤_, _^_};
+ghost use lib.ListN.{drop};
+ghost use lib.IntN.{natAbs};
+ghost use Rattle.text_output.specs.Clips.{Clips};
+ghost use Rattle.text_output.specs.Text.{hexDigit, hexPair, isPlain, escaped, spelledOctet, spelled, numeral, natural, radix, padded, minus, places, fraction, fixed};
+
+// How octets are written: as they are; in a text, escaped where they have to be; in hexadecimal, a space before each.
+pub enum Spelling {
+    Plain,
+    Escaped,
+    Hex,
+}
+
+// The base of a numeral.
+pub enum Base {
+    Decimal,
+    Hexadecimal,
+}
+
+// What a number counts: wholes, or parts of one, and then as many digits stand behind the point as it takes.
+pub enum Scale {
+    Ones,
+    Hundredths,
+    Thousandths,
+    TenMillionths,
+}
+
+pub fn put_octet(text: &mut [u8], at: usize, octet: u8) -> usize
+    ensures { λ r. ⌜ Clips (now (text .entry)) at (octet ∷ []) r (now (text .exit)) ⌝ }
+{
+    let end = text.len();
+    if at < end {
+        text[at] = octet;
+        return at + 1;
+    }
+    end
+}
+
+// No text, from a place that may lie past the end.
+pub fn put_nothing(text: &mut [u8], at: usize) -> usize
+    ensures { λ r. ⌜ Clips (now (text .entry)) at [] r (now (text .exit)) ⌝ }
+{
+    let end = text.len();
+    if at < end {
+        return at;
+    }
+    end
+}
+
+// ---- octets
+
+fn digit(d: u64) -> u8
+    requires { ⌜ d < 16 ⌝ }
+    ensures { λ r. ⌜ r ≡ hexDigit d ⌝ }
+{
+    (d + 48 + (d + 6) / 16 * 39) as u8
+}
+
+fn put_pair(text: &mut [u8], at: usize, octet: u8) -> usize
+    ensures { λ r. ⌜ Clips (now (text .entry)) at (hexPair octet) r (now (text .exit)) ⌝ }
+{
+    let n = octet as u64;
+    let at = put_octet(text, at, digit(n / 16));
+    put_octet(text, at, digit(n % 16))
+}
+
+fn is_plain(x: u8) -> bool
+    ensures { λ r. ⌜ r ≡ isPlain x ⌝ }
+{
+    (0x20 <= x) & (x <= 0x7E) & !(x == 0x22) & !(x == 0x5C)
+}
+
+fn put_escaped(text: &mut [u8], at: usize, octet: u8) -> usize
+    ensures { λ r. ⌜ Clips (now (text .entry)) at (escaped octet) r (now (text .exit)) ⌝ }
+{
+    if is_plain(octet) {
+        return put_octet(text, at, octet);
+    }
+    let at = put_octet(text, at, b'\\');
+    let at = put_octet(text, at, b'x');
+    put_pair(text, at, octet)
+}
+
+fn put_hex(text: &mut [u8], at: usize, octet: u8) -> usize
+    ensures { λ r. ⌜ Clips (now (text .entry)) at (spelledOctet Spelling.Hex octet) r (now (text .exit)) ⌝ }
+{
+    let at = put_octet(text, at, b' ');
+    put_pair(text, at, octet)
+}
+
+fn put_spelled_octet(text: &mut [u8], at: usize, spelling: Spelling, octet: u8) -> usize
+    ensures { λ r. ⌜ Clips (now (text .entry)) at (spelledOctet spelling octet) r (now (text .exit)) ⌝ }
+{
+    match spelling {
+        Spelling::Plain => put_octet(text, at, octet),
+        Spelling::Escaped => put_escaped(text, at, octet),
+        Spelling::Hex => put_hex(text, at, octet),
+    }
+}
+
+// The octets of a slice from a place on.
+pub fn put_spelled(
+    text: &mut [u8],
+    at: usize,
+    spelling: Spelling,
+    octets: &[u8],
+    from: usize,
+) -> usize
+    ensures { λ r. ⌜ Clips (now (text .entry)) at (spelled spelling (drop from (now (octets .entry)))) r (now (text .exit)) ⌝ }
+{
+    let mut at = put_nothing(text, at);
+    let mut i = from;
+    while i < octets.len() {
+        at = put_spelled_octet(text, at, spelling, octets[i]);
+        i += 1;
+    }
+    at
+}
+
+pub fn put_word(text: &mut [u8], at: usize, word: &[u8]) -> usize
+    ensures { λ r. ⌜ Clips (now (text .entry)) at (now (word .entry)) r (now (text .exit)) ⌝ }
+{
+    put_spelled(text, at, Spelling::Plain, word, 0)
+}
+
+// ---- numbers
+
+fn put_numeral(text: &mut [u8], at: usize, padded: bool, base: u64, most: u8, n: u64) -> usize
+    requires { ⌜ (0 < base) × (base ≤ 16) ⌝ }
+    ensures { λ r. ⌜ Clips (now (text .entry)) at (numeral padded base most n) r (now (text .exit)) ⌝ }
+{
+    if most == 0 {
+        return put_nothing(text, at);
+    }
+    if !padded & (n < base) {
+        return put_octet(text, at, digit(n));
+    }
+    let at = put_numeral(text, at, padded, base, most - 1, n / base);
+    put_octet(text, at, digit(n % base))
+}
+
+pub fn put_natural(text: &mut [u8], at: usize, n: u64) -> usize
+    ensures { λ r. ⌜ Clips (now (text .entry)) at (natural n) r (now (text .exit)) ⌝ }
+{
+    put_numeral(text, at, false, 10, 20, n)
+}
+
+// A number without its sign.
+fn size(n: i64) -> u64
+    ensures { λ r. ⌜ r ≡ natAbs n ⌝ }
+{
+    if n < 0 {
+        return (-1 - n) as u64 + 1;
+    }
+    n as u64
+}
+
+fn put_minus(text: &mut [u8], at: usize, n: i64) -> usize
+    ensures { λ r. ⌜ Clips (now (text .entry)) at (minus n) r (now (text .exit)) ⌝ }
+{
+    if n < 0 {
+        return put_octet(text, at, b'-');
+    }
+    put_nothing(text, at)
+}
+
+fn radix_of(base: Base) -> u64
+    ensures { λ r. ⌜ (r ≡ radix base) × (0 < r) × (r ≤ 16) ⌝ }
+{
+    match base {
+        Base::Decimal => 10,
+        Base::Hexadecimal => 16,
+    }
+}
+
+// So many digits, the low ones of the number.
+pub fn put_padded(text: &mut [u8], at: usize, base: Base, digits: u8, n: u64) -> usize
+    ensures { λ r. ⌜ Clips (now (text .entry)) at (padded base digits n) r (now (text .exit)) ⌝ }
+{
+    put_numeral(text, at, true, radix_of(base), digits, n)
+}
+
+// ---- numbers of small units
+
+fn places_of(scale: Scale) -> u8
+    ensures { λ r. ⌜ r ≡ places scale ⌝ }
+{
+    match scale {
+        Scale::Ones => 0,
+        Scale::Hundredths => 2,
+        Scale::Thousandths => 3,
+        Scale::TenMillionths => 7,
+    }
+}
+
+// How many make a whole.
+fn whole_of(scale: Scale) -> u64
+    ensures { λ r. ⌜ (r ≡ 10 ^ places scale) × (0 < r) ⌝ }
+{
+    match scale {
+        Scale::Ones => 1,
+        Scale::Hundredths => 100,
+        Scale::Thousandths => 1000,
+        Scale::TenMillionths => 10000000,
+    }
+}
+
+fn put_fraction(text: &mut [u8], at: usize, places: u8, n: u64) -> usize
+    ensures { λ r. ⌜ Clips (now (text .entry)) at (fraction places n) r (now (text .exit)) ⌝ }
+{
+    if places == 0 {
+        return put_nothing(text, at);
+    }
+    let at = put_octet(text, at, b'.');
+    put_numeral(text, at, true, 10, places, n)
+}
+
+// So many small units, in wholes.
+pub fn put_fixed(text: &mut [u8], at: usize, scale: Scale, n: i64) -> usize
+    ensures { λ r. ⌜ Clips (now (text .entry)) at (fixed scale n) r (now (text .exit)) ⌝ }
+{
+    let small = size(n);
+    let whole = whole_of(scale);
+    let at = put_minus(text, at, n);
+    let at = put_natural(text, at, small / whole);
+    put_fraction(text, at, places_of(scale), small % whole)
+}
