@@ -3,8 +3,10 @@
 //! docs/SERVICE-DESK.md promises.
 
 mod line;
+mod mavlink;
 
 pub use line::line;
+pub use mavlink::mavlink;
 
 /// A refusal in words.
 fn reason(number: u8) -> &'static str {
@@ -19,6 +21,12 @@ fn reason(number: u8) -> &'static str {
         11 => "wrong length",
         12 => "wrong version, signature or subtype",
         13 => "field outside its range",
+        20 => "too few bytes",
+        21 => "first byte not fe",
+        22 => "unknown message",
+        23 => "wrong length",
+        24 => "check wrong",
+        25 => "field outside its range",
         _ => panic!("no such refusal: {number}"),
     }
 }

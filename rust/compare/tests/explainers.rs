@@ -4,6 +4,7 @@
 use compare::explained;
 use compare::generator::Generator;
 use compare::lines;
+use compare::mavlink;
 use compare::messages::Kind;
 use compare::programs::output_of;
 use compare::tally::Tally;
@@ -68,4 +69,88 @@ fn lines_of_every_kind() {
         }
     }
     tally.close("line explainer, in octets", 4_000_000);
+}
+
+#[test]
+fn no_frame() {
+    assert_eq!(output_of("mavlink_explainer", &[]), b"frames 0 bytes 0\n");
+}
+
+/// Right frames back to back, of one kind.
+fn frames(kind: mavlink::Kind, count: usize, generator: &mut Generator) -> Vec<u8> {
+    (0..count)
+        .flat_map(|_| kind.right_frame(generator))
+        .collect()
+}
+
+#[test]
+fn frames_of_every_kind() {
+    let mut tally = Tally::default();
+    let mut generator = Generator::new(33);
+    for kind in mavlink::Kind::ALL {
+        // Many blocks.
+        let count = 40_000;
+        let capture = frames(kind, count, &mut generator);
+        let differs = output_of("mavlink_explainer", &capture) != explained::mavlink(&capture);
+        let difference = differs.then(|| kind.name().to_owned());
+        tally.count_many(kind.name(), count as u64, difference);
+    }
+    tally.close("MAVLink explainer, in frames", 200_000);
+}
+
+/// Some right frames, then one that is changed, cut short, or no frame at all,
+/// and right ones behind it.
+fn damaged_capture(generator: &mut Generator) -> Vec<u8> {
+    let kind = generator.pick(&mavlink::Kind::ALL);
+    let count = generator.pick(&[0, 1, 2, 3, 30]);
+    let mut capture = frames(kind, count, generator);
+    let mut frame = match generator.below(3) {
+        0 => generator.pick(&mavlink::Kind::ALL).random_frame(generator),
+        _ => generator.pick(&mavlink::Kind::ALL).right_frame(generator),
+    };
+    let at = generator.below(frame.len());
+    match generator.below(4) {
+        0 => frame[at] ^= 1 << generator.below(8),
+        1 => frame.truncate(at),
+        2 => drop(frame.remove(at)),
+        _ => {}
+    }
+    capture.extend(frame);
+    if generator.below(2) == 0 {
+        capture.extend(frames(kind, 2, generator));
+    }
+    capture
+}
+
+#[test]
+fn captures_with_a_refused_frame() {
+    let mut tally = Tally::default();
+    let mut generator = Generator::new(34);
+    for _ in 0..3_000 {
+        let capture = damaged_capture(&mut generator);
+        let differs = output_of("mavlink_explainer", &capture) != explained::mavlink(&capture);
+        let difference = differs.then(|| format!("{capture:02x?}"));
+        tally.count("captures with a damaged frame", difference);
+    }
+    tally.close("MAVLink explainer, in captures", 3_000);
+}
+
+/// A frame across every place about the end of a block of 65,536 octets.
+#[test]
+fn frames_across_blocks() {
+    let mut tally = Tally::default();
+    let mut generator = Generator::new(35);
+    for first in 0..60 {
+        // 14 and 9 octets: every number of them from 104 on is a sum.
+        let nines = (0..14).find(|nines| (first + 200 - 9 * nines) % 14 == 0);
+        let nines = nines.expect("9 and 14 have no factor in common");
+        let fourteens = (first + 200 - 9 * nines) / 14;
+        let mut capture = frames(mavlink::Kind::Status, nines, &mut generator);
+        capture.extend(frames(mavlink::Kind::DataStream, fourteens, &mut generator));
+        capture.extend(frames(mavlink::Kind::Dynamic, 1_400, &mut generator));
+        let differs = output_of("mavlink_explainer", &capture) != explained::mavlink(&capture);
+        let difference = differs.then(|| format!("a shift by {first}"));
+        tally.count("captures of more than a block", difference);
+    }
+    tally.close("MAVLink explainer, by where a block ends", 60);
 }
