@@ -62,12 +62,12 @@ next-xor r s b c hr hs =
     ap (λ (n : ℕ). step n false) (ap (bitXor (bitXor r s)) (top-xor b c) ∙ xor-swap r s _ _)
     ∙ step-xor _ _ false false (met-lt r b hr) (met-lt s c hs)
 
-pub register-lt : (r : ℕ) (bs : List Bool) → r < degree16 → register r bs < degree16
+register-lt : (r : ℕ) (bs : List Bool) → r < degree16 → register r bs < degree16
 unfolding register
 register-lt r [] h = h
 register-lt r (b ∷ bs) h = register-lt (next r b) bs (next-lt r b h)
 
-pub register-xor : (r s : ℕ) (xs ys : List Bool) → r < degree16 → s < degree16 → length xs ≡ length ys
+register-xor : (r s : ℕ) (xs ys : List Bool) → r < degree16 → s < degree16 → length xs ≡ length ys
     → register (bitXor r s) (sum xs ys) ≡ bitXor (register r xs) (register s ys)
 unfolding register sum
 register-xor r s [] [] hr hs e = refl
@@ -77,7 +77,7 @@ register-xor r s (x ∷ xs) (y ∷ ys) hr hs e =
     ap (λ (t : ℕ). register t (sum xs ys)) (next-xor r s x y hr hs)
     ∙ register-xor (next r x) (next s y) xs ys (next-lt r x hr) (next-lt s y hs) (omega arith)
 
-pub register-append : (r : ℕ) (xs ys : List Bool) → register r (xs ++ ys) ≡ register (register r xs) ys
+register-append : (r : ℕ) (xs ys : List Bool) → register r (xs ++ ys) ≡ register (register r xs) ys
 unfolding register
 register-append r [] ys = refl
 register-append r (x ∷ xs) ys = register-append (next r x) xs ys
@@ -87,7 +87,7 @@ mirrored-lt : (n : ℕ) → mirrored n < degree16
 unfolding mirrored
 mirrored-lt n = rw (bitsUp-length 16 n) at (polynomial-lt 0 1 (bitsUp 16 n) (omega arith))
 
-pub mirrored-back : (n : ℕ) → n < degree16 → mirrored (mirrored n) ≡ n
+mirrored-back : (n : ℕ) → n < degree16 → mirrored (mirrored n) ≡ n
 unfolding mirrored bitsUp polynomial
 mirrored-back n h =
     agree (λ n. mirrored (mirrored n)) (λ n. n)
