@@ -1,5 +1,6 @@
 -- A run over a slice of the line, from some place of it on. Assumes nothing.
 use mathlib.Core.Path.{_≡_, refl, sym, ap, _∙_}
+use mathlib.Core.Bool.{true, false}
 use mathlib.Core.List.{List, _∷_}
 use Prim.Native.Nat.{ℕ, zero, suc, _+_, _<_, _≤_}
 use native.Mathlib.Omega.{arith}
@@ -16,10 +17,10 @@ use Rattle.byte_account.specs.declared.Counts.{Counts}
 use Rattle.closing_flag.specs.declared.Answer.the-variants.{Nothing, Delivered, Refused}
 use Rattle.closing_flag.specs.declared.Answer.{Answer}
 use Rattle.slice_receiver.specs.declared.Taken.{Taken}
-use Rattle.closing_flag.specs.Answers.{answerOf, nothing, refusal, body, told, outputAfter}
+use Rattle.closing_flag.specs.Answers.{answerOf, nothing, told, outputAfter}
 use Rattle.receiver.specs.Step.{State, stateAfter, answerDue, countsAfter, advancedIn, storing, countedOctet, countedBy, stateOf}
 use Rattle.slice_receiver.specs.Run.{Run, run, later, endAt, Takes}
-use Rattle.slice_receiver.specs.Parts.{reading, laterBy, Ignores, Turns}
+use Rattle.slice_receiver.specs.Parts.{reading, laterBy, Ignores, isAnswer, Turns}
 
 abbrev takenBy : Run → ℕ → Run
 takenBy r n = record { state = r .state; counts = r .counts; taken = n; verdict = r .verdict }
@@ -110,6 +111,12 @@ stepped s s′ c c′ line at n room h e d =
 
 -- ---- a turn of the loop
 
+pub one-moved : (n : ℕ) → 0 < n + 1
+one-moved n = omega arith
+
+pub one-within : (at n : ℕ) {long : ℕ} → at + n < long → at + (n + 1) ≤ long
+one-within at n h = omega arith
+
 silent-due : (due : Verdict) → nothing ≡ told due → due ≡ silent
 silent-due silent e = refl
 silent-due (refused number) e =
@@ -119,15 +126,24 @@ silent-due (delivered octets) e =
     let z : _≡_ {A = ℕ} 0 1 = cc in
     absurd (omega arith)
 
-pub refusal-told : (answer : Answer) (number : ℕ) → answer ≡ Refused number → nothing ≡ answerOf answer → ⊥
-refusal-told answer number e h =
-    let d : nothing ≡ refusal number = h ∙ ap answerOf e in
+-- what the test of an answer tells
+pub no-answer : (answer : Answer) → isAnswer answer ≡ false → answer ≡ Nothing
+no-answer Nothing h = refl
+no-answer (Delivered octets) h =
+    let z : _≡_ {A = ℕ} 0 1 = cc in
+    absurd (omega arith)
+no-answer (Refused number) h =
+    let z : _≡_ {A = ℕ} 0 1 = cc in
+    absurd (omega arith)
+
+pub some-answer : (answer : Answer) → isAnswer answer ≡ true → nothing ≡ answerOf answer → ⊥
+some-answer Nothing e h =
     let z : _≡_ {A = ℕ} 0 1 = cc in
     omega arith
-
-pub body-told : (answer : Answer) (octets : ℕ) → answer ≡ Delivered octets → nothing ≡ answerOf answer → ⊥
-body-told answer octets e h =
-    let d : nothing ≡ body octets = h ∙ ap answerOf e in
+some-answer (Delivered octets) e h =
+    let z : _≡_ {A = ℕ} 0 1 = cc in
+    omega arith
+some-answer (Refused number) e h =
     let z : _≡_ {A = ℕ} 0 1 = cc in
     omega arith
 

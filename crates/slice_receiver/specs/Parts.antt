@@ -1,10 +1,13 @@
 -- What the parts of a call with a slice ensure, in the terms of `run`. Assumes nothing.
 use mathlib.Core.Path.{_≡_}
+use mathlib.Core.Bool.{Bool, true, false}
 use mathlib.Core.List.{List}
 use Prim.Native.Nat.{ℕ, _+_, _<_, _≤_}
 use lib.ListN.{length, getD, drop}
 use Rattle.frame_format.specs.Stuffing.{flag}
 use Rattle.frame_format.specs.Stretch.{Verdict, storeOctets}
+use Rattle.closing_flag.specs.declared.Answer.{Answer}
+use Rattle.closing_flag.specs.declared.Answer.the-variants.{Nothing, Delivered, Refused}
 use Rattle.closing_flag.specs.Answers.{answerOf, told, outputAfter}
 use Rattle.byte_account.specs.declared.Counts.{Counts}
 use Rattle.receiver.specs.declared.Phase.{Phase}
@@ -43,6 +46,11 @@ pub record Passes (rest : Rest) (counts : Counts) (store line : List ℕ) (at : 
   pub within : at + given .taken ≤ length line
   pub runs : (room : ℕ) → run (stateOf rest store) counts (drop at line) room
       ≡ laterBy (given .taken) (run (stateOf (given .rest) storeAfter) (given .counts) (drop (at + given .taken) line) room)
+
+abbrev pub isAnswer : Answer → Bool
+isAnswer Nothing = false
+isAnswer (Delivered octets) = true
+isAnswer (Refused number) = true
 
 -- some octets at `at`, up to one that may bring an answer, and the run behind them where it brings none
 pub record Turns (rest : Rest) (counts : Counts) (store line : List ℕ) (at : ℕ) (output : List ℕ)

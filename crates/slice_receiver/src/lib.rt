@@ -5,7 +5,7 @@ ghost use Prim.Native.Nat.{ℕ, _+_, _<_, _≤_};
 ghost use lib.ListN.{length};
 ghost use Rattle.receiver.specs.Step.{Receives};
 ghost use Rattle.slice_receiver.specs.Run.{Takes};
-ghost use Rattle.slice_receiver.specs.Parts.{PutsPlain, NoFlag, Ignores, Passes, Turns};
+ghost use Rattle.slice_receiver.specs.Parts.{PutsPlain, NoFlag, Ignores, Passes, isAnswer, Turns};
 use byte_account::Counts;
 use closing_flag::Answer;
 use receiver::Phase;
@@ -182,6 +182,16 @@ fn turn(
     }
 }
 
+fn answered(answer: Answer) -> bool
+    ensures { λ r. ⌜ r ≡ isAnswer answer ⌝ }
+{
+    match answer {
+        Answer::Nothing => false,
+        Answer::Delivered(_) => true,
+        Answer::Refused(_) => true,
+    }
+}
+
 // Octets of the line up to and including the one that brings the next answer.
 pub fn receive_slice(
     rest: Rest,
@@ -207,10 +217,8 @@ pub fn receive_slice(
             answer,
             taken: i,
         };
-        match answer {
-            Answer::Nothing => {}
-            Answer::Delivered(_) => return all,
-            Answer::Refused(_) => return all,
+        if answered(answer) {
+            return all;
         }
     }
     Taken {

@@ -1,6 +1,6 @@
 -- `slice_receiver::receive_slice` meets its contract. The loop's invariant: the run over the slice is the run behind the i octets
 -- taken so far, and nothing was put out. Assumes nothing.
-use mathlib.Core.Path.{_≡_, refl, ap, _∙_}
+use mathlib.Core.Path.{_≡_, refl, sym, ap, _∙_}
 use Prim.Native.Nat.{_+_, _-_, _≤_}
 use native.Mathlib.Omega.{arith}
 use lib.ListN.{length, drop}
@@ -10,7 +10,7 @@ use Rattle.closing_flag.specs.Answers.{nothing, answerOf}
 use Rattle.receiver.specs.Step.{stateOf}
 use Rattle.slice_receiver.specs.Run.{run, Takes}
 use Rattle.slice_receiver.specs.Parts.{laterBy, Turns}
-use Rattle.slice_receiver.proofs.Slice.{none-taken, turned-on, turned-out, used-up, takes, body-told, refusal-told}
+use Rattle.slice_receiver.proofs.Slice.{none-taken, turned-on, turned-out, used-up, takes, no-answer, some-answer}
 use borrow.Author.Needs.{needs}
 use Rattle.slice_receiver.proofs.receive_slice.Statement.{statement}
 use Rattle.slice_receiver.proofs.receive_slice.Tie as tie
@@ -36,7 +36,7 @@ kept-length : (c : tie.After-turn Inv-loop μ-loop)
 kept-length c = c .turn .kept .1 .1 .1 .1 .1 .0 ∙ ap length (c .before .before .before .before .loop .inv .1)
 
 -- the turn's answer is the run's
-answered : (c : tie.After-turn Inv-loop μ-loop) → (nothing ≡ answerOf (c .turn .result .answer) → ⊥)
+answers : (c : tie.After-turn Inv-loop μ-loop) → (nothing ≡ answerOf (c .turn .result .answer) → ⊥)
     → Takes (c .before .before .before .before .before .before .before .args .rest) (c .before .before .before .before .before .before .before .args .counts)
     (now (c .before .before .before .before .before .before .before .args .store)) (now (c .before .before .before .before .before .before .before .args .line))
     (now (c .before .before .before .before .before .before .before .args .output))
@@ -47,7 +47,7 @@ answered : (c : tie.After-turn Inv-loop μ-loop) → (nothing ≡ answerOf (c .t
       taken = c .before .before .before .before .loop .i + c .turn .result .taken;
     })
     (c .turn .last .1 .1 .0) (c .turn .last .1 .1 .1 .1 .1 .0)
-answered c h =
+answers c h =
     let l = c .before .before .before .before .loop in
     let t = turned c in
     takes _ _ _ _ _ _ _ _ (t .due) (turned-out _ _ _ _ _ (l .i) _ _ _ _ (l .inv .2) t h) (t .answers) (t .puts)
@@ -65,8 +65,16 @@ add-i c =
     let turned = c .before .before .before .before .before in
     omega (arith, turned .turn .ensures .within, turned .before .before .before .before .before .before .before .good)
 
-enum-told : tie.Need-enum-told Inv-loop μ-loop
-enum-told c = search needs
+answered-requires : tie.Need-answered-requires Inv-loop μ-loop
+answered-requires c κs = search needs
+
+same-length : tie.Need-same-length Inv-loop μ-loop
+same-length c = kept-length (c .before .before .before .before .before .before .before)
+
+returns : tie.Need-returns Inv-loop μ-loop
+returns c =
+    let turn = c .before .before .before .before .before .before .before in
+    answers turn (some-answer (turn .turn .result .answer) (sym (c .before .answered .ensures) ∙ c .if1 .taken))
 
 loop-less : tie.Need-loop-less Inv-loop μ-loop
 loop-less c =
@@ -77,32 +85,15 @@ loop-again : tie.Need-loop-again Inv-loop μ-loop
 loop-again c =
     let turn = c .before .before .before .before .before .before .before in
     let l = turn .before .before .before .before .loop in
-    let on = turned-on _ _ _ _ _ (l .i) _ _ _ _ (l .inv .2) (turned turn) (c .enum-told .given .1) in
+    let none = no-answer (turn .turn .result .answer) (sym (c .before .answered .ensures) ∙ c .if1 .left) in
+    let on = turned-on _ _ _ _ _ (l .i) _ _ _ _ (l .inv .2) (turned turn) none in
     (turn .turn .ensures .within, on .0, on .1)
 
-enum-told-2 : tie.Need-enum-told-2 Inv-loop μ-loop
-enum-told-2 c = search needs
-
-same-length : tie.Need-same-length Inv-loop μ-loop
-same-length c = kept-length (c .before .before .before .before .before .before .before)
-
-returns : tie.Need-returns Inv-loop μ-loop
-returns c = answered (c .before .before .before .before .before .before .before) (body-told _ _ (c .enum-told2 .given .1))
-
-enum-told-3 : tie.Need-enum-told-3 Inv-loop μ-loop
-enum-told-3 c = search needs
-
 same-length-2 : tie.Need-same-length-2 Inv-loop μ-loop
-same-length-2 c = kept-length (c .before .before .before .before .before .before .before)
+same-length-2 c = search needs
 
 returns-2 : tie.Need-returns-2 Inv-loop μ-loop
-returns-2 c = answered (c .before .before .before .before .before .before .before) (refusal-told _ _ (c .enum-told3 .given .1))
-
-same-length-3 : tie.Need-same-length-3 Inv-loop μ-loop
-same-length-3 c = search needs
-
-returns-3 : tie.Need-returns-3 Inv-loop μ-loop
-returns-3 c =
+returns-2 c =
     let l = c .before .loop in
     takes _ _ _ _ _ _ _ _ silent (l .inv .2 ∙ used-up _ _ (now (c .before .before .before .before .args .line)) (l .i) _ (c .loop-test .left)) refl (l .inv .1)
 
@@ -115,14 +106,10 @@ receive-slice-spec =
     loop-holds
     turn-requires
     add-i
-    enum-told
-    loop-less
-    loop-again
-    enum-told-2
+    answered-requires
     same-length
     returns
-    enum-told-3
+    loop-less
+    loop-again
     same-length-2
-    returns-2
-    same-length-3
-    returns-3)
+    returns-2)

@@ -6,7 +6,7 @@ use lib.ListN.{length, getD}
 use denote.Ref.{now}
 use Rattle.receiver.specs.Step.{answerDue, stateOf}
 use Rattle.frame_format.specs.Stretch.{silent}
-use Rattle.slice_receiver.proofs.Slice.{stepped}
+use Rattle.slice_receiver.proofs.Slice.{stepped, one-moved, one-within}
 use borrow.Author.Needs.{needs}
 use Rattle.slice_receiver.proofs.turn.Statement.{statement}
 use Rattle.slice_receiver.proofs.turn.Tie as tie
@@ -42,8 +42,8 @@ returns c =
     let r = c .before .before .before .before .before .step .ensures in
     record {
       due = answerDue (stateOf (p .result .rest) (p .last .1 .1 .0)) (getD line (a .from + p .result .taken) 0) room;
-      moved = omega arith;
-      within = omega (arith, tested .if1 .taken);
+      moved = one-moved (p .result .taken);
+      within = one-within (a .from) (p .result .taken) (tested .if1 .taken);
       answers = r .answers;
       puts = r .puts;
       runs = p .ensures .runs room
