@@ -1,8 +1,8 @@
 -- The tender's demands 1 to 3, in one place. Each is a statement over what the running functions ensure of a call, so it holds of
 -- what runs: `Writes` of `frame_writer::write_frame`, `Receives` of `receiver::receive` and `Takes` of `receive_slice`; of the
--- messages `Reads`, `Writes` and `Sends` (ucp_messages, ucp_send); of MAVLink `readDue` and `writeDue` (mavlink_messages). That
--- every call on every input returns, with no undefined step, is what proving a Rattle function means, and no public function asks
--- anything of its caller. Proved in proofs/Demands.antt. Assumes nothing.
+-- messages `Reads`, `Writes` and `Sends` (ucp_messages, message_answers, ucp_send); of MAVLink `readDue` and `writeDue`
+-- (mavlink_messages). That every call on every input returns, with no undefined step, is what proving a Rattle function means, and
+-- no public function asks anything of its caller. Proved in proofs/Demands.antt. Assumes nothing.
 use mathlib.Core.Path.{_≡_}
 use mathlib.Core.Bool.{true, false}
 use mathlib.Core.List.{List, [], _∷_, _++_, map}

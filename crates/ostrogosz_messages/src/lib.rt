@@ -137,27 +137,38 @@ fn blank(refusal: u8, id: u8) -> OstrogoszMessage
     }
 }
 
-// ---- the fields of a kind, or why there are none. Each calls its kind's reader: a message as an enum would be copied on the way.
+// ---- the fields of a kind, or why there are none. Each calls its kind's reader, as a message in an enum would be copied on the
+// way, and starts from the blank answer, as two answers would be joined over the stack.
 
 fn heartbeat(body: &[u8]) -> OstrogoszMessage
     ensures { λ r. ⌜ r ≡ messageNumbers (answerAs Kind.Heartbeat (now (body .entry))) ⌝ }
 {
+    let mut m = blank(0, 0);
     match gdl90_messages::message_0::read(body) {
         HeartbeatRead::Heartbeat(heartbeat) => {
-            let mut m = blank(0, 0);
             m.heartbeat = heartbeat;
             m
         }
-        HeartbeatRead::Refused(number) => blank(number, 0),
+        HeartbeatRead::Refused(number) => {
+            m.refusal = number as u32;
+            m
+        }
     }
 }
 
 fn uplink(body: &[u8]) -> OstrogoszMessage
     ensures { λ r. ⌜ r ≡ messageNumbers (answerAs Kind.Uplink (now (body .entry))) ⌝ }
 {
+    let mut m = blank(0, 0);
     match gdl90_messages::message_7::read(body) {
-        UplinkRead::Uplink => blank(0, 7),
-        UplinkRead::Refused(number) => blank(number, 0),
+        UplinkRead::Uplink => {
+            m.id = 7;
+            m
+        }
+        UplinkRead::Refused(number) => {
+            m.refusal = number as u32;
+            m
+        }
     }
 }
 
@@ -165,65 +176,85 @@ fn uplink(body: &[u8]) -> OstrogoszMessage
 fn report(id: u8, body: &[u8]) -> OstrogoszMessage
     ensures { λ r. ⌜ r ≡ reportNumbers id (reportRead (now (body .entry))) ⌝ }
 {
+    let mut m = blank(0, 0);
     match gdl90_messages::message_10::read(body) {
         ReportRead::Report(report) => {
-            let mut m = blank(0, id);
+            m.id = id as u32;
             m.report = report;
             m
         }
-        ReportRead::Refused(number) => blank(number, 0),
+        ReportRead::Refused(number) => {
+            m.refusal = number as u32;
+            m
+        }
     }
 }
 
 fn geometric_altitude(body: &[u8]) -> OstrogoszMessage
     ensures { λ r. ⌜ r ≡ messageNumbers (answerAs Kind.GeometricAltitude (now (body .entry))) ⌝ }
 {
+    let mut m = blank(0, 0);
     match gdl90_messages::message_11::read(body) {
         GeometricAltitudeRead::GeometricAltitude(geometric_altitude) => {
-            let mut m = blank(0, 11);
+            m.id = 11;
             m.geometric_altitude = geometric_altitude;
             m
         }
-        GeometricAltitudeRead::Refused(number) => blank(number, 0),
+        GeometricAltitudeRead::Refused(number) => {
+            m.refusal = number as u32;
+            m
+        }
     }
 }
 
 fn request(body: &[u8]) -> OstrogoszMessage
     ensures { λ r. ⌜ r ≡ messageNumbers (answerAs Kind.Request (now (body .entry))) ⌝ }
 {
+    let mut m = blank(0, 0);
     match control_messages::message_44::read(body) {
         RequestRead::Request(request) => {
-            let mut m = blank(0, 44);
+            m.id = 44;
             m.request = request;
             m
         }
-        RequestRead::Refused(number) => blank(number, 0),
+        RequestRead::Refused(number) => {
+            m.refusal = number as u32;
+            m
+        }
     }
 }
 
 fn control(body: &[u8]) -> OstrogoszMessage
     ensures { λ r. ⌜ r ≡ messageNumbers (answerAs Kind.Control (now (body .entry))) ⌝ }
 {
+    let mut m = blank(0, 0);
     match control_messages::message_45::read(body) {
         ControlRead::Control(control) => {
-            let mut m = blank(0, 45);
+            m.id = 45;
             m.control = control;
             m
         }
-        ControlRead::Refused(number) => blank(number, 0),
+        ControlRead::Refused(number) => {
+            m.refusal = number as u32;
+            m
+        }
     }
 }
 
 fn initialization(body: &[u8]) -> OstrogoszMessage
     ensures { λ r. ⌜ r ≡ messageNumbers (answerAs Kind.Initialization (now (body .entry))) ⌝ }
 {
+    let mut m = blank(0, 0);
     match control_messages::message_117::read(body) {
         InitializationRead::Initialization(initialization) => {
-            let mut m = blank(0, 117);
+            m.id = 117;
             m.initialization = initialization;
             m
         }
-        InitializationRead::Refused(number) => blank(number, 0),
+        InitializationRead::Refused(number) => {
+            m.refusal = number as u32;
+            m
+        }
     }
 }
 

@@ -9,6 +9,6 @@ pub report-spec : {M : Type 1} → statement M
 unfolding blank
 report-spec =
     tie.close
-    (tie.spec (λ c κs. search needs) (λ c. search needs) (λ c κs. search needs) (λ c. search needs) (λ c κs. search needs)
-    (λ c. rw (c .blank .ensures) (ap (reportNumbers (c .before .before .before .before .before .before .args .id)) (sym (c .before .before .report .given .1) ∙ c .before .before .before .before .read .ensures)))
-    (λ c. c .blank2 .ensures ∙ ap (reportNumbers (c .before .before .before .before .before .before .args .id)) (sym (c .before .before .number .given .1) ∙ c .before .before .before .before .read .ensures)))
+    (tie.spec (λ c κs. search needs) (λ c κs. search needs) (λ c. search needs) (λ c. search needs) (λ c. search needs)
+    (λ c. rw (c .before .before .before .before .blank .ensures) (ap (reportNumbers (c .before .before .before .before .before .before .args .id)) (sym (c .before .report .given .1) ∙ c .before .before .before .read .ensures)))
+    (λ c. rw (c .before .before .before .before .blank .ensures) (ap (reportNumbers (c .before .before .before .before .before .before .args .id)) (sym (c .before .number .given .1) ∙ c .before .before .before .read .ensures))))

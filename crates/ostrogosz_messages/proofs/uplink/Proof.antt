@@ -10,6 +10,6 @@ pub uplink-spec : {M : Type 1} → statement M
 unfolding meant blank
 uplink-spec =
     tie.close
-    (tie.spec (λ c κs. search needs) (λ c. search needs) (λ c κs. search needs) (λ c. search needs) (λ c κs. search needs)
-    (λ c. c .blank .ensures ∙ ap messageNumbers (uplink-told _ (sym (c .before .enum-told .given .1) ∙ c .before .before .before .read .ensures)))
-    (λ c. c .blank2 .ensures ∙ ap messageNumbers (uplink-told _ (sym (c .before .before .number .given .1) ∙ c .before .before .before .before .read .ensures))))
+    (tie.spec (λ c κs. search needs) (λ c κs. search needs) (λ c. search needs) (λ c. search needs) (λ c. search needs)
+    (λ c. rw (c .before .before .before .blank .ensures) (ap messageNumbers (uplink-told _ (sym (c .enum-told .given .1) ∙ c .before .before .read .ensures))))
+    (λ c. rw (c .before .before .before .before .blank .ensures) (ap messageNumbers (uplink-told _ (sym (c .before .number .given .1) ∙ c .before .before .before .read .ensures)))))
