@@ -27,7 +27,7 @@ reading-most s u NoData = omega arith
 reading-most s u (Known z) = simp length-append (omega (arith, fixed-most s z, unit-most u))
 
 -- what a value can take, whatever the number is
-abbrev most : Value → ℕ
+abbrev pub most : Value → ℕ
 most (number n) = 20
 most (reading scale unit r) = 47
 most (squawk n) = 4

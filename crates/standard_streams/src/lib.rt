@@ -91,7 +91,7 @@ fn zero(memory: &mut [u8])
 // Clears memory that was lent. A compiler drops stores to memory that nothing reads again, and this language has no way to
 // forbid that. C may read what it is handed, so the stores before such a call stay: there is no descriptor -1, and nothing is
 // written.
-fn clear(memory: &mut [u8])
+pub fn clear(memory: &mut [u8])
     ensures { λ r. ⌜ Zeroed (now (memory .entry)) (now (memory .exit)) ⌝ }
 {
     zero(memory);

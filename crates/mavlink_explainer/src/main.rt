@@ -1,0 +1,193 @@
+// The MAVLink explainer: reads standard input to its end, frames back to back, and writes a line for each frame that says what
+// it means. It stops at the first frame that is refused, and closes with how many frames were explained and the octets that
+// they used. `mavlink_explanation` has the text, `standard_streams` the reading and the writing.
+//
+// Where a read or a write fails the line lister's rules hold: what was explained has been written out, the failure is said on
+// standard error, and no closing line follows.
+ghost use mathlib.Core.Path.{_≡_};
+ghost use mathlib.Core.Bool.{cond};
+ghost use Prim.Native.Nat.{_-_, _<_, _≤_};
+ghost use lib.ListN.{length, drop};
+ghost use lib.Seq.{paste};
+ghost use Rattle.standard_streams.specs.declared.Input.the-variants.{More, Ended};
+ghost use Rattle.standard_streams.specs.Blocks.{Zeroed};
+ghost use Rattle.mavlink_explanation.specs.Decided.{frameRoom};
+ghost use Rattle.mavlink_explainer.specs.Blocks.{Behind, Leaves, Closed};
+use standard_streams::Got;
+use standard_streams::Input;
+
+// How far the frames are told: how many, the octets that they used, and how many octets behind them are left of the block.
+// The input has ended where it is at its end or a frame was refused.
+struct Progress {
+    frames: u64,
+    bytes: u64,
+    left: usize,
+    input: Input,
+}
+
+// How many octets decide a frame: 50 do, and all that there are where the input has ended.
+fn least_octets(last: bool) -> usize
+    ensures { λ r. ⌜ r ≡ cond last 1 frameRoom ⌝ }
+{
+    if last {
+        return 1;
+    }
+    50
+}
+
+fn goes_on(last: bool) -> Input
+    ensures { λ r. ⌜ r ≡ cond last Ended More ⌝ }
+{
+    if last {
+        return Input::Ended;
+    }
+    Input::More
+}
+
+// Explains the frames of a block, and writes each line out. A frame is decided where 50 octets are there, or the input has
+// ended (`last`).
+fn explain_block(
+    frames: u64,
+    bytes: u64,
+    last: bool,
+    block: &[u8],
+    text: &mut [u8; 1536],
+) -> Progress
+    ensures { λ r. ⌜ Leaves (r .input) (r .left) (length (now (block .entry))) ⌝ }
+{
+    let mut frames = frames;
+    let mut bytes = bytes;
+    let mut left = block.len();
+    let least = least_octets(last);
+    while least <= left {
+        let used = block.len() - left;
+        let explained = mavlink_explanation::explain_frame(&block[used..], text);
+        let n = explained.written;
+        if !standard_streams::write_first(text, n) {
+            return Progress {
+                frames: frames,
+                bytes: bytes,
+                left: left,
+                input: Input::Failed,
+            };
+        }
+        if explained.refused {
+            return Progress {
+                frames: frames,
+                bytes: bytes,
+                left: left,
+                input: Input::Ended,
+            };
+        }
+        frames = std::num::wrapping_add_u64(frames, 1);
+        bytes = std::num::wrapping_add_u64(bytes, explained.used as u64);
+        left -= explained.used;
+    }
+    Progress {
+        frames: frames,
+        bytes: bytes,
+        left: left,
+        input: goes_on(last),
+    }
+}
+
+// Moves the octets from a place of the block up to another to its start.
+fn carry(block: &mut [u8], from: usize, end: usize)
+    requires { ⌜ (from ≤ end) × (end ≤ length (now block)) ⌝ }
+    ensures { λ r. ⌜ now (block .exit) ≡ paste (now (block .entry)) 0 (drop from (now (block .entry))) (end - from) ⌝ }
+{
+    let mut i = 0;
+    while i < end - from {
+        block[i] = block[from + i];
+        i += 1;
+    }
+}
+
+// Reads behind the octets that were carried over.
+fn read_behind(block: &mut [u8], held: usize) -> Got
+    requires { ⌜ held ≤ length (now block) ⌝ }
+    ensures { λ r. ⌜ Behind r held (length (now (block .entry))) ⌝ }
+{
+    standard_streams::read_block(&mut block[held..])
+}
+
+// Reads on, and explains what is there.
+fn explain_more(
+    frames: u64,
+    bytes: u64,
+    held: usize,
+    block: &mut [u8],
+    text: &mut [u8; 1536],
+) -> Progress
+    requires { ⌜ held ≤ length (now block) ⌝ }
+    ensures { λ r. ⌜ Leaves (r .input) (r .left) (length (now (block .entry))) ⌝ }
+{
+    let got = read_behind(block, held);
+    match got {
+        Got::Octets(n) => {
+            let end = held + n;
+            let progress = explain_block(frames, bytes, false, &block[..end], text);
+            carry(block, end - progress.left, end);
+            progress
+        }
+        Got::Ended => explain_block(frames, bytes, true, &block[..held], text),
+        Got::Failed => Progress {
+            frames: frames,
+            bytes: bytes,
+            left: held,
+            input: Input::Failed,
+        },
+    }
+}
+
+// The closing line, and whether it was written.
+fn write_closing(text: &mut [u8; 1536], frames: u64, bytes: u64) -> bool
+    ensures { λ r. ⌜ Closed frames bytes (now (text .entry)) (now (text .exit)) ⌝ }
+{
+    let n = mavlink_explanation::put_closing(text, frames, bytes);
+    standard_streams::write_first(text, n)
+}
+
+// Explains all of the input, and answers whether it came to its end or to a refused frame, and all was written. The turns are
+// counted down as the line lister counts them.
+fn explain_input(block: &mut [u8], text: &mut [u8; 1536]) -> bool
+    requires { ⌜ frameRoom ≤ length (now block) ⌝ }
+{
+    let mut frames: u64 = 0;
+    let mut bytes: u64 = 0;
+    let mut held = 0;
+    let mut turns = u64::MAX;
+    while turns > 0 {
+        let progress = explain_more(frames, bytes, held, block, text);
+        frames = progress.frames;
+        bytes = progress.bytes;
+        held = progress.left;
+        let input = progress.input;
+        match input {
+            Input::More => {}
+            Input::Ended => return write_closing(text, frames, bytes),
+            Input::Failed => return false,
+        }
+        turns -= 1;
+    }
+    false
+}
+
+// Frames, and what they say, passed through both. What was carried over stood in the block.
+fn clear_lent(block: &mut [u8], text: &mut [u8; 1536])
+    ensures { λ r. ⌜ Zeroed (now (block .entry)) (now (block .exit)) ⌝ }
+    ensures { λ r. ⌜ Zeroed (now (text .entry)) (now (text .exit)) ⌝ }
+{
+    standard_streams::clear(block);
+    standard_streams::clear(text);
+}
+
+fn main() {
+    let mut block = io::large_buffer();
+    let mut text = [0u8; 1536];
+    let whole = explain_input(&mut block, &mut text);
+    clear_lent(&mut block, &mut text);
+    if whole {
+        standard_streams::close_output();
+    }
+}

@@ -1,0 +1,39 @@
+-- `mavlink_explanation::explain_frame` meets its contract, by what is read. Assumes nothing.
+use mathlib.Core.Path.{sym, _∙_}
+use Rattle.mavlink_explanation.proofs.Longest.{explained}
+use borrow.Author.Needs.{needs}
+use Rattle.mavlink_explanation.proofs.explain_frame.Statement.{statement}
+use Rattle.mavlink_explanation.proofs.explain_frame.Tie as tie
+
+read-message-requires : tie.Need-read-message-requires
+read-message-requires c κs = tt
+
+enum-known-read : tie.Need-enum-known-read
+enum-known-read c = search needs
+
+put-frame-requires : tie.Need-put-frame-requires
+put-frame-requires c κs = tt
+
+enum-known-read-2 : tie.Need-enum-known-read-2
+enum-known-read-2 c = search needs
+
+put-refused-requires : tie.Need-put-refused-requires
+put-refused-requires c κs = tt
+
+returns : tie.Need-returns
+returns c = explained (sym (c .before .before .before .before .before .read-message .ensures) ∙ c .before .before .before .read .given .1) (c .put-frame .ensures) (c .before .put-frame-arg .given .0 .1)
+
+returns-2 : tie.Need-returns-2
+returns-2 c = explained (sym (c .before .before .before .before .before .read-message .ensures) ∙ c .before .before .before .read2 .given .1) (c .put-refused .ensures) (c .before .put-refused-arg .given .0 .1)
+
+pub explain-frame-spec : {M : Type 1} → statement M
+explain-frame-spec =
+    tie.close
+    (tie.spec
+    read-message-requires
+    enum-known-read
+    put-frame-requires
+    enum-known-read-2
+    put-refused-requires
+    returns
+    returns-2)

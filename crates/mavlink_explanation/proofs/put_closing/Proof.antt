@@ -1,0 +1,14 @@
+-- `mavlink_explanation::put_closing` meets its contract. Assumes nothing.
+use Rattle.mavlink_explanation.proofs.Longest.{closing-most, whole}
+use borrow.Author.Needs.{needs}
+use Rattle.mavlink_explanation.proofs.put_closing.Statement.{statement}
+use Rattle.mavlink_explanation.proofs.put_closing.Tie as tie
+
+put-closing-line-requires : tie.Need-put-closing-line-requires
+put-closing-line-requires c κs = search needs
+
+returns : tie.Need-returns
+returns c = whole (c .put-closing-line .ensures) (c .before .put-closing-line-arg .given .0 .1) (closing-most _ _)
+
+pub put-closing-spec : {M : Type 1} → statement M
+put-closing-spec = tie.close (tie.spec put-closing-line-requires returns)

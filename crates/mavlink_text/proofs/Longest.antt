@@ -1,0 +1,34 @@
+-- How long a message can be. Assumes nothing.
+use mathlib.Core.Bool.{Bool, true, false, cond}
+use Prim.Native.Nat.{ℕ, _≤_}
+use native.Mathlib.Omega.{arith}
+use lib.Dec.{eqb}
+use lib.ListN.{length, length-append}
+use Rattle.field_text.specs.Fields.{none, squawk}
+use Rattle.field_text.proofs.Longest.{most, fields-most}
+use Rattle.mavlink_frame.specs.declared.Header.{Header}
+use Rattle.mavlink_messages.specs.declared.Lowest.{Lowest}
+use Rattle.mavlink_messages.specs.declared.Lowest.the-variants.{Bit, None}
+use Rattle.mavlink_messages.specs.declared.Failures.{Failures}
+use Rattle.mavlink_messages.specs.declared.Message.{Message}
+use Rattle.mavlink_messages.specs.declared.Message.the-variants.{DataStream, Static, Dynamic, Status, Traffic}
+use Rattle.mavlink_text.specs.Messages.{headerParts, dataStreamParts, staticParts, dynamicParts, lowestShown, statusParts, trafficParts, messageShown}
+
+lowest-most : (l : Lowest) → most (lowestShown l) ≤ 47
+lowest-most (Bit b) = omega arith
+lowest-most None = omega arith
+
+squawk-most : (b : Bool) (n : ℕ) → most (cond b none (squawk n)) ≤ 4
+squawk-most true n = omega arith
+squawk-most false n = omega arith
+
+pub message-most : (h : Header) (m : Message) (f : Failures) → length (messageShown h m f) ≤ 1400
+unfolding messageShown
+message-most h (DataStream d) f = simp length-append (omega (arith, fields-most (headerParts h), fields-most (dataStreamParts d)))
+message-most h (Static s) f = simp length-append (omega (arith, fields-most (headerParts h), fields-most (staticParts s)))
+message-most h (Dynamic d) f = simp length-append (omega (arith, fields-most (headerParts h), fields-most (dynamicParts d)))
+message-most h (Status s) f =
+    simp length-append (omega (arith, fields-most (headerParts h), fields-most (statusParts s f), lowest-most (f .lowest)))
+message-most h (Traffic t) f =
+    simp length-append
+    (omega (arith, fields-most (headerParts h), fields-most (trafficParts t), squawk-most (eqb (t .squawk) 65535) (t .squawk)))

@@ -1,0 +1,73 @@
+-- `mavlink_text::put_data_stream` meets its contract. Assumes nothing.
+use Rattle.text_output.proofs.Clipped.{clips-long, then, last-piece}
+use mathlib.Core.Path.{refl}
+use Rattle.field_text.specs.Fields.{fields}
+use borrow.Author.Needs.{needs}
+use Rattle.mavlink_text.proofs.put_data_stream.Statement.{statement}
+use Rattle.mavlink_text.proofs.put_data_stream.Tie as tie
+
+cast-unsigned : tie.Need-cast-unsigned
+cast-unsigned c = search needs
+
+unsigned-requires : tie.Need-unsigned-requires
+unsigned-requires c κs = tt
+
+slice-aggregate-put-reading : tie.Need-slice-aggregate-put-reading
+slice-aggregate-put-reading c = refl
+
+put-reading-requires : tie.Need-put-reading-requires
+put-reading-requires c κs = tt
+
+slice-aggregate-put-number : tie.Need-slice-aggregate-put-number
+slice-aggregate-put-number c = refl
+
+put-number-requires : tie.Need-put-number-requires
+put-number-requires c κs = tt
+
+slice-aggregate-put-number-2 : tie.Need-slice-aggregate-put-number-2
+slice-aggregate-put-number-2 c = refl
+
+put-number-requires-2 : tie.Need-put-number-requires-2
+put-number-requires-2 c κs = tt
+
+slice-aggregate-put-number-3 : tie.Need-slice-aggregate-put-number-3
+slice-aggregate-put-number-3 c = refl
+
+put-number-requires-3 : tie.Need-put-number-requires-3
+put-number-requires-3 c κs = tt
+
+slice-aggregate-put-number-4 : tie.Need-slice-aggregate-put-number-4
+slice-aggregate-put-number-4 c = refl
+
+put-number-requires-4 : tie.Need-put-number-requires-4
+put-number-requires-4 c κs = tt
+
+returns : tie.Need-returns
+unfolding fields
+returns c = then (rw (c .before .before .before .before .before .before .before .before .before .before .before .before .before .before .before .before .before .before .before .before .before .before .before .before .before .unsigned .ensures) at (c .before .before .before .before .before .before .before .before .before .before .before .before .before .before .before .before .before .before .before .before .before .before .put-reading .ensures))
+    (then (c .before .before .before .before .before .before .before .before .before .before .before .before .before .before .before .before .before .put-number .ensures)
+    (then (c .before .before .before .before .before .before .before .before .before .before .before .before .put-number2 .ensures)
+    (then (c .before .before .before .before .before .before .before .put-number3 .ensures)
+    (last-piece (c .before .before .put-number4 .ensures)))))
+
+same-length : tie.Need-same-length
+same-length c = clips-long (returns c)
+
+pub put-data-stream-spec : {M : Type 1} → statement M
+put-data-stream-spec =
+    tie.close
+    (tie.spec
+    cast-unsigned
+    unsigned-requires
+    slice-aggregate-put-reading
+    put-reading-requires
+    slice-aggregate-put-number
+    put-number-requires
+    slice-aggregate-put-number-2
+    put-number-requires-2
+    slice-aggregate-put-number-3
+    put-number-requires-3
+    slice-aggregate-put-number-4
+    put-number-requires-4
+    same-length
+    returns)

@@ -1,0 +1,51 @@
+-- `mavlink_text::put_heading` meets its contract. Assumes nothing.
+use Rattle.text_output.proofs.Clipped.{clips-long, then, last-piece}
+use mathlib.Core.Path.{refl}
+use Rattle.field_text.specs.Fields.{fields}
+use Rattle.mavlink_text.proofs.put_heading.Statement.{statement}
+use Rattle.mavlink_text.proofs.put_heading.Tie as tie
+
+put-word-requires : tie.Need-put-word-requires
+put-word-requires c κs = tt
+
+slice-aggregate-put-number : tie.Need-slice-aggregate-put-number
+slice-aggregate-put-number c = refl
+
+put-number-requires : tie.Need-put-number-requires
+put-number-requires c κs = tt
+
+slice-aggregate-put-number-2 : tie.Need-slice-aggregate-put-number-2
+slice-aggregate-put-number-2 c = refl
+
+put-number-requires-2 : tie.Need-put-number-requires-2
+put-number-requires-2 c κs = tt
+
+slice-aggregate-put-number-3 : tie.Need-slice-aggregate-put-number-3
+slice-aggregate-put-number-3 c = refl
+
+put-number-requires-3 : tie.Need-put-number-requires-3
+put-number-requires-3 c κs = tt
+
+returns : tie.Need-returns
+unfolding fields
+returns c = then (c .before .before .before .before .before .before .before .before .before .before .before .before .before .before .before .before .before .put-word .ensures)
+    (then (c .before .before .before .before .before .before .before .before .before .before .before .before .put-number .ensures)
+    (then (c .before .before .before .before .before .before .before .put-number2 .ensures)
+    (last-piece (c .before .before .put-number3 .ensures))))
+
+same-length : tie.Need-same-length
+same-length c = clips-long (returns c)
+
+pub put-heading-spec : {M : Type 1} → statement M
+put-heading-spec =
+    tie.close
+    (tie.spec
+    put-word-requires
+    slice-aggregate-put-number
+    put-number-requires
+    slice-aggregate-put-number-2
+    put-number-requires-2
+    slice-aggregate-put-number-3
+    put-number-requires-3
+    same-length
+    returns)

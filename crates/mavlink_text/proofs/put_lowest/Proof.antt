@@ -1,0 +1,54 @@
+-- `mavlink_text::put_lowest` meets its contract, with a failure and without. Assumes nothing.
+use mathlib.Core.Path.{refl}
+use borrow.Author.Needs.{needs}
+use Rattle.mavlink_text.proofs.put_lowest.Statement.{statement}
+use Rattle.mavlink_text.proofs.put_lowest.Tie as tie
+
+enum-known-lowest : tie.Need-enum-known-lowest
+enum-known-lowest c = search needs
+
+unsigned-requires : tie.Need-unsigned-requires
+unsigned-requires c κs = tt
+
+slice-aggregate-put-reading : tie.Need-slice-aggregate-put-reading
+slice-aggregate-put-reading c = refl
+
+put-reading-requires : tie.Need-put-reading-requires
+put-reading-requires c κs = tt
+
+enum-told : tie.Need-enum-told
+enum-told c = search needs
+
+slice-aggregate-put-none : tie.Need-slice-aggregate-put-none
+slice-aggregate-put-none c = refl
+
+put-none-requires : tie.Need-put-none-requires
+put-none-requires c κs = tt
+
+same-length : tie.Need-same-length
+same-length c = search needs
+
+returns : tie.Need-returns
+returns c = rw (c .before .before .before .before .before .before .before .lowest .given .1) (rw (c .before .before .before .before .before .unsigned .ensures) at (c .before .before .put-reading .ensures))
+
+same-length-2 : tie.Need-same-length-2
+same-length-2 c = search needs
+
+returns-2 : tie.Need-returns-2
+returns-2 c = rw (c .before .before .before .before .before .enum-told .given .1) (c .before .before .put-none .ensures)
+
+pub put-lowest-spec : {M : Type 1} → statement M
+put-lowest-spec =
+    tie.close
+    (tie.spec
+    enum-known-lowest
+    unsigned-requires
+    slice-aggregate-put-reading
+    put-reading-requires
+    enum-told
+    slice-aggregate-put-none
+    put-none-requires
+    same-length
+    returns
+    same-length-2
+    returns-2)
