@@ -172,21 +172,29 @@ fn uplink(body: &[u8]) -> OstrogoszMessage
     }
 }
 
+// A report is put in place as it is made: over the blank answer it would be slower.
+fn of_report(id: u8, report: Report) -> OstrogoszMessage
+    ensures { λ r. ⌜ r ≡ reportNumbers id (ReportRead.Report report) ⌝ }
+{
+    OstrogoszMessage {
+        refusal: 0,
+        id: id as u32,
+        heartbeat: no_heartbeat(),
+        report: report,
+        geometric_altitude: no_geometric_altitude(),
+        request: no_request(),
+        control: no_control(),
+        initialization: no_initialization(),
+    }
+}
+
 // 10 or 20.
 fn report(id: u8, body: &[u8]) -> OstrogoszMessage
     ensures { λ r. ⌜ r ≡ reportNumbers id (reportRead (now (body .entry))) ⌝ }
 {
-    let mut m = blank(0, 0);
     match gdl90_messages::message_10::read(body) {
-        ReportRead::Report(report) => {
-            m.id = id as u32;
-            m.report = report;
-            m
-        }
-        ReportRead::Refused(number) => {
-            m.refusal = number as u32;
-            m
-        }
+        ReportRead::Report(report) => of_report(id, report),
+        ReportRead::Refused(number) => blank(number, 0),
     }
 }
 

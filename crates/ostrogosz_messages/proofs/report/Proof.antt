@@ -1,14 +1,13 @@
 -- `ostrogosz_messages::report` meets its contract, by the reader of both kinds. Assumes nothing.
 use mathlib.Core.Path.{sym, ap, _∙_}
-use Rattle.ostrogosz_messages.specs.Messages.{blank, reportNumbers}
+use Rattle.ostrogosz_messages.specs.Messages.{reportNumbers}
 use borrow.Author.Needs.{needs}
 use Rattle.ostrogosz_messages.proofs.report.Statement.{statement}
 use Rattle.ostrogosz_messages.proofs.report.Tie as tie
 
 pub report-spec : {M : Type 1} → statement M
-unfolding blank
 report-spec =
     tie.close
-    (tie.spec (λ c κs. search needs) (λ c κs. search needs) (λ c. search needs) (λ c. search needs) (λ c. search needs)
-    (λ c. rw (c .before .before .before .before .blank .ensures) (ap (reportNumbers (c .before .before .before .before .before .before .args .id)) (sym (c .before .report .given .1) ∙ c .before .before .before .read .ensures)))
-    (λ c. rw (c .before .before .before .before .blank .ensures) (ap (reportNumbers (c .before .before .before .before .before .before .args .id)) (sym (c .before .number .given .1) ∙ c .before .before .before .read .ensures))))
+    (tie.spec (λ c κs. search needs) (λ c. search needs) (λ c κs. search needs) (λ c. search needs) (λ c κs. search needs)
+    (λ c. c .of-report .ensures ∙ ap (reportNumbers (c .before .before .before .before .before .before .args .id)) (sym (c .before .before .report .given .1) ∙ c .before .before .before .before .read .ensures))
+    (λ c. c .blank .ensures ∙ ap (reportNumbers (c .before .before .before .before .before .before .args .id)) (sym (c .before .before .number .given .1) ∙ c .before .before .before .before .read .ensures)))
