@@ -1,22 +1,24 @@
 -- What a turn of each loop keeps. Assumes nothing.
-use mathlib.Core.Path.{_≡_, sym, ap, _∙_}
+use mathlib.Core.Path.{_≡_, refl, sym, ap, subst, _∙_}
 use mathlib.Core.Bool.{Bool, true, false, cond}
 use mathlib.Core.List.{List}
-use Prim.Native.Nat.{ℕ, suc, _+_, _<_, _≤_}
+use Prim.Native.Nat.{ℕ, _+_, _-_, _<_, _≤_}
 use native.Mathlib.Nat.{zero-add, add-comm}
 use native.Mathlib.Numerals.{add-one}
 use native.Mathlib.Omega.{arith}
 use lib.ListN.{length, set, getD, drop, length-drop}
-use lib.Seq.{paste, paste-suc, drop-paste, getD-drop}
+use lib.Seq.{paste, paste-suc, drop-paste, getD-drop, drop-drop}
 use Rattle.standard_streams.specs.declared.Got.{Got}
 use Rattle.standard_streams.specs.declared.Got.the-variants.{Octets, Ended as NoMore, Failed as ReadFailed}
 use Rattle.standard_streams.specs.Blocks.{Within}
 use Rattle.standard_streams.specs.declared.Input.the-variants.{More, Ended}
 use Rattle.mavlink_explanation.specs.declared.Explained.{Explained}
+use Rattle.mavlink_messages.specs.Messages.{readDue}
+use Rattle.mavlink_explanation.specs.Explanation.{isRefused}
 use Rattle.mavlink_explanation.specs.Calls.{Explains}
 use Rattle.mavlink_explanation.specs.Decided.{frameRoom}
 use Rattle.mavlink_explanation.proofs.Used.{used-within, used-some}
-use Rattle.mavlink_explainer.specs.Blocks.{Behind, Carries}
+use Rattle.mavlink_explainer.specs.Blocks.{Behind, Carries, Walks, few, stops, onward, tells, UnlessFailed, Explores}
 
 -- ---- reading
 
@@ -38,6 +40,58 @@ module _ {input text : List ℕ} {given : Explained} {after : List ℕ} (e : Exp
 pub few-left : (last : Bool) (left : ℕ) → left < cond last 1 frameRoom → Carries (cond last Ended More) left
 few-left true left h = tt
 few-left false left h = h
+
+goes-on : (last : Bool) {told : Type 0} → told → UnlessFailed (cond last Ended More) told
+goes-on true t = t
+goes-on false t = t
+
+-- what is left, walked, is the whole block walked
+abbrev pub Onward : ℕ → List ℕ → ℕ → ℕ → Type 0
+Onward least block count left =
+    (n l : ℕ) (r : Bool) → Walks least (drop (length block - left) block) n l r → Walks least block (n + count) l r
+
+pub from-start : (least : ℕ) (block : List ℕ) → Onward least block 0 (length block)
+from-start least block n l r w =
+    let none : length block - length block ≡ 0 = omega arith in
+    let same : n ≡ n + 0 = omega arith in
+    subst (λ (k : ℕ). Walks least block k l r) same (subst (λ (d : ℕ). Walks least (drop d block) n l r) none w)
+
+module _ (least : ℕ) (block : List ℕ) (count left : ℕ) (h : left ≤ length block) (on : Onward least block count left) where
+  long : left ≡ length (drop (length block - left) block)
+  long = simp length-drop (omega arith)
+
+  pub next-frame : {text : List ℕ} {given : Explained} {after : List ℕ} → Explains (drop (length block - left) block) text given after
+      → least ≤ left → given .refused ≡ false → Onward least block (count + 1) (left - given .used)
+  next-frame {text} {given} e enough r n l q w =
+      let within : given .used ≤ left = omega (arith, turn-within e, long) in
+      let place : length block - (left - given .used) ≡ length block - left + given .used = omega arith in
+      let there =
+      ap (λ (k : ℕ). drop k block) place
+      ∙ sym (drop-drop (given .used) (length block - left) block)
+      ∙ ap (λ (k : ℕ). drop k (drop (length block - left) block)) (e .used) in
+      let rest = subst (λ (d : List ℕ). Walks least d n l q) there w in
+      let more : n + 1 + count ≡ n + (count + 1) = omega arith in
+      let all = on (n + 1) l q (onward (omega (arith, long)) (sym (e .refuses) ∙ r) rest) in
+      subst (λ (k : ℕ). Walks least block k l q) more all
+
+  module _ (last : Bool) (same : least ≡ cond last 1 frameRoom) (frames bytes : ℕ) where
+    walked : (r : Bool) → Walks least (drop (length block - left) block) 0 left r → Walks (cond last 1 frameRoom) block count left r
+    walked r w =
+        let all : 0 + count ≡ count = omega arith in
+        subst (λ (k : ℕ). Walks (cond last 1 frameRoom) block k left r) all (subst (λ (m : ℕ). Walks m block (0 + count) left r) same (on 0 left r w))
+
+    pub at-refused : least ≤ left → isRefused (readDue (drop (length block - left) block)) ≡ true
+        → Explores last block frames bytes (tells frames bytes count (length block - left) left Ended)
+    at-refused enough r = record {
+      leaves = record { carries = tt; within = h };
+      explored = record { count = count; refused = true; walks = walked true (stops long enough r); counts = refl };
+    }
+
+    pub at-end : left < least → Explores last block frames bytes (tells frames bytes count (length block - left) left (cond last Ended More))
+    at-end less = record {
+      leaves = record { carries = few-left last left (omega (arith, same)); within = h };
+      explored = goes-on last (record { count = count; refused = false; walks = walked false (few long less); counts = refl });
+    }
 
 -- ---- carrying over
 

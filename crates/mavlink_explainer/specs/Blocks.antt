@@ -1,11 +1,16 @@
 -- What a block of the input leaves, and the closing line. Assumes nothing.
+use mathlib.Core.Path.{_≡_}
+use mathlib.Core.Bool.{Bool, true, false, cond}
 use mathlib.Core.List.{List}
-use Prim.Native.Nat.{ℕ, _+_, _<_, _≤_}
+use Prim.Native.Nat.{ℕ, _+_, _-_, _%_, _^_, _<_, _≤_}
+use lib.ListN.{length, drop}
 use Rattle.standard_streams.specs.declared.Got.{Got}
 use Rattle.standard_streams.specs.declared.Got.the-variants.{Octets, Ended as NoMore, Failed as ReadFailed}
 use Rattle.standard_streams.specs.declared.Input.{Input}
 use Rattle.standard_streams.specs.declared.Input.the-variants.{More, Ended, Failed}
-use Rattle.mavlink_explanation.specs.Explanation.{closingLine}
+use Rattle.mavlink_explainer.specs.declared.Progress.{Progress}
+use Rattle.mavlink_messages.specs.Messages.{readDue}
+use Rattle.mavlink_explanation.specs.Explanation.{usedBy, isRefused, closingLine}
 use Rattle.mavlink_explanation.specs.Calls.{Whole}
 use Rattle.mavlink_explanation.specs.Decided.{frameRoom}
 
@@ -25,6 +30,43 @@ Carries Failed left = Unit {0}
 pub record Leaves (input : Input) (left block : ℕ) : Type 0 where
   pub carries : Carries input left
   pub within : left ≤ block
+
+-- ---- the frames of a block
+
+-- frames one after the other, each decided where at least so many octets are there: how many there are, how many octets are
+-- left behind them, and whether what stands there is refused
+pub data Walks : ℕ → List ℕ → ℕ → ℕ → Bool → Type 0 where
+  few : {least : ℕ} {s : List ℕ} {left : ℕ} → left ≡ length s → left < least → Walks least s 0 left false
+  stops : {least : ℕ} {s : List ℕ} {left : ℕ} → left ≡ length s → least ≤ left → isRefused (readDue s) ≡ true → Walks least s 0 left true
+  onward : {least : ℕ} {s : List ℕ} {n left : ℕ} {refused : Bool} → least ≤ length s → isRefused (readDue s) ≡ false
+      → Walks least (drop (usedBy (readDue s)) s) n left refused → Walks least s (n + 1) left refused
+
+-- so many frames more, of so many octets; the counts run round
+abbrev pub tells : ℕ → ℕ → ℕ → ℕ → ℕ → Input → Progress
+tells frames bytes count used left input =
+    record { frames = (frames + count) % 2 ^ 64; bytes = (bytes + used) % 2 ^ 64; left = left; input = input }
+
+-- a refused frame ends the input, and so does its end
+abbrev pub inputAfter : Bool → Bool → Input
+inputAfter last refused = cond refused Ended (cond last Ended More)
+
+-- what the frames of a block leave, where each of their lines was written
+pub record Explored (last : Bool) (block : List ℕ) (frames bytes : ℕ) (given : Progress) : Type 0 where
+  pub count : ℕ
+  pub refused : Bool
+  pub walks : Walks (cond last 1 frameRoom) block count (given .left) refused
+  pub counts : given ≡ tells frames bytes count (length block - given .left) (given .left) (inputAfter last refused)
+
+abbrev pub UnlessFailed : Input → Type 0 → Type 0
+UnlessFailed More told = told
+UnlessFailed Ended told = told
+UnlessFailed Failed told = Unit {0}
+
+pub record Explores (last : Bool) (block : List ℕ) (frames bytes : ℕ) (given : Progress) : Type 0 where
+  pub leaves : Leaves (given .input) (given .left) (length block)
+  pub explored : UnlessFailed (given .input) (Explored last block frames bytes given)
+
+-- ---- the closing line
 
 -- the closing line stands at the start of the text
 pub record Closed (frames bytes : ℕ) (before after : List ℕ) : Type 0 where

@@ -12,7 +12,7 @@ ghost use lib.Seq.{paste};
 ghost use Rattle.standard_streams.specs.declared.Input.the-variants.{More, Ended};
 ghost use Rattle.standard_streams.specs.Blocks.{Zeroed};
 ghost use Rattle.mavlink_explanation.specs.Decided.{frameRoom};
-ghost use Rattle.mavlink_explainer.specs.Blocks.{Behind, Leaves, Closed};
+ghost use Rattle.mavlink_explainer.specs.Blocks.{Behind, Leaves, tells, Explores, Closed};
 use standard_streams::Got;
 use standard_streams::Input;
 
@@ -44,6 +44,18 @@ fn goes_on(last: bool) -> Input
     Input::More
 }
 
+// So many frames more, of so many octets.
+fn told(frames: u64, bytes: u64, count: usize, used: usize, left: usize, input: Input) -> Progress
+    ensures { λ r. ⌜ r ≡ tells frames bytes count used left input ⌝ }
+{
+    Progress {
+        frames: std::num::wrapping_add_u64(frames, count as u64),
+        bytes: std::num::wrapping_add_u64(bytes, used as u64),
+        left: left,
+        input: input,
+    }
+}
+
 // Explains the frames of a block, and writes each line out. A frame is decided where 50 octets are there, or the input has
 // ended (`last`).
 fn explain_block(
@@ -53,10 +65,9 @@ fn explain_block(
     block: &[u8],
     text: &mut [u8; 1536],
 ) -> Progress
-    ensures { λ r. ⌜ Leaves (r .input) (r .left) (length (now (block .entry))) ⌝ }
+    ensures { λ r. ⌜ Explores last (now (block .entry)) frames bytes r ⌝ }
 {
-    let mut frames = frames;
-    let mut bytes = bytes;
+    let mut count = 0;
     let mut left = block.len();
     let least = least_octets(last);
     while least <= left {
@@ -64,31 +75,22 @@ fn explain_block(
         let explained = mavlink_explanation::explain_frame(&block[used..], text);
         let n = explained.written;
         if !standard_streams::write_first(text, n) {
-            return Progress {
-                frames: frames,
-                bytes: bytes,
-                left: left,
-                input: Input::Failed,
-            };
+            return told(frames, bytes, count, used, left, Input::Failed);
         }
         if explained.refused {
-            return Progress {
-                frames: frames,
-                bytes: bytes,
-                left: left,
-                input: Input::Ended,
-            };
+            return told(frames, bytes, count, used, left, Input::Ended);
         }
-        frames = std::num::wrapping_add_u64(frames, 1);
-        bytes = std::num::wrapping_add_u64(bytes, explained.used as u64);
+        count += 1;
         left -= explained.used;
     }
-    Progress {
-        frames: frames,
-        bytes: bytes,
-        left: left,
-        input: goes_on(last),
-    }
+    told(
+        frames,
+        bytes,
+        count,
+        block.len() - left,
+        left,
+        goes_on(last),
+    )
 }
 
 // Moves the octets from a place of the block up to another to its start.

@@ -1,28 +1,43 @@
--- `mavlink_explainer::explain_block` meets its contract. The loop's invariant: what is left is within the block. Assumes nothing.
-use Rattle.mavlink_explainer.proofs.Turns.{turn-within, turn-uses, few-left}
-use Rattle.mavlink_explanation.specs.Decided.{frameRoom}
-use lib.ListN.{length, length-take, length-drop}
+-- `mavlink_explainer::explain_block` meets its contract. The loop's invariant: walking what is left walks the whole block. Assumes nothing.
+use Rattle.mavlink_explainer.proofs.Turns.{turn-within, turn-uses, Onward, from-start, next-frame, at-refused, at-end}
+use Rattle.mavlink_explanation.specs.Calls.{Explains}
+use lib.Seq.{take-all}
+use lib.ListN.{length, take, drop, length-drop}
+use denote.Ref.{now}
 use native.Mathlib.Omega.{arith}
-use Prim.Native.Nat.{_<_, _≤_}
-use mathlib.Core.Bool.{cond}
+use Prim.Native.Nat.{_+_, _-_, _≤_}
+use mathlib.Core.Path.{_≡_, sym, _∙_}
 use borrow.Author.Needs.{needs}
 use Rattle.mavlink_explainer.proofs.explain_block.Statement.{statement}
 use Rattle.mavlink_explainer.proofs.explain_block.Tie as tie
 
 abbrev Inv-loop : tie.InvT-loop
-Inv-loop frames bytes last block text₀ frames₀ bytes₀ left₀ least text frames' bytes' left = left ≤ length block
+Inv-loop frames bytes last block text₀ count₀ left₀ least text count left = (count + left ≤ length block) × Onward least block count left
 
 abbrev μ-loop : tie.MeasureT-loop
-μ-loop frames bytes last block text₀ frames₀ bytes₀ left₀ least text frames' bytes' left = left
+μ-loop frames bytes last block text₀ count₀ left₀ least text count left = left
+
+-- what a turn explains, of the part of the block that is left
+explained : (c : tie.After-explain-frame Inv-loop μ-loop)
+    → let l = c .before .before .before .before .loop in
+    let block = now (c .before .before .before .before .before .before .before .args .block) in
+    Explains (drop (length block - l .left) block) (l .text) (c .explain-frame .result) (c .explain-frame .last .1 .0)
+explained c =
+    let l = c .before .before .before .before .loop in
+    let block = now (c .before .before .before .before .before .before .before .args .block) in
+    let used = length block - l .left in
+    let all : take (length block - used) (drop used block) ≡ drop used block =
+    take-all (length block - used) (drop used block) (simp length-drop (omega arith)) in
+    rw all at (c .explain-frame .ensures)
 
 least-octets-requires : tie.Need-least-octets-requires Inv-loop μ-loop
 least-octets-requires c κs = search needs
 
 loop-holds : tie.Need-loop-holds Inv-loop μ-loop
-loop-holds c = omega arith
+loop-holds c = (omega arith, from-start (c .least-octets .result) (now (c .before .before .args .block)))
 
 sub-used : tie.Need-sub-used Inv-loop μ-loop
-sub-used c = omega arith
+sub-used c = omega (arith, c .before .loop .inv .0)
 
 sub-explain-frame : tie.Need-sub-explain-frame Inv-loop μ-loop
 sub-explain-frame c = search needs
@@ -39,36 +54,69 @@ explain-frame-requires c κs = search needs
 write-first-requires : tie.Need-write-first-requires Inv-loop μ-loop
 write-first-requires c κs = search needs
 
+told-requires : tie.Need-told-requires Inv-loop μ-loop
+told-requires c κs = search needs
+
 returns : tie.Need-returns Inv-loop μ-loop
-returns c = record { carries = tt; within = omega (arith, c .before .before .before .before .before .before .before .before .loop .inv) }
+returns c =
+    let l = c .before .before .before .before .before .before .before .before .before .loop in
+    let a = c .before .before .before .before .before .before .before .before .before .before .before .before .args in
+    let block = now (a .block) in
+    let least = c .before .before .before .before .before .before .before .before .before .before .least-octets in
+    let within : l .left ≤ length block = omega (arith, l .inv .0) in
+    rw (c .told .ensures) (record { leaves = record { carries = tt; within = within }; explored = tt })
+
+told-requires-2 : tie.Need-told-requires-2 Inv-loop μ-loop
+told-requires-2 c κs = search needs
 
 returns-2 : tie.Need-returns-2 Inv-loop μ-loop
-returns-2 c = record { carries = tt; within = omega (arith, c .before .before .before .before .before .before .before .before .before .loop .inv) }
+returns-2 c =
+    let l = c .before .before .before .before .before .before .before .before .before .before .loop in
+    let a = c .before .before .before .before .before .before .before .before .before .before .before .before .before .args in
+    let block = now (a .block) in
+    let least = c .before .before .before .before .before .before .before .before .before .before .before .least-octets in
+    let within : l .left ≤ length block = omega (arith, l .inv .0) in
+    rw (c .told2 .ensures)
+    (at-refused (least .result) block (l .count) (l .left) within (l .inv .1) (a .last) (least .ensures) (a .frames) (a .bytes) (c .before .before .before .before .before .before .before .before .before .loop-test .taken) (sym (explained (c .before .before .before .before .before .before) .refuses) ∙ c .before .if2 .taken))
 
-wrapping-add-u64-requires : tie.Need-wrapping-add-u64-requires Inv-loop μ-loop
-wrapping-add-u64-requires c κs = search needs
-
-wrapping-add-u64-requires-2 : tie.Need-wrapping-add-u64-requires-2 Inv-loop μ-loop
-wrapping-add-u64-requires-2 c κs = search needs
+add-count : tie.Need-add-count Inv-loop μ-loop
+add-count c = omega (arith, c .before .before .before .before .before .before .before .before .before .loop .inv .0, c .before .before .before .before .before .before .before .before .before .before .before .before .good, turn-uses (explained (c .before .before .before .before .before)) (c .if2 .left), simp length-drop at (turn-within (explained (c .before .before .before .before .before))))
 
 sub-left : tie.Need-sub-left Inv-loop μ-loop
-sub-left c = omega (arith, simp (length-take, length-drop) at (turn-within (c .before .before .before .before .before .before .before .before .explain-frame .ensures)), c .before .before .before .before .before .before .before .before .before .before .before .before .loop .inv)
+sub-left c = omega (arith, c .before .before .before .before .before .before .before .before .before .before .loop .inv .0, simp length-drop at (turn-within (explained (c .before .before .before .before .before .before))))
 
 loop-less : tie.Need-loop-less Inv-loop μ-loop
-loop-less c = omega (arith, simp (length-take, length-drop) at (turn-within (c .before .before .before .before .before .before .before .before .explain-frame .ensures)), c .before .before .before .before .before .before .before .before .before .before .before .before .loop .inv, turn-uses (c .before .before .before .before .before .before .before .before .explain-frame .ensures) (c .before .before .before .if2 .left))
+loop-less c = omega (arith, c .before .before .before .before .before .before .before .before .before .before .loop .inv .0, turn-uses (explained (c .before .before .before .before .before .before)) (c .before .if2 .left), simp length-drop at (turn-within (explained (c .before .before .before .before .before .before))))
 
 loop-again : tie.Need-loop-again Inv-loop μ-loop
-loop-again c = omega (arith, simp (length-take, length-drop) at (turn-within (c .before .before .before .before .before .before .before .before .explain-frame .ensures)), c .before .before .before .before .before .before .before .before .before .before .before .before .loop .inv)
+loop-again c =
+    let l = c .before .before .before .before .before .before .before .before .before .before .loop in
+    let a = c .before .before .before .before .before .before .before .before .before .before .before .before .before .args in
+    let block = now (a .block) in
+    let least = c .before .before .before .before .before .before .before .before .before .before .before .least-octets in
+    let within : l .left ≤ length block = omega (arith, l .inv .0) in (
+      omega (arith, l .inv .0, turn-uses (explained (c .before .before .before .before .before .before)) (c .before .if2 .left), simp length-drop at (turn-within (explained (c .before .before .before .before .before .before)))),
+      next-frame (least .result) block (l .count) (l .left) within (l .inv .1) (explained (c .before .before .before .before .before .before)) (c .before .before .before .before .before .before .before .before .before .loop-test .taken) (c .before .if2 .left),
+    )
+
+sub-told : tie.Need-sub-told Inv-loop μ-loop
+sub-told c = omega (arith, c .before .loop .inv .0)
 
 goes-on-requires : tie.Need-goes-on-requires Inv-loop μ-loop
 goes-on-requires c κs = search needs
 
+told-requires-3 : tie.Need-told-requires-3 Inv-loop μ-loop
+told-requires-3 c κs = search needs
+
 returns-3 : tie.Need-returns-3 Inv-loop μ-loop
 returns-3 c =
-    let left = c .before .before .loop .left in
-    let last = c .before .before .before .before .before .args .last in
-    let few : left < cond last 1 frameRoom = omega (arith, c .before .before .before .least-octets .ensures, c .before .loop-test .left) in
-    rw (c .goes-on .ensures) (record { carries = few-left last left few; within = c .before .before .loop .inv })
+    let l = c .before .before .before .loop in
+    let a = c .before .before .before .before .before .before .args in
+    let block = now (a .block) in
+    let least = c .before .before .before .before .least-octets in
+    let within : l .left ≤ length block = omega (arith, l .inv .0) in
+    rw (c .told3 .ensures, c .before .goes-on .ensures)
+    (at-end (least .result) block (l .count) (l .left) within (l .inv .1) (a .last) (least .ensures) (a .frames) (a .bytes) (omega (arith, c .before .before .loop-test .left)))
 
 pub explain-block-spec : {M : Type 1} → statement M
 explain-block-spec =
@@ -84,12 +132,15 @@ explain-block-spec =
     part-explain-frame-end
     explain-frame-requires
     write-first-requires
+    told-requires
     returns
+    told-requires-2
     returns-2
-    wrapping-add-u64-requires
-    wrapping-add-u64-requires-2
+    add-count
     sub-left
     loop-less
     loop-again
+    sub-told
     goes-on-requires
+    told-requires-3
     returns-3)

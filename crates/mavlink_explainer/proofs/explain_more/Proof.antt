@@ -26,10 +26,10 @@ explain-block-requires : tie.Need-explain-block-requires
 explain-block-requires c κs = search needs
 
 sub-carry : tie.Need-sub-carry
-sub-carry c = omega (arith, simp length-take at (c .before .before .explain-block .ensures .within))
+sub-carry c = omega (arith, simp length-take at (c .before .before .explain-block .ensures .leaves .within))
 
 carry-requires : tie.Need-carry-requires
-carry-requires c κs = (omega (arith, simp length-take at (c .before .before .explain-block .ensures .within)), omega (arith, rw (c .before .before .before .before .before .before .got .given .1) at (c .before .before .before .before .before .before .before .before .before .before .read-behind .ensures), c .before .before .before .before .before .before .before .before .before .before .read-behind .kept .0))
+carry-requires c κs = (omega (arith, simp length-take at (c .before .before .explain-block .ensures .leaves .within)), omega (arith, rw (c .before .before .before .before .before .before .got .given .1) at (c .before .before .before .before .before .before .before .before .before .before .read-behind .ensures), c .before .before .before .before .before .before .before .before .before .before .read-behind .kept .0))
 
 enum-told : tie.Need-enum-told
 enum-told c = search needs
@@ -50,13 +50,13 @@ same-length : tie.Need-same-length
 same-length c = search needs
 
 returns : tie.Need-returns
-returns c = record { carries = c .before .before .before .before .before .explain-block .ensures .carries; within = omega (arith, simp length-take at (c .before .before .before .before .before .explain-block .ensures .within), rw (c .before .before .before .before .before .before .before .before .before .got .given .1) at (c .before .before .before .before .before .before .before .before .before .before .before .before .before .read-behind .ensures)) }
+returns c = record { carries = c .before .before .before .before .before .explain-block .ensures .leaves .carries; within = omega (arith, simp length-take at (c .before .before .before .before .before .explain-block .ensures .leaves .within), rw (c .before .before .before .before .before .before .before .before .before .got .given .1) at (c .before .before .before .before .before .before .before .before .before .before .before .before .before .read-behind .ensures)) }
 
 same-length-2 : tie.Need-same-length-2
 same-length-2 c = search needs
 
 returns-2 : tie.Need-returns-2
-returns-2 c = record { carries = c .explain-block2 .ensures .carries; within = omega (arith, simp length-take at (c .explain-block2 .ensures .within), c .before .before .before .before .before .before .before .before .before .before .pre) }
+returns-2 c = record { carries = c .explain-block2 .ensures .leaves .carries; within = omega (arith, simp length-take at (c .explain-block2 .ensures .leaves .within), c .before .before .before .before .before .before .before .before .before .before .pre) }
 
 same-length-3 : tie.Need-same-length-3
 same-length-3 c = search needs
