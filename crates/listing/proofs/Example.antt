@@ -9,7 +9,8 @@ use Rattle.frame_format.specs.Stretch.{atFlag}
 use Rattle.binary_polynomial.specs.Bits.{bits, bitsOf}
 use Rattle.binary_polynomial.specs.Division.{divided, step, reduced}
 use Rattle.frame_check.specs.Check.{frameCheck}
-use Rattle.listing.specs.Listing.{decimal, decimalWithin, hexDigit, hexOctet, hexOctets, okLine, noLine, counted, closingLine}
+use Rattle.text_output.specs.Text.{hexDigit, spelled}
+use Rattle.listing.specs.Listing.{decimal, decimalWithin, okLine, noLine, counted, closingLine}
 use Rattle.listing.specs.Lists.{Lines, lines}
 
 abbrev input : List ℕ
@@ -35,5 +36,5 @@ abbrev last : List ℕ
 last = 98 ∷ 121 ∷ 116 ∷ 101 ∷ 115 ∷ 32 ∷ 49 ∷ 52 ∷ 32 ∷ 102 ∷ 108 ∷ 97 ∷ 103 ∷ 115 ∷ 32 ∷ 52 ∷ 32 ∷ 100 ∷ 101 ∷ 108 ∷ 105 ∷ 118 ∷ 101 ∷ 114 ∷ 101 ∷ 100 ∷ 32 ∷ 57 ∷ 32 ∷ 114 ∷ 101 ∷ 102 ∷ 117 ∷ 115 ∷ 101 ∷ 100 ∷ 32 ∷ 49 ∷ 32 ∷ 115 ∷ 107 ∷ 105 ∷ 112 ∷ 112 ∷ 101 ∷ 100 ∷ 32 ∷ 48 ∷ 32 ∷ 111 ∷ 112 ∷ 101 ∷ 110 ∷ 32 ∷ 48 ∷ 10 ∷ []
 
 pub output : listed .text ++ closingLine (listed .counts) ≡ first ++ (second ++ (third ++ last))
-unfolding listed lines stateAfter answerDue countsAfter storing atFlag frameCheck bits bitsOf divided step reduced okLine noLine counted closingLine decimal decimalWithin hexOctets hexOctet hexDigit
+unfolding listed lines stateAfter answerDue countsAfter storing atFlag frameCheck bits bitsOf divided step reduced okLine noLine counted closingLine decimal decimalWithin spelled hexDigit
 output = refl

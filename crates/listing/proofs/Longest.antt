@@ -6,11 +6,11 @@ use lib.ListN.{length, length-append}
 use Rattle.byte_account.specs.declared.Counts.{Counts}
 use Rattle.listing.specs.Listing.{okLine, noLine, bodyRoom, longestLine, counted, closingLine, longestClosing, bytesReceived, bytesWord, flagsWord, deliveredWord, refusedWord, skippedWord, openWord}
 use Rattle.listing.proofs.Decimal.{decimal-length}
-use Rattle.listing.proofs.Octets.{octets-length}
+use Rattle.text_output.proofs.Spelled.{hex-length}
 
 pub ok-most : (body : List ℕ) → length body ≤ bodyRoom → length (okLine body) ≤ longestLine
 unfolding okLine
-ok-most body h = simp length-append (omega (arith, decimal-length 2 (length body) (omega arith), octets-length body))
+ok-most body h = simp length-append (omega (arith, decimal-length 2 (length body) (omega arith), hex-length body))
 
 pub no-most : (number : ℕ) → number < 256 → length (noLine number) ≤ longestLine
 unfolding noLine

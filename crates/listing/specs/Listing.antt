@@ -1,11 +1,13 @@
 -- The text of a listing (document 01, "Frames to try", the line lister), as lists of character codes. Assumes nothing.
 use mathlib.Core.Bool.{cond}
 use mathlib.Core.List.{List, [], _∷_, _++_}
-use Prim.Native.Nat.{ℕ, zero, suc, _+_, _-_, _/_, _%_, _^_}
+use Prim.Native.Nat.{ℕ, zero, suc, _+_, _/_, _%_, _^_}
 use lib.Dec.{ltb}
 use lib.ListN.{length}
 use Rattle.frame_format.specs.Stretch.{Verdict, silent, refused, delivered}
 use Rattle.byte_account.specs.declared.Counts.{Counts}
+use Rattle.text_output.specs.declared.Spelling.the-variants.{Hex}
+use Rattle.text_output.specs.Text.{spelledOctet, spelled}
 
 -- ---- numbers
 
@@ -24,17 +26,12 @@ decimalWithin (suc most) n =
 unfoldable pub decimal : ℕ → List ℕ
 decimal n = decimalWithin (suc n) n
 
--- the code of a hexadecimal digit: '0' is 48, 'a' is 97
-unfoldable pub hexDigit : ℕ → ℕ
-hexDigit d = cond (ltb d 10) (48 + d) (97 + (d - 10))
-
 -- an octet in hexadecimal, with a space before it
-unfoldable pub hexOctet : ℕ → List ℕ
-hexOctet x = 32 ∷ hexDigit (x / 16) ∷ hexDigit (x % 16) ∷ []
+abbrev pub hexOctet : ℕ → List ℕ
+hexOctet = spelledOctet Hex
 
-unfoldable pub hexOctets : List ℕ → List ℕ
-hexOctets [] = []
-hexOctets (x ∷ xs) = hexOctet x ++ hexOctets xs
+abbrev pub hexOctets : List ℕ → List ℕ
+hexOctets = spelled Hex
 
 -- ---- lines
 

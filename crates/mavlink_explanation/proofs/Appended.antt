@@ -8,7 +8,6 @@ use borrow.Author.Tests.{ne-eqb, le-ltb}
 use lib.Dec.{eqb, ltb}
 use lib.ListN.{length, getD, take, drop, length-append, length-drop, List·getD-append}
 use lib.Seq.{take-append-le, drop-append-le}
-use Rattle.mavlink_frame.specs.declared.Kind.{Kind}
 use Rattle.mavlink_frame.specs.declared.Lookup.{Lookup}
 use Rattle.mavlink_frame.specs.declared.Lookup.the-variants.{Known, Unknown}
 use Rattle.mavlink_reader.specs.declared.Found.{Found}

@@ -1,6 +1,6 @@
 -- `listing::hex_digit` meets its contract. Assumes nothing.
 use borrow.Author.Needs.{needs}
-use Rattle.listing.proofs.Octets.{hex-digit}
+use Rattle.text_output.proofs.Spelled.{hex-digit}
 use Rattle.listing.proofs.hex_digit.Statement.{statement}
 use Rattle.listing.proofs.hex_digit.Tie as tie
 

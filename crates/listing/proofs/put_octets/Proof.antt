@@ -53,7 +53,6 @@ hex-digit-requires-2 c κs =
     omega (arith, c .before .before .shared-slice-known2 .given (c .before .before .before .before .loop .i))
 
 put-three-requires : tie.Need-put-three-requires Inv-loop μ-loop
-unfolding hexOctet
 put-three-requires c κs =
     let turn = c .before .before .before .before in
     first-room (hexOctet (octet-at turn)) _ (left-at turn)
@@ -65,7 +64,6 @@ loop-less : tie.Need-loop-less Inv-loop μ-loop
 loop-less c = search needs
 
 loop-again : tie.Need-loop-again Inv-loop μ-loop
-unfolding hexOctet
 loop-again c =
     let turn = c .before .before .before .before .before .before .before in
     let put = c .before .before .put-three .ensures in (

@@ -10,7 +10,7 @@ use lib.ListN.{length, getD, drop, drop-of-length-le}
 use lib.Seq.{sets}
 use Rattle.frame_writer.proofs.ToPut.{all-to-put, first-put}
 use Rattle.listing.proofs.Whole.{Left, same-long}
-use Rattle.listing.proofs.Octets.{drop-next}
+use Rattle.text_output.proofs.Spelled.{drop-next}
 use borrow.Author.Needs.{needs}
 use Rattle.listing.proofs.put_word.Statement.{statement}
 use Rattle.listing.proofs.put_word.Tie as tie

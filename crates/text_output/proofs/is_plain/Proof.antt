@@ -2,8 +2,6 @@ use Rattle.text_output.specs.Text.{isPlain}
 use borrow.Author.Needs.{needs}
 use Rattle.text_output.proofs.is_plain.Statement.{statement}
 use Rattle.text_output.proofs.is_plain.Tie as tie
-use Rattle.text_output.proofs.is_plain.Reads as reads
-use Rattle.text_output.proofs.is_plain.Lts as lts
 
 returns : tie.Need-returns
 unfolding isPlain
