@@ -51,7 +51,9 @@ demand1 =
       writerRefuses = λ body output after r number w e.
           (refused-so body output number (sym e ∙ w .answers), w .leaves ∙ ap (outputAfter (frame body) output) e);
       refusalWritesNothing = λ due octets output after r number w e. w .leaves ∙ ap (outputAfter octets output) e;
-      messageReaderRefuses = λ body r number d e. tabled-message (kindIn body) body number (sym d ∙ e);
+      messageReaderRefuses = λ body r number d.
+          let due = tabled-message (kindIn body) body number in
+          (λ e. due .0 (sym d ∙ e), λ t. d ∙ due .1 t);
       messageWriterRefuses = λ m payload output after r number w e.
           message-refused (messageFits m payload) (messageBody m payload) output number (sym (w .answers) ∙ e);
       mavlinkReaderRefuses = tabled-mavlink;

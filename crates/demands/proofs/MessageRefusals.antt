@@ -1,8 +1,8 @@
 -- The refusals that the readers and the writers of messages can give. Assumes nothing.
-use mathlib.Core.Path.{_≡_, refl, subst}
+use mathlib.Core.Path.{_≡_, refl, sym, ap, subst}
 use mathlib.Core.Bool.{Bool, true, false, cond}
 use mathlib.Core.List.{List}
-use mathlib.Core.Logic.{_⊎_, inl, inr}
+use mathlib.Core.Logic.{_⊎_, inl, inr, _↔_}
 use Prim.Native.Nat.{ℕ, _+_, _-_, _≤_, _<_}
 use native.Mathlib.Omega.{arith}
 use borrow.Author.Tests.{ltb-true}
@@ -37,25 +37,29 @@ use Rattle.mavlink_messages.specs.Traffic.{trafficIn}
 use Rattle.mavlink_messages.specs.Messages.{inRange, failuresOf, judged, payloadRead, readBy, readDue, writeDue, octetsOf}
 
 -- ---- 10 to 13
-by-tests : (length fixed range : Bool) (m : Message) (n : ℕ) → given (refusalBy length fixed range) m ≡ Reads.refused n
-    → (10 ≤ n) × (n ≤ 13)
-unfolding refusalBy
-by-tests true true true m n e = let z : _≡_ {A = ℕ} 0 1 = cc in absurd (omega arith)
-by-tests true true false m n e = let z : n ≡ 13 = cc in (omega arith, omega arith)
-by-tests true false range m n e = let z : n ≡ 12 = cc in (omega arith, omega arith)
-by-tests false fixed range m n e = let z : n ≡ 11 = cc in (omega arith, omega arith)
+abbrev ByTable : ℕ → ℕ → Type 0
+ByTable due n = (n ≡ due) × (10 ≤ n) × (n ≤ 13)
 
-pub tabled-message : (k : Kind) (body : List ℕ) (n : ℕ) → answerAs k body ≡ Reads.refused n → (10 ≤ n) × (n ≤ 13)
+by-tests : (length fixed range : Bool) (m : Message) (n : ℕ)
+    → (given (refusalBy length fixed range) m ≡ Reads.refused n) ↔ ByTable (refusalBy length fixed range) n
+unfolding refusalBy
+by-tests true true true m n = (λ e. let z : _≡_ {A = ℕ} 0 1 = cc in absurd (omega arith), λ t. absurd (omega (arith, t .0, t .1)))
+by-tests true true false m n = (λ e. let z : n ≡ 13 = cc in (z, omega arith, omega arith), λ t. ap Reads.refused (sym (t .0)))
+by-tests true false range m n = (λ e. let z : n ≡ 12 = cc in (z, omega arith, omega arith), λ t. ap Reads.refused (sym (t .0)))
+by-tests false fixed range m n = (λ e. let z : n ≡ 11 = cc in (z, omega arith, omega arith), λ t. ap Reads.refused (sym (t .0)))
+
+pub tabled-message : (k : Kind) (body : List ℕ) (n : ℕ) → (answerAs k body ≡ Reads.refused n) ↔ ByTable (refusalIn k body) n
 unfolding answerAs refusalIn
-tabled-message Heartbeat body n e = by-tests _ _ _ _ n e
-tabled-message Uplink body n e = by-tests _ _ _ _ n e
-tabled-message Ownship body n e = by-tests _ _ _ _ n e
-tabled-message GeometricAltitude body n e = by-tests _ _ _ _ n e
-tabled-message Traffic body n e = by-tests _ _ _ _ n e
-tabled-message Request body n e = by-tests _ _ _ _ n e
-tabled-message Control body n e = by-tests _ _ _ _ n e
-tabled-message Initialization body n e = by-tests _ _ _ _ n e
-tabled-message Unknown body n e = let z : n ≡ 10 = cc in (omega arith, omega arith)
+tabled-message Heartbeat body n = by-tests _ _ _ _ n
+tabled-message Uplink body n = by-tests _ _ _ _ n
+tabled-message Ownship body n = by-tests _ _ _ _ n
+tabled-message GeometricAltitude body n = by-tests _ _ _ _ n
+tabled-message Traffic body n = by-tests _ _ _ _ n
+tabled-message Request body n = by-tests _ _ _ _ n
+tabled-message Control body n = by-tests _ _ _ _ n
+tabled-message Initialization body n = by-tests _ _ _ _ n
+tabled-message Unknown body n =
+    (λ e. let z : n ≡ 10 = cc in (z, omega arith, omega arith), λ t. ap Reads.refused (sym (t .0)))
 
 -- ---- a range, then room
 pub range-then-room : (right : Bool) (number n : ℕ) (accepted : Answer) (short : Bool) → accepted ≡ cond short (refused 8) (wrote n)

@@ -31,6 +31,7 @@ use Rattle.check_strength.specs.Strength.{TwoBodies, AtMostThreeBits, Within16B
 use Rattle.ucp_messages.specs.declared.Message as ucp
 use Rattle.ucp_messages.specs.declared.Read as ucp-read
 use Rattle.ucp_messages.specs.Bodies.{messageFits, messageBody}
+use Rattle.ucp_messages.specs.Kinds.{kindIn}
 use Rattle.ucp_messages.specs.Reads as Reads
 use Rattle.message_answers.specs.Writes as Message
 use Rattle.writer_history.specs.Calls.{WriterLists}
@@ -39,7 +40,7 @@ use Rattle.receiver_history.specs.Slice.{LineOfSlices, SliceIsCall}
 use Rattle.receiver_history.specs.Promises.{AnswersAs, AnswersByHistory, CountsByHistory, EveryOctetCounted, StoreClean, FlagClears, LaterOnly, PutOutIsFrame, FrameIsPutOut, EndsIn, carrying}
 
 -- Demand 1. Bad input gets a numbered refusal under the conditions of document 01 and no others (the receiver's conditions are
--- `answersByHistory` of demand 2; the message readers' are their definitions, `Reads` and `readDue`), and a refusal changes no
+-- `answersByHistory` of demand 2, the message reader's are `refusalIn`, the MAVLink reader's its definition, `readDue`), and a refusal changes no
 -- octet of the lent output, whichever writer gives it. At every flag, counts excepted, the store
 -- is all zero, the rest of the record is one fixed value, and what the line answers from there on depends only on later octets,
 -- for the same room lent.
@@ -58,8 +59,9 @@ pub record Demand1 : Type 0 where
       (due : Answer) (octets output after : List ℕ) (r : Written) (number : ℕ) → Writing due octets output r after
       → answerOf r ≡ refused number → after ≡ output
   pub messageReaderRefuses :
-      (body : List ℕ) (r : ucp-read.Read) (number : ℕ) → Reads.Reads body r → Reads.answerOf r ≡ Reads.refused number
-      → (10 ≤ number) × (number ≤ 13)
+      (body : List ℕ) (r : ucp-read.Read) (number : ℕ) → Reads.Reads body r
+      → (Reads.answerOf r ≡ Reads.refused number)
+      ↔ ((number ≡ Reads.refusalIn (kindIn body) body) × (10 ≤ number) × (number ≤ 13))
   pub messageWriterRefuses :
       (m : ucp.Message) (payload output after : List ℕ) (r : Written) (number : ℕ)
       → Message.Writes (messageFits m payload) (messageBody m payload) output r after → answerOf r ≡ refused number
