@@ -24,6 +24,7 @@ use Rattle.writer_history.proofs.Calls.{writer-lists}
 use Rattle.receiver_history.specs.Line.{Line}
 use Rattle.receiver_history.proofs.Promises.{answers, counts, every-octet-counted, store-clean, flag-clears, later-only}
 use Rattle.receiver_history.proofs.Slice.{line-of-slices, slice-is-call}
+use Rattle.receiver_history.proofs.Stretch.{stretch-is-answered}
 use Rattle.receiver_history.proofs.Frames.{put-out-is-frame, frame-is-put-out, wrong-check-refused}
 use Rattle.demands.specs.Demands.{Demand1, Demand2, Demand3, ReceiverLists}
 use Rattle.demands.proofs.Refusals.{Tabled, quiet, numbered, whole, tabled}
@@ -54,10 +55,13 @@ demand1 =
       messageReaderRefuses = λ body r number d.
           let due = tabled-message (kindIn body) body number in
           (λ e. due .0 (sym d ∙ e), λ t. d ∙ due .1 t);
-      messageWriterRefuses = λ m payload output after r number w e.
-          message-refused (messageFits m payload) (messageBody m payload) output number (sym (w .answers) ∙ e);
+      messageWriterRefuses = λ m payload output after r number w.
+          let due = message-refused (messageFits m payload) (messageBody m payload) output number in
+          (λ e. due .0 (sym (w .answers) ∙ e), λ t. w .answers ∙ due .1 t);
       mavlinkReaderRefuses = tabled-mavlink;
-      mavlinkWriterRefuses = λ m h output after r number w e. mavlink-refused m output number (sym (w .answers) ∙ e);
+      mavlinkWriterRefuses = λ m h output after r number w.
+          let due = mavlink-refused m output number in
+          (λ e. due .0 (sym (w .answers) ∙ e), λ t. w .answers ∙ due .1 t);
       receiverRefuses = λ rest counts store octet output given storeAfter outputThen number m e.
           let p = told-refusal _ number output (tabled _ octet (length output)) (sym (m .answers) ∙ e) in
           (p .0, p .1, m .puts ∙ p .2);
@@ -75,6 +79,7 @@ demand2 =
           let e = w .answers ∙ due-accepted body output least most room in
           (e, w .leaves ∙ ap (outputAfter (frame body) output) e, frame-length-longest body most);
       answersByHistory = answers;
+      stretchIsAnswered = stretch-is-answered;
       deliveredIsFrame = put-out-is-frame;
       frameIsDelivered = frame-is-put-out;
       countsByHistory = counts;

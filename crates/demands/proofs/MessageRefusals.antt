@@ -5,7 +5,7 @@ use mathlib.Core.List.{List}
 use mathlib.Core.Logic.{_⊎_, inl, inr, _↔_}
 use Prim.Native.Nat.{ℕ, _+_, _-_, _≤_, _<_}
 use native.Mathlib.Omega.{arith}
-use borrow.Author.Tests.{ltb-true}
+use borrow.Author.Tests.{ltb-true, lt-ltb}
 use lib.Dec.{eqb, ltb}
 use lib.ListN.{length, getD}
 use Rattle.writer_answers.specs.Answers.{Answer, refused, wrote}
@@ -62,32 +62,40 @@ tabled-message Unknown body n =
     (λ e. let z : n ≡ 10 = cc in (z, omega arith, omega arith), λ t. ap Reads.refused (sym (t .0)))
 
 -- ---- a range, then room
-pub range-then-room : (right : Bool) (number n : ℕ) (accepted : Answer) (short : Bool) → accepted ≡ cond short (refused 8) (wrote n)
-    → (m : ℕ) → cond right accepted (refused number) ≡ refused m
-    → ((m ≡ number) × (right ≡ false)) ⊎ ((m ≡ 8) × (right ≡ true) × (short ≡ true))
-range-then-room false number n accepted short a m e = inl (cc, refl)
-range-then-room true number n accepted true a m e = let z : m ≡ 8 = cc in inr (z, refl, refl)
-range-then-room true number n accepted false a m e = let z : _≡_ {A = ℕ} 0 1 = cc in absurd (omega arith)
+abbrev RangeOrRoom : ℕ → Bool → ℕ → ℕ → ℕ → Type 0
+RangeOrRoom number fits room octets n = ((n ≡ number) × (fits ≡ false)) ⊎ ((n ≡ 8) × (fits ≡ true) × (room < octets))
 
-pub message-refused : (fits : Bool) (body output : List ℕ) (n : ℕ) → answerDue fits body output ≡ refused n
-    → ((n ≡ 13) × (fits ≡ false)) ⊎ ((n ≡ 8) × (fits ≡ true) × (length output < length body))
+range-or-room : (number : ℕ) (fits : Bool) (room octets n : ℕ)
+    → (cond fits (cond (ltb room octets) (refused 8) (wrote octets)) (refused number) ≡ refused n)
+    ↔ RangeOrRoom number fits room octets n
+range-or-room number false room octets n = ((λ e. inl (cc, refl)), back)
+  where
+    back : RangeOrRoom number false room octets n → refused number ≡ refused n
+    back (inl h) = ap refused (sym (h .0))
+    back (inr h) = let f = h .1 in let z : _≡_ {A = ℕ} 0 1 = cc in absurd (omega arith)
+range-or-room number true room octets n = go (ltb room octets) refl
+  where
+    go : (short : Bool) → ltb room octets ≡ short
+        → (cond short (refused 8) (wrote octets) ≡ refused n) ↔ RangeOrRoom number true room octets n
+    go true e = ((λ f. let z : n ≡ 8 = cc in inr (z, refl, ltb-true _ _ e)), back)
+      where
+        back : RangeOrRoom number true room octets n → refused 8 ≡ refused n
+        back (inl h) = let f = h .1 in let z : _≡_ {A = ℕ} 0 1 = cc in absurd (omega arith)
+        back (inr h) = ap refused (sym (h .0))
+    go false e = ((λ f. let z : _≡_ {A = ℕ} 0 1 = cc in absurd (omega arith)), back)
+      where
+        back : RangeOrRoom number true room octets n → wrote octets ≡ refused n
+        back (inl h) = let f = h .1 in let z : _≡_ {A = ℕ} 0 1 = cc in absurd (omega arith)
+        back (inr h) = let t = lt-ltb room octets (h .2) in let z : _≡_ {A = ℕ} 0 1 = cc in absurd (omega arith)
+
+pub message-refused : (fits : Bool) (body output : List ℕ) (n : ℕ)
+    → (answerDue fits body output ≡ refused n) ↔ RangeOrRoom 13 fits (length output) (length body) n
 unfolding answerDue
-message-refused fits body output n e = go (range-then-room fits 13 (length body) _ (ltb (length output) (length body)) refl n e)
-  where
-    go : ((n ≡ 13) × (fits ≡ false)) ⊎ ((n ≡ 8) × (fits ≡ true) × (ltb (length output) (length body) ≡ true))
-        → ((n ≡ 13) × (fits ≡ false)) ⊎ ((n ≡ 8) × (fits ≡ true) × (length output < length body))
-    go (inl h) = inl h
-    go (inr h) = inr (h .0, h .1, ltb-true _ _ (h .2))
+message-refused fits body output n = range-or-room 13 fits (length output) (length body) n
 
-pub mavlink-refused : (m : mavlink.Message) (output : List ℕ) (n : ℕ) → writeDue m output ≡ refused n
-    → ((n ≡ 25) × (inRange m ≡ false)) ⊎ ((n ≡ 8) × (inRange m ≡ true) × (length output < length (octetsOf m) + 8))
-mavlink-refused m output n e =
-    go (range-then-room (inRange m) 25 (length (octetsOf m) + 8) _ (ltb (length output) (length (octetsOf m) + 8)) refl n e)
-  where
-    go : ((n ≡ 25) × (inRange m ≡ false)) ⊎ ((n ≡ 8) × (inRange m ≡ true) × (ltb (length output) (length (octetsOf m) + 8) ≡ true))
-        → ((n ≡ 25) × (inRange m ≡ false)) ⊎ ((n ≡ 8) × (inRange m ≡ true) × (length output < length (octetsOf m) + 8))
-    go (inl h) = inl h
-    go (inr h) = inr (h .0, h .1, ltb-true _ _ (h .2))
+pub mavlink-refused : (m : mavlink.Message) (output : List ℕ) (n : ℕ)
+    → (writeDue m output ≡ refused n) ↔ RangeOrRoom 25 (inRange m) (length output) (length (octetsOf m) + 8) n
+mavlink-refused m output n = range-or-room 25 (inRange m) (length output) (length (octetsOf m) + 8) n
 
 -- ---- 20 to 25
 abbrev Tabled : Found → Type 0

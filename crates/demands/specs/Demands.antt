@@ -37,7 +37,7 @@ use Rattle.message_answers.specs.Writes as Message
 use Rattle.writer_history.specs.Calls.{WriterLists}
 use Rattle.receiver_history.specs.Line.{Observed, callOf, upTo, Line}
 use Rattle.receiver_history.specs.Slice.{LineOfSlices, SliceIsCall}
-use Rattle.receiver_history.specs.Promises.{AnswersAs, AnswersByHistory, CountsByHistory, EveryOctetCounted, StoreClean, FlagClears, LaterOnly, PutOutIsFrame, FrameIsPutOut, EndsIn, carrying}
+use Rattle.receiver_history.specs.Promises.{AnswersAs, AnswersByHistory, StretchIsAnswered, CountsByHistory, EveryOctetCounted, StoreClean, FlagClears, LaterOnly, PutOutIsFrame, FrameIsPutOut, EndsIn, carrying}
 
 -- Demand 1. Bad input gets a numbered refusal under the conditions of document 01 and no others (the receiver's conditions are
 -- `answersByHistory` of demand 2, the message reader's are `refusalIn`, the MAVLink reader's its definition, `readDue`), and a refusal changes no
@@ -64,15 +64,18 @@ pub record Demand1 : Type 0 where
       ↔ ((number ≡ Reads.refusalIn (kindIn body) body) × (10 ≤ number) × (number ≤ 13))
   pub messageWriterRefuses :
       (m : ucp.Message) (payload output after : List ℕ) (r : Written) (number : ℕ)
-      → Message.Writes (messageFits m payload) (messageBody m payload) output r after → answerOf r ≡ refused number
-      → ((number ≡ 13) × (messageFits m payload ≡ false))
-      ⊎ ((number ≡ 8) × (messageFits m payload ≡ true) × (length output < length (messageBody m payload)))
+      → Message.Writes (messageFits m payload) (messageBody m payload) output r after
+      → (answerOf r ≡ refused number)
+      ↔ (((number ≡ 13) × (messageFits m payload ≡ false))
+      ⊎ ((number ≡ 8) × (messageFits m payload ≡ true) × (length output < length (messageBody m payload))))
   pub mavlinkReaderRefuses :
       (input : List ℕ) (number : ℕ) → readDue input ≡ mavlink-read.Refused number → (20 ≤ number) × (number ≤ 25)
   pub mavlinkWriterRefuses :
       (m : mavlink.Message) (h : Header) (output after : List ℕ) (r : Written) (number : ℕ)
-      → Writing (writeDue m output) (messageFrame m h) output r after → answerOf r ≡ refused number
-      → ((number ≡ 25) × (inRange m ≡ false)) ⊎ ((number ≡ 8) × (inRange m ≡ true) × (length output < length (octetsOf m) + 8))
+      → Writing (writeDue m output) (messageFrame m h) output r after
+      → (answerOf r ≡ refused number)
+      ↔ (((number ≡ 25) × (inRange m ≡ false))
+      ⊎ ((number ≡ 8) × (inRange m ≡ true) × (length output < length (octetsOf m) + 8)))
   pub receiverRefuses :
       (rest : Rest) (counts : Counts) (store : List ℕ) (octet : ℕ) (output : List ℕ) (given : Received)
       (storeAfter outputThen : List ℕ) (number : ℕ)
@@ -88,7 +91,7 @@ pub record Demand1 : Type 0 where
   pub laterOnly : LaterOnly
 
 -- Demand 2. A body of 1 to 436 octets with room for its frame is written, and that exactly; every call of
--- the receiver answers as the rules say of the history; each frame delivered writes back to the same octets, and each frame
+-- the receiver answers as the rules say of the history, and a stretch with an octet in it is answered; each frame delivered writes back to the same octets, and each frame
 -- written is delivered; every octet received is counted once, under the class that its history gives. A line that is taken in
 -- slices is such a line of calls by the octet, with the same answers, outputs and records. On both lines each written message
 -- reads back equal, and each accepted one writes back to the same octets; a message sent on the UCP line is delivered, and means the same.
@@ -100,6 +103,7 @@ pub record Demand2 : Type 0 where
       × (after ≡ frame body ++ drop (length (frame body)) output)
       × (length (frame body) ≤ longestFrame)
   pub answersByHistory : AnswersByHistory
+  pub stretchIsAnswered : StretchIsAnswered
   pub deliveredIsFrame : PutOutIsFrame
   pub frameIsDelivered : FrameIsPutOut
   pub countsByHistory : CountsByHistory

@@ -1,4 +1,4 @@
--- The ranges of coded fields (document 01, "Message kinds on the UCP line"): each rule is named once, here. Assumes nothing.
+-- The ranges of coded fields (document 01, "Message kinds on the UCP line" and "MAVLink kinds"): each rule is named once, here. Assumes nothing.
 use mathlib.Core.Bool.{Bool}
 use Prim.Native.Nat.{ℕ}
 use lib.Dec.{leb}

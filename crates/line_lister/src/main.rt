@@ -3,7 +3,7 @@
 //
 // Where a read fails, what was listed so far has been written out already, the failure is said on standard error, and no
 // closing line follows: one stands only behind an input that was read to its end. Where a write fails the failure is said and
-// nothing more is written.
+// nothing more is written. A pipe that is closed behind the program ends it by a signal, and nothing is said.
 ghost use Prim.Native.Nat.{_≤_};
 ghost use lib.ListN.{length};
 ghost use Rattle.listing.specs.Listing.{longestLine};

@@ -1,6 +1,7 @@
-// The MAVLink explainer: reads standard input to its end, frames back to back, and writes a line for each frame that says what
-// it means. It stops at the first frame that is refused, and closes with how many frames were explained and the octets that
-// they used. `mavlink_explanation` has the text, `standard_streams` the reading and the writing.
+// The MAVLink explainer: reads standard input, frames back to back, to its end or to the first frame that is refused, and writes
+// a line for each frame that says what it means. It closes with how many frames were explained and the octets that they used.
+// `mavlink_explanation` has the text, `standard_streams` the reading and the writing. What the frames of one block are is proved
+// (`Explores`); that octets and counts go on from block to block is tested.
 //
 // Where a read or a write fails the line lister's rules hold: what was explained has been written out, the failure is said on
 // standard error, and no closing line follows.

@@ -48,8 +48,9 @@ angle z = reading TenMillionths Bare (Known (degreesE7 z))
 abbrev pub track : ℕ → Value
 track n = angle (pos (n * 65536))
 
+-- FFF is no data (GDL90 public ICD, horizontal velocity); a stall speed's octet can't hold it
 abbrev pub knots : ℕ → Value
-knots n = reading Ones Knots (Known (pos n))
+knots n = reading Ones Knots (unless 4095 (pos n))
 
 -- ---- the fields of each kind
 

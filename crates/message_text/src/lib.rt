@@ -66,7 +66,7 @@ fn put_angle(text: &mut [u8], at: usize, label: &[u8], n: i32) -> usize
 fn put_knots(text: &mut [u8], at: usize, label: &[u8], n: u16) -> usize
     ensures { λ r. ⌜ Clips (now (text .entry)) at (field (now (label .entry)) (knots n)) r (now (text .exit)) ⌝ }
 {
-    let speed = field_text::unsigned(n as u32);
+    let speed = field_text::unless_unsigned(n as u32, 4095);
     put_reading(text, at, label, Scale::Ones, Unit::Knots, speed)
 }
 

@@ -70,7 +70,7 @@ pub fn write_first(text: &[u8], n: usize) -> bool {
     write_out(text)
 }
 
-// The closing line, and whether it was written.
+// The closing line, where text has room for it, and whether what was put there was written.
 pub fn write_closing(text: &mut [u8], counts: Counts) -> bool
     ensures { λ r. ⌜ Closed counts (now (text .entry)) (now (text .exit)) ⌝ }
 {

@@ -1,4 +1,4 @@
--- The two rules for a text in ASCII (document 01, messages 45 and 117): each is named once, here. Assumes nothing.
+-- The two rules for a text in ASCII (document 01, messages 45, 117 and 201): each is named once, here. Assumes nothing.
 use mathlib.Core.Bool.{Bool, true, _&&_, _||_}
 use mathlib.Core.List.{List, [], _∷_}
 use Prim.Native.Nat.{ℕ}

@@ -11,7 +11,7 @@
 //! | [`write_frame`] | [`LONGEST_FRAME`], 878 | 7, 8 |
 //! | [`messages::read_message`] | | 10, 11, 12, 13 |
 //! | [`messages::write_message`] | [`LONGEST_BODY`], 436 | 13, 8 |
-//! | [`messages::send_message`] | its buffer, 878 | 13 |
+//! | [`messages::send_message`] | its buffer, 878 | 13; no message is known to get 7 or 8 |
 //! | [`mavlink::read_frame`] | | 20, 21, 20, 22, 23, 20, 24, 25 |
 //! | [`mavlink::write_frame`] | [`mavlink::LONGEST_FRAME`], 50 | 25, 8 |
 //! | [`frame_check`], [`meanings`] | | none |

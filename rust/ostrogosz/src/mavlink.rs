@@ -125,7 +125,7 @@ pub struct Dynamic {
     pub vertical: u16,
     /// Velocity accuracy in mm/s. Unknown: [`u16::MAX`].
     pub velocity: u16,
-    /// Vertical speed in cm/s, up positive. Unknown: [`i16::MAX`].
+    /// Vertical speed in cm/s. Unknown: [`i16::MAX`].
     pub climb: i16,
     /// Velocity in cm/s, north positive. Unknown: [`i16::MAX`].
     pub north: i16,
@@ -170,7 +170,7 @@ pub struct Traffic {
     pub heading: u16,
     /// Horizontal speed in cm/s.
     pub speed: u16,
-    /// Vertical speed in cm/s, up positive.
+    /// Vertical speed in cm/s.
     pub climb: i16,
     /// Which fields are valid.
     pub valid: u16,

@@ -99,7 +99,7 @@ pub struct Report {
     pub track: u8,
     /// Emitter category.
     pub emitter: u8,
-    /// Callsign: any octets, with no zero at the end.
+    /// Callsign: any octets; no zero is put behind them.
     pub callsign: [u8; 8],
     /// Emergency: 4 bits.
     pub emergency: u8,

@@ -3,8 +3,8 @@ use borrow.Author.Needs.{needs}
 use Rattle.message_text.proofs.put_knots.Statement.{statement}
 use Rattle.message_text.proofs.put_knots.Tie as tie
 
-unsigned-requires : tie.Need-unsigned-requires
-unsigned-requires c κs = search needs
+unless-unsigned-requires : tie.Need-unless-unsigned-requires
+unless-unsigned-requires c κs = search needs
 
 put-reading-requires : tie.Need-put-reading-requires
 put-reading-requires c κs = search needs
@@ -13,7 +13,7 @@ same-length : tie.Need-same-length
 same-length c = search needs
 
 returns : tie.Need-returns
-returns c = rw (c .before .before .before .before .unsigned .ensures) at (c .before .before .put-reading .ensures)
+returns c = rw (c .before .before .before .before .unless-unsigned .ensures) at (c .before .before .put-reading .ensures)
 
 pub put-knots-spec : {M : Type 1} → statement M
-put-knots-spec = tie.close (tie.spec unsigned-requires put-reading-requires same-length returns)
+put-knots-spec = tie.close (tie.spec unless-unsigned-requires put-reading-requires same-length returns)

@@ -76,7 +76,7 @@ fn angle(steps: i64) -> String {
 fn report_shown(report: &Report) -> String {
     format!(
         "alert {} address type {} address {:06x} latitude {} longitude {} altitude {} \
-         miscellaneous {} nic {} nacp {} speed {} knots vertical rate {} track {} emitter {} \
+         miscellaneous {} nic {} nacp {} speed {} vertical rate {} track {} emitter {} \
          callsign {} emergency {} spare {}",
         report.alert,
         report.address_type,
@@ -90,7 +90,10 @@ fn report_shown(report: &Report) -> String {
         report.miscellaneous,
         report.nic,
         report.nacp,
-        report.speed,
+        known(
+            (report.speed != 0xFFF).then(|| report.speed.to_string()),
+            "knots"
+        ),
         known(
             vertical_rate_feet_per_minute(report.vertical_rate).map(|feet| feet.to_string()),
             "feet per minute"
