@@ -1,5 +1,6 @@
 -- What a block of the input leaves of the receiver's record, cleared memory, and the closing line. Assumes nothing.
 use mathlib.Core.Path.{_≡_}
+use mathlib.Core.Bool.{Bool, true}
 use mathlib.Core.List.{List}
 use Prim.Native.Nat.{ℕ, _≤_}
 use lib.ListN.{length, replicate}
@@ -20,6 +21,10 @@ Leaves Failed s c b = Unit {0}
 -- as many octets as before, and all of them 0
 abbrev pub Zeroed : List ℕ → List ℕ → Type 0
 Zeroed before after = after ≡ replicate (length before) 0
+
+-- what no contract can say is whether octets reached the output; where there is none to write, all are written
+abbrev pub WrittenIfEmpty : ℕ → Bool → Type 0
+WrittenIfEmpty octets written = octets ≡ 0 → written ≡ true
 
 -- octets that were read are within the block
 abbrev pub Within : Got → ℕ → Type 0

@@ -1,7 +1,7 @@
 // What the programs that read a line share: standard input by the block, standard output, and clearing what was lent. What is
 // read and written no contract can say; each is safe, ends, and fixes what it can.
 ghost use lib.ListN.{length};
-ghost use Rattle.standard_streams.specs.Blocks.{Closed, Zeroed, Within};
+ghost use Rattle.standard_streams.specs.Blocks.{Closed, Zeroed, Within, WrittenIfEmpty};
 use byte_account::Counts;
 use libc::STDIN_FILENO;
 use libc::STDOUT_FILENO;
@@ -48,7 +48,9 @@ fn write_failed() {
 
 // Writes all of text, or says that it failed. `io::write_all` would copy what a short write leaves over: here the octets of
 // a frame stay in the memory that main lends.
-pub fn write_out(text: &[u8]) -> bool {
+pub fn write_out(text: &[u8]) -> bool
+    ensures { λ r. ⌜ WrittenIfEmpty (length (now (text .entry))) r ⌝ }
+{
     let mut done = 0;
     while done < text.len() {
         let left = &text[done..];
@@ -63,7 +65,9 @@ pub fn write_out(text: &[u8]) -> bool {
 }
 
 // Writes the first octets of text, or all of it where there are no more.
-pub fn write_first(text: &[u8], n: usize) -> bool {
+pub fn write_first(text: &[u8], n: usize) -> bool
+    ensures { λ r. ⌜ WrittenIfEmpty (length (now (text .entry))) r ⌝ }
+{
     if n < text.len() {
         return write_out(&text[..n]);
     }

@@ -3,7 +3,7 @@
 use mathlib.Core.Path.{_≡_, refl, sym, ap, ap₂, _∙_}
 use mathlib.Core.Bool.{Bool, true, false, xor}
 use mathlib.Core.List.{List, [], _∷_, _++_, append-nil}
-use Prim.Native.Nat.{ℕ, zero, suc, _+_, _*_, _/_, _%_, _<_}
+use Prim.Native.Nat.{ℕ, zero, suc, _+_, _*_, _/_, _%_, _^_, _<_}
 use native.Mathlib.Omega.{arith}
 use native.Mathlib.Nat.{mod-lt}
 use native.Mathlib.Numerals.{add-one}
@@ -15,7 +15,8 @@ use Rattle.binary_polynomial.specs.Bits.{odd}
 use Rattle.binary_polynomial.specs.Division.{coefficient, degree16, step, reduced, polynomial}
 use Rattle.binary_polynomial.proofs.Xor.{digit-cases, xor-assoc, xor-swap, below-two, half, last}
 use Rattle.binary_polynomial.proofs.Laws.{coefficient-xor, coefficient-lt, step-xor, step-lt, sum, sum-zeros, polynomial-xor, polynomial-lt}
-use Rattle.binary_polynomial.proofs.Linear.{Linear, Linear16, both, times, agree}
+use Rattle.binary_polynomial.proofs.Linear.{upFrom, Linear, Linear16, both, times, agree}
+use Rattle.x25_shifts.proofs.Shifts.{shifted, shifted-linear, paired, paired-linear, paired-twice, paired-above, two-at-once}
 use Rattle.x25_check.specs.Check.{bitsUp, wireBits, next, register, mirrored, x25, x25From}
 
 -- ---- the definition is linear
@@ -95,30 +96,6 @@ mirrored-back n h =
     16 refl n h h
 
 -- ---- the step by shifts
-abbrev pub fold : ℕ → ℕ
-fold low = bitXor low (low * 16) % 256
-
-abbrev pub shifted : ℕ → ℕ
-shifted met = bitXor (bitXor (bitXor (met / 256) (fold (met % 256) * 256)) (fold (met % 256) * 8)) (fold (met % 256) / 16)
-
-fold-linear : Linear fold
-fold-linear a b =
-    ap (λ (n : ℕ). n % 256) (both (λ n. n) (λ n. n * 16) (λ c d. refl) (times 4) a b)
-    ∙ xor-mod (bitXor a (a * 16)) (bitXor b (b * 16)) 8
-
-low-fold-linear : Linear (λ n. fold (n % 256))
-low-fold-linear a b = ap fold (xor-mod a b 8) ∙ fold-linear (a % 256) (b % 256)
-
-shifted-linear : Linear shifted
-shifted-linear =
-    both (λ n. bitXor (bitXor (n / 256) (fold (n % 256) * 256)) (fold (n % 256) * 8)) (λ n. fold (n % 256) / 16)
-    (both (λ n. bitXor (n / 256) (fold (n % 256) * 256)) (λ n. fold (n % 256) * 8)
-    (both (λ n. n / 256) (λ n. fold (n % 256) * 256)
-    (λ a b. xor-shr a b 8)
-    (λ a b. ap (λ (n : ℕ). n * 256) (low-fold-linear a b) ∙ times 8 (fold (a % 256)) (fold (b % 256))))
-    (λ a b. ap (λ (n : ℕ). n * 8) (low-fold-linear a b) ∙ times 3 (fold (a % 256)) (fold (b % 256))))
-    (λ a b. ap (λ (n : ℕ). n / 16) (low-fold-linear a b) ∙ xor-shr (fold (a % 256)) (fold (b % 256)) 4)
-
 eight : List Bool
 eight = replicate 8 false
 
@@ -134,7 +111,7 @@ passed-linear a b p q =
     ∙ mirrored-linear (register (mirrored a) eight) (register (mirrored b) eight)
 
 passed-shifted : (n : ℕ) → n < degree16 → passed n ≡ shifted n
-unfolding passed eight mirrored bitsUp polynomial register next step reduced
+unfolding passed eight mirrored bitsUp polynomial register next step reduced shifted
 passed-shifted n h = agree passed shifted passed-linear (λ a b p q. shifted-linear a b) 16 refl n h h
 
 -- an octet taken in by a register of 0
@@ -149,7 +126,7 @@ taken-linear a b p q =
     ∙ mirrored-linear (register 0 (bitsUp 8 a)) (register 0 (bitsUp 8 b))
 
 taken-shifted : (x : ℕ) → x < 256 → taken x ≡ shifted x
-unfolding taken mirrored bitsUp polynomial register next step reduced
+unfolding taken mirrored bitsUp polynomial register next step reduced shifted
 taken-shifted x h = agree taken shifted taken-linear (λ a b p q. shifted-linear a b) 8 refl x h (omega arith)
 
 sum-eight : (x : ℕ) → sum eight (bitsUp 8 x) ≡ bitsUp 8 x
@@ -182,63 +159,10 @@ octet-first check octets i h =
     (sym (mirrored-back _ (register-lt (mirrored check) (bitsUp 8 (getD octets i 0)) (mirrored-lt check)))))
 
 -- ---- two octets at once
-abbrev pub quotient : ℕ → ℕ
-quotient met = bitXor (bitXor (bitXor (bitXor met (met * 16)) (met * 256)) (met * 2048)) (met * 4096) % 65536
-
-abbrev pub spread : ℕ → ℕ
-spread q = bitXor (bitXor q (q / 32)) (q / 4096)
-
-abbrev pub paired : ℕ → ℕ
-paired met = spread (quotient met)
-
-wide-quotient-linear : Linear (λ n. bitXor (bitXor (bitXor (bitXor n (n * 16)) (n * 256)) (n * 2048)) (n * 4096))
-wide-quotient-linear =
-    both (λ n. bitXor (bitXor (bitXor n (n * 16)) (n * 256)) (n * 2048)) (λ n. n * 4096)
-    (both (λ n. bitXor (bitXor n (n * 16)) (n * 256)) (λ n. n * 2048)
-    (both (λ n. bitXor n (n * 16)) (λ n. n * 256) (both (λ n. n) (λ n. n * 16) (λ c d. refl) (times 4)) (times 8))
-    (times 11))
-    (times 12)
-
-quotient-linear : Linear quotient
-quotient-linear a b =
-    ap (λ (n : ℕ). n % 65536) (wide-quotient-linear a b)
-    ∙ xor-mod (bitXor (bitXor (bitXor (bitXor a (a * 16)) (a * 256)) (a * 2048)) (a * 4096))
-    (bitXor (bitXor (bitXor (bitXor b (b * 16)) (b * 256)) (b * 2048)) (b * 4096)) 16
-
-spread-linear : Linear spread
-spread-linear =
-    both (λ q. bitXor q (q / 32)) (λ q. q / 4096)
-    (both (λ q. q) (λ q. q / 32) (λ a b. refl) (λ a b. xor-shr a b 5))
-    (λ a b. xor-shr a b 12)
-
-paired-linear : Linear paired
-paired-linear a b = ap spread (quotient-linear a b) ∙ spread-linear (quotient a) (quotient b)
-
--- sixteen places are eight and eight more
-paired-twice : (n : ℕ) → n < degree16 → paired n ≡ shifted (shifted n)
-paired-twice n h =
-    agree paired (λ n. shifted (shifted n)) (λ a b p q. paired-linear a b)
-    (λ a b p q. ap shifted (shifted-linear a b) ∙ shifted-linear (shifted a) (shifted b))
-    16 refl n h h
-
--- the octet above meets the register eight places later
-above-linear : Linear (λ y. paired (y * 256))
-above-linear a b = ap paired (times 8 a b) ∙ paired-linear (a * 256) (b * 256)
-
-paired-above : (y : ℕ) → y < 256 → paired (y * 256) ≡ shifted y
-paired-above y h =
-    agree (λ y. paired (y * 256)) shifted (λ a b p q. above-linear a b) (λ a b p q. shifted-linear a b) 8 refl y h (omega arith)
-
 pub pair-step : (check x y : ℕ) → check < degree16 → x < 256 → y < 256
     → paired (bitXor check (y * 256 + x)) ≡ x25From check (x ∷ y ∷ [])
 pair-step check x y hc hx hy =
-    paired-linear check (y * 256 + x)
-    ∙ ap (bitXor (paired check)) (ap paired (sym (xor-shifted y 8 x hx) ∙ xor-comm (y * 256) x) ∙ paired-linear x (y * 256))
-    ∙ sym (xor-assoc (paired check) (paired x) (paired (y * 256)))
-    ∙ ap₂ bitXor
-    (sym (paired-linear check x) ∙ paired-twice (bitXor check x) (xor-lt 16 check x hc (omega arith)))
-    (paired-above y hy)
-    ∙ sym (shifted-linear (shifted (bitXor check x)) y)
+    two-at-once paired shifted paired-linear shifted-linear paired-twice paired-above check x y hc hx hy
     ∙ ap (λ (n : ℕ). shifted (bitXor n y)) (octet-step check x hc hx)
     ∙ octet-step (x25From check (x ∷ [])) y (from-lt check (x ∷ [])) hy
     ∙ sym (octet-first check (x ∷ y ∷ []) 0 (omega arith))
@@ -246,11 +170,6 @@ pair-step check x y hc hx hy =
 -- what the steps of the calculation need to fit
 pub pair-lt : (check x y : ℕ) → check < degree16 → x < 256 → y < 256 → bitXor check (y * 256 + x) < degree16
 pair-lt check x y hc hx hy = xor-lt 16 check (y * 256 + x) hc (omega arith)
-
-pub paired-lt : (n : ℕ) → paired n < degree16
-paired-lt n =
-    let q : quotient n < 65536 = mod-lt _ (omega arith) in
-    xor-lt 16 _ _ (xor-lt 16 (quotient n) (quotient n / 32) q (omega arith)) (omega arith)
 
 -- a running check of FFFF is the start
 pub starts : (octets : List ℕ) → x25From 0xFFFF octets ≡ x25 octets

@@ -1,4 +1,4 @@
--- `standard_streams::write_first` is safe. Assumes nothing.
+-- `standard_streams::write_first` meets its contract. Assumes nothing.
 use native.Mathlib.Omega.{arith}
 use lib.ListN.{length-take}
 use borrow.Author.Needs.{needs}
@@ -12,7 +12,7 @@ write-out-requires : tie.Need-write-out-requires
 write-out-requires c κs = search needs
 
 returns : tie.Need-returns
-returns c = search needs
+returns c = λ empty. absurd (omega arith)
 
 write-out-requires-2 : tie.Need-write-out-requires-2
 write-out-requires-2 c κs = search needs

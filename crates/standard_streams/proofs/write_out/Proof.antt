@@ -1,4 +1,4 @@
--- `standard_streams::write_out` is safe and ends: each turn writes some of what is left. Assumes nothing.
+-- `standard_streams::write_out` meets its contract and ends: each turn writes some of what is left. Assumes nothing.
 use Prim.Native.Nat.{_-_, _≤_}
 use native.Mathlib.Omega.{arith}
 use lib.ListN.{length, length-take, length-drop}
@@ -34,7 +34,7 @@ write-failed-requires : tie.Need-write-failed-requires Inv-loop μ-loop
 write-failed-requires c κs = search needs
 
 returns : tie.Need-returns Inv-loop μ-loop
-returns c = search needs
+returns c = λ empty. absurd (omega arith)
 
 add-done : tie.Need-add-done Inv-loop μ-loop
 add-done c = omega (arith, simp (length-take, length-drop) at (c .before .count .ensures .0 .0))

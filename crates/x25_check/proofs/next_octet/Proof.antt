@@ -1,5 +1,6 @@
 -- `x25_check::next_octet` meets its contract, by the law of the eight places. Assumes nothing.
 use borrow.Author.Needs.{needs}
+use Rattle.x25_shifts.proofs.Shifts.{shifted}
 use Rattle.x25_check.proofs.Step.{octet-step}
 use Rattle.x25_check.proofs.next_octet.Statement.{statement}
 use Rattle.x25_check.proofs.next_octet.Tie as tie
@@ -14,6 +15,7 @@ mul-result-2 : tie.Need-mul-result-2
 mul-result-2 c = search needs
 
 returns : tie.Need-returns
+unfolding shifted
 returns c = octet-step (c .args .check) (c .args .octet) (c .fits .check .fits) (c .fits .octet .fits)
 
 pub next-octet-spec : {M : Type 1} → statement M

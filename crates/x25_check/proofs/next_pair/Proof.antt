@@ -3,7 +3,8 @@ use Prim.Native.Nat.{_+_, _*_, _<_}
 use native.Mathlib.Omega.{arith}
 use lib.Bits.{bitXor}
 use borrow.Author.Needs.{needs}
-use Rattle.x25_check.proofs.Step.{pair-step, pair-lt, paired-lt}
+use Rattle.x25_shifts.proofs.Shifts.{paired, paired-lt}
+use Rattle.x25_check.proofs.Step.{pair-step, pair-lt}
 use Rattle.x25_check.proofs.next_pair.Statement.{statement}
 use Rattle.x25_check.proofs.next_pair.Reads as reads
 use Rattle.x25_check.proofs.next_pair.Lts as lts
@@ -32,9 +33,11 @@ mul-q-4 : tie.Need-mul-q-4
 mul-q-4 c = omega (arith, met c)
 
 cast-result : tie.Need-cast-result
+unfolding paired
 cast-result c = record { fits = paired-lt (bitXor (c .args .check) (c .args .second * 256 + c .args .first)) }
 
 returns : tie.Need-returns
+unfolding paired
 returns c =
     pair-step (c .args .check) (c .args .first) (c .args .second) (c .fits .check .fits) (c .fits .first .fits) (c .fits .second .fits)
 
