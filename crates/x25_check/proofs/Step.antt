@@ -3,19 +3,18 @@
 use mathlib.Core.Path.{_≡_, refl, sym, ap, ap₂, _∙_}
 use mathlib.Core.Bool.{Bool, true, false, xor}
 use mathlib.Core.List.{List, [], _∷_, _++_, append-nil}
-use Prim.Native.Nat.{ℕ, zero, suc, _+_, _*_, _/_, _%_, _^_, _<_}
+use Prim.Native.Nat.{ℕ, zero, suc, _+_, _*_, _/_, _%_, _<_}
 use native.Mathlib.Omega.{arith}
-use native.Mathlib.Nat.{mod-lt}
 use native.Mathlib.Numerals.{add-one}
 use lib.Dec.{eqb}
 use lib.ListN.{length, getD, drop, replicate, length-append, List·getD-append}
 use lib.Seq.{drop-cons, drop-at}
-use lib.Bits.{bitXor, differ, xor-shr, xor-mod, xor-lt, xor-zero-r, xor-comm, xor-shifted}
+use lib.Bits.{bitXor, differ, xor-lt, xor-zero-r}
 use Rattle.binary_polynomial.specs.Bits.{odd}
 use Rattle.binary_polynomial.specs.Division.{coefficient, degree16, step, reduced, polynomial}
-use Rattle.binary_polynomial.proofs.Xor.{digit-cases, xor-assoc, xor-swap, below-two, half, last}
+use Rattle.binary_polynomial.proofs.Xor.{digit-cases, xor-swap, below-two, half, last}
 use Rattle.binary_polynomial.proofs.Laws.{coefficient-xor, coefficient-lt, step-xor, step-lt, sum, sum-zeros, polynomial-xor, polynomial-lt}
-use Rattle.binary_polynomial.proofs.Linear.{upFrom, Linear, Linear16, both, times, agree}
+use Rattle.binary_polynomial.proofs.Linear.{Linear, Linear16, times, agree}
 use Rattle.x25_shifts.proofs.Shifts.{shifted, shifted-linear, paired, paired-linear, paired-twice, paired-above, two-at-once}
 use Rattle.x25_check.specs.Check.{bitsUp, wireBits, next, register, mirrored, x25, x25From}
 
