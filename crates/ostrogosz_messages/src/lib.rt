@@ -172,20 +172,12 @@ fn uplink(body: &[u8]) -> OstrogoszMessage
     }
 }
 
-// A report is put in place as it is made: over the blank answer it would be slower.
 fn of_report(id: u8, report: Report) -> OstrogoszMessage
     ensures { λ r. ⌜ r ≡ reportNumbers id (ReportRead.Report report) ⌝ }
 {
-    OstrogoszMessage {
-        refusal: 0,
-        id: id as u32,
-        heartbeat: no_heartbeat(),
-        report: report,
-        geometric_altitude: no_geometric_altitude(),
-        request: no_request(),
-        control: no_control(),
-        initialization: no_initialization(),
-    }
+    let mut m = blank(0, id);
+    m.report = report;
+    m
 }
 
 // 10 or 20.
