@@ -6,12 +6,12 @@ use native.Mathlib.Omega.{arith}
 use lib.ListN.{length, length-append}
 use Rattle.frame_format.specs.Stretch.{Verdict, silent, refused, delivered}
 use Rattle.ucp_messages.specs.Reads.{Answer, refused as unread, means, answerDue}
+use Rattle.text_output.specs.Clips.{textRoom}
 use Rattle.text_output.proofs.Numerals.{numeral-most}
 use Rattle.text_output.proofs.Spelled.{hex-length}
 use Rattle.refusal_text.proofs.Longest.{refusal-most}
 use Rattle.message_text.proofs.Longest.{message-most}
 use Rattle.explanation.specs.Explanation.{readLine, explanation}
-use Rattle.explanation.specs.Calls.{textRoom}
 
 read-most : (a : Answer) (body : List ℕ) → length body ≤ 436 → length (readLine a body) ≤ textRoom
 unfolding readLine

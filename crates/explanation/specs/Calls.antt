@@ -3,6 +3,7 @@ use mathlib.Core.Path.{_≡_}
 use mathlib.Core.List.{List}
 use Prim.Native.Nat.{ℕ, _≤_}
 use lib.ListN.{length}
+use Rattle.text_output.specs.Clips.{textRoom}
 use Rattle.frame_writer.specs.Puts.{Puts}
 use Rattle.receiver.specs.declared.Rest.{Rest}
 use Rattle.byte_account.specs.declared.Counts.{Counts}
@@ -11,10 +12,6 @@ use Rattle.slice_receiver.specs.Run.{Takes, run}
 use Rattle.listing.specs.Listing.{bodyRoom}
 use Rattle.explanation.specs.declared.Explained.{Explained}
 use Rattle.explanation.specs.Explanation.{explanation}
-
--- the longest line is shorter than a text's room
-abbrev pub textRoom : ℕ
-textRoom = 1536
 
 -- one call, whole: the receiver's own call with the slice, and the line of its answer at the start of the text
 pub record Explains (rest : Rest) (counts : Counts) (store room line text : List ℕ)

@@ -17,14 +17,14 @@ ghost use Rattle.text_output.specs.Clips.{Clips};
 ghost use Rattle.explanation.specs.Explanation.{readLine, explanation};
 ghost use Rattle.explanation.specs.Calls.{Explains};
 
-fn put_refused(text: &mut [u8], number: u8) -> usize
+fn put_refused(text: &mut [u8; 1536], number: u8) -> usize
     ensures { λ r. ⌜ Clips (now (text .entry)) 0 (explanation (refused number)) r (now (text .exit)) ⌝ }
 {
     let at = refusal_text::put_refusal(text, 0, number);
     text_output::put_octet(text, at, b'\n')
 }
 
-fn put_unread(text: &mut [u8], number: u8, body: &[u8]) -> usize
+fn put_unread(text: &mut [u8; 1536], number: u8, body: &[u8]) -> usize
     ensures { λ r. ⌜ Clips (now (text .entry)) 0 (readLine (unread number) (now (body .entry))) r (now (text .exit)) ⌝ }
 {
     let at = refusal_text::put_refusal(text, 0, number);
@@ -34,7 +34,7 @@ fn put_unread(text: &mut [u8], number: u8, body: &[u8]) -> usize
     text_output::put_octet(text, at, b'\n')
 }
 
-fn put_read(text: &mut [u8], message: Message, body: &[u8]) -> usize
+fn put_read(text: &mut [u8; 1536], message: Message, body: &[u8]) -> usize
     ensures { λ r. ⌜ Clips (now (text .entry)) 0 (readLine (means message) (now (body .entry))) r (now (text .exit)) ⌝ }
 {
     let at = text_output::put_word(text, 0, b"ok ");
@@ -43,7 +43,7 @@ fn put_read(text: &mut [u8], message: Message, body: &[u8]) -> usize
     text_output::put_octet(text, at, b'\n')
 }
 
-fn put_body(text: &mut [u8], body: &[u8]) -> usize
+fn put_body(text: &mut [u8; 1536], body: &[u8]) -> usize
     ensures { λ r. ⌜ Clips (now (text .entry)) 0 (readLine (answerDue (now (body .entry))) (now (body .entry))) r (now (text .exit)) ⌝ }
 {
     let read = ucp_messages::read_message(body);
@@ -54,12 +54,12 @@ fn put_body(text: &mut [u8], body: &[u8]) -> usize
 }
 
 // The line of an answer, where there is one. A body stands at the start of room.
-fn put_answer(text: &mut [u8], answer: Answer, room: &[u8]) -> usize
+fn put_answer(text: &mut [u8; 1536], answer: Answer, room: &[u8]) -> usize
     requires { ⌜ (length (now room) ≡ bodyRoom) × Fitting answer bodyRoom ⌝ }
     ensures { λ r. ⌜ Clips (now (text .entry)) 0 (explanation (verdictOf answer (now (room .entry)))) r (now (text .exit)) ⌝ }
 {
     match answer {
-        Answer::Nothing => 0,
+        Answer::Nothing => text_output::put_nothing(text, 0),
         Answer::Delivered(n) => put_body(text, &room[..n]),
         Answer::Refused(number) => put_refused(text, number),
     }

@@ -5,7 +5,7 @@ use mathlib.Core.List.{List}
 use Prim.Native.Nat.{ℕ, _+_, _≤_}
 use native.Mathlib.Omega.{arith}
 use lib.ListN.{length, length-append}
-use Rattle.text_output.specs.Clips.{Clips}
+use Rattle.text_output.specs.Clips.{textRoom, Clips}
 use Rattle.text_output.proofs.Clipped.{all-fits}
 use Rattle.text_output.proofs.Numerals.{numeral-most}
 use Rattle.refusal_text.proofs.Longest.{refusal-most}
@@ -14,7 +14,7 @@ use Rattle.mavlink_messages.specs.declared.Read.the-variants.{Message, Refused}
 use Rattle.mavlink_messages.specs.Messages.{readDue}
 use Rattle.mavlink_text.proofs.Longest.{message-most}
 use Rattle.mavlink_explanation.specs.Explanation.{frameLine, usedBy, isRefused, closingLine}
-use Rattle.mavlink_explanation.specs.Calls.{textRoom, Whole, Explains}
+use Rattle.mavlink_explanation.specs.Calls.{Whole, Explains}
 
 pub line-most : (r : Read) → length (frameLine r) ≤ textRoom
 unfolding frameLine
@@ -27,18 +27,18 @@ closing-most frames bytes =
     simp length-append (omega (arith, numeral-most false 10 20 frames, numeral-most false 10 20 bytes))
 
 -- a line that is short enough stands whole
-pub whole : {text line : List ℕ} {written : ℕ} {after : List ℕ} → Clips text 0 line written after → length text ≡ textRoom
-    → length line ≤ textRoom → Whole text line written after
-whole {text} {line} {written} p long few =
+pub whole : {text line : List ℕ} {written : ℕ} {after : List ℕ} → Clips text 0 line written after → length line ≤ textRoom
+    → Whole text line written after
+whole {text} {line} {written} p few =
     let ends : written ≡ 0 + length line = all-fits p (omega arith) in
     record { puts = p; all = omega arith; within = omega arith }
 
 -- the line of what is read
 pub explained : {input text : List ℕ} {r : Read} {written : ℕ} {after : List ℕ} → readDue input ≡ r
-    → Clips text 0 (frameLine r) written after → length text ≡ textRoom
+    → Clips text 0 (frameLine r) written after
     → Explains input text (record { used = usedBy r; refused = isRefused r; written = written }) after
-explained {input} {text} {r} {written} {after} e p long = record {
+explained {input} {text} {r} {written} {after} e p = record {
   used = ap usedBy (sym e);
   refuses = ap isRefused (sym e);
-  line = whole (subst (λ (x : Read). Clips text 0 (frameLine x) written after) (sym e) p) long (line-most (readDue input));
+  line = whole (subst (λ (x : Read). Clips text 0 (frameLine x) written after) (sym e) p) (line-most (readDue input));
 }

@@ -3,14 +3,10 @@ use mathlib.Core.Path.{_≡_}
 use mathlib.Core.List.{List}
 use Prim.Native.Nat.{ℕ, _≤_}
 use lib.ListN.{length}
-use Rattle.text_output.specs.Clips.{Clips}
+use Rattle.text_output.specs.Clips.{textRoom, Clips}
 use Rattle.mavlink_messages.specs.Messages.{readDue}
 use Rattle.mavlink_explanation.specs.declared.Explained.{Explained}
 use Rattle.mavlink_explanation.specs.Explanation.{frameLine, usedBy, isRefused}
-
--- the longest line is shorter than a text's room
-abbrev pub textRoom : ℕ
-textRoom = 1536
 
 -- a line stands whole at the start of a text, and nothing else changes
 pub record Whole (text line : List ℕ) (written : ℕ) (textAfter : List ℕ) : Type 0 where

@@ -18,7 +18,7 @@ pub struct Explained {
 }
 
 fn put_frame(
-    text: &mut [u8],
+    text: &mut [u8; 1536],
     header: Header,
     used: usize,
     message: Message,
@@ -32,7 +32,7 @@ fn put_frame(
     text_output::put_octet(text, at, b'\n')
 }
 
-fn put_refused(text: &mut [u8], number: u8) -> usize
+fn put_refused(text: &mut [u8; 1536], number: u8) -> usize
     ensures { λ r. ⌜ Clips (now (text .entry)) 0 (frameLine (ReadRefused number)) r (now (text .exit)) ⌝ }
 {
     let at = refusal_text::put_refusal(text, 0, number);
@@ -64,7 +64,7 @@ pub fn explain_frame(input: &[u8], text: &mut [u8; 1536]) -> Explained
     }
 }
 
-fn put_closing_line(text: &mut [u8], frames: u64, bytes: u64) -> usize
+fn put_closing_line(text: &mut [u8; 1536], frames: u64, bytes: u64) -> usize
     ensures { λ r. ⌜ Clips (now (text .entry)) 0 (closingLine frames bytes) r (now (text .exit)) ⌝ }
 {
     let at = text_output::put_word(text, 0, b"frames ");

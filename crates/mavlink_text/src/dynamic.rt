@@ -14,7 +14,7 @@ ghost use Rattle.text_output.specs.Clips.{Clips};
 ghost use Rattle.field_text.specs.Fields.{fields};
 ghost use Rattle.mavlink_text.specs.Messages.{dynamicParts};
 
-fn put_position(text: &mut [u8], at: usize, dynamic: Dynamic) -> usize
+fn put_position(text: &mut [u8; 1536], at: usize, dynamic: Dynamic) -> usize
     ensures { λ r. ⌜ Clips (now (text .entry)) at (fields (take 5 (dynamicParts dynamic))) r (now (text .exit)) ⌝ }
 {
     let utc = unless_unsigned(dynamic.utc, 4294967295);
@@ -57,7 +57,7 @@ fn put_position(text: &mut [u8], at: usize, dynamic: Dynamic) -> usize
     )
 }
 
-fn put_accuracy(text: &mut [u8], at: usize, dynamic: Dynamic) -> usize
+fn put_accuracy(text: &mut [u8; 1536], at: usize, dynamic: Dynamic) -> usize
     ensures { λ r. ⌜ Clips (now (text .entry)) at (fields (take 3 (drop 5 (dynamicParts dynamic)))) r (now (text .exit)) ⌝ }
 {
     let horizontal = unless_unsigned(dynamic.horizontal, 4294967295);
@@ -89,7 +89,7 @@ fn put_accuracy(text: &mut [u8], at: usize, dynamic: Dynamic) -> usize
     )
 }
 
-fn put_velocity(text: &mut [u8], at: usize, dynamic: Dynamic) -> usize
+fn put_velocity(text: &mut [u8; 1536], at: usize, dynamic: Dynamic) -> usize
     ensures { λ r. ⌜ Clips (now (text .entry)) at (fields (take 3 (drop 3 (drop 5 (dynamicParts dynamic))))) r (now (text .exit)) ⌝ }
 {
     let climb = unless_signed_16(dynamic.climb);
@@ -121,7 +121,7 @@ fn put_velocity(text: &mut [u8], at: usize, dynamic: Dynamic) -> usize
     )
 }
 
-fn put_codes(text: &mut [u8], at: usize, dynamic: Dynamic) -> usize
+fn put_codes(text: &mut [u8; 1536], at: usize, dynamic: Dynamic) -> usize
     ensures { λ r. ⌜ Clips (now (text .entry)) at (fields (drop 3 (drop 3 (drop 5 (dynamicParts dynamic))))) r (now (text .exit)) ⌝ }
 {
     let satellites = unless_unsigned(dynamic.satellites as u32, 255);
@@ -133,7 +133,7 @@ fn put_codes(text: &mut [u8], at: usize, dynamic: Dynamic) -> usize
     put_hexadecimal(text, at, b"control", 2, dynamic.control as u32)
 }
 
-pub fn put_dynamic(text: &mut [u8], at: usize, dynamic: Dynamic) -> usize
+pub fn put_dynamic(text: &mut [u8; 1536], at: usize, dynamic: Dynamic) -> usize
     ensures { λ r. ⌜ Clips (now (text .entry)) at (fields (dynamicParts dynamic)) r (now (text .exit)) ⌝ }
 {
     let at = put_position(text, at, dynamic);

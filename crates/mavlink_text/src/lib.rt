@@ -24,7 +24,7 @@ ghost use Rattle.text_output.specs.Text.{codes};
 ghost use Rattle.field_text.specs.Fields.{field, fields};
 ghost use Rattle.mavlink_text.specs.Messages.{headerParts, dataStreamParts, staticParts, lowestShown, statusParts, messageShown};
 
-fn put_heading(text: &mut [u8], at: usize, name: &[u8], header: Header) -> usize
+fn put_heading(text: &mut [u8; 1536], at: usize, name: &[u8], header: Header) -> usize
     ensures { λ r. ⌜ Clips (now (text .entry)) at (now (name .entry) ++ fields (headerParts header)) r (now (text .exit)) ⌝ }
 {
     let at = put_word(text, at, name);
@@ -33,7 +33,7 @@ fn put_heading(text: &mut [u8], at: usize, name: &[u8], header: Header) -> usize
     put_number(text, at, b"component", header.component)
 }
 
-fn put_data_stream(text: &mut [u8], at: usize, data_stream: DataStream) -> usize
+fn put_data_stream(text: &mut [u8; 1536], at: usize, data_stream: DataStream) -> usize
     ensures { λ r. ⌜ Clips (now (text .entry)) at (fields (dataStreamParts data_stream)) r (now (text .exit)) ⌝ }
 {
     let rate = field_text::unsigned(data_stream.rate as u32);
@@ -44,7 +44,7 @@ fn put_data_stream(text: &mut [u8], at: usize, data_stream: DataStream) -> usize
     put_number(text, at, b"start", data_stream.start)
 }
 
-fn put_vehicle(text: &mut [u8], at: usize, static_data: Static) -> usize
+fn put_vehicle(text: &mut [u8; 1536], at: usize, static_data: Static) -> usize
     ensures { λ r. ⌜ Clips (now (text .entry)) at (fields (take 4 (staticParts static_data))) r (now (text .exit)) ⌝ }
 {
     let stall = field_text::unsigned(static_data.stall as u32);
@@ -62,7 +62,7 @@ fn put_vehicle(text: &mut [u8], at: usize, static_data: Static) -> usize
     put_text(text, at, b"callsign", callsign)
 }
 
-fn put_airframe(text: &mut [u8], at: usize, static_data: Static) -> usize
+fn put_airframe(text: &mut [u8; 1536], at: usize, static_data: Static) -> usize
     ensures { λ r. ⌜ Clips (now (text .entry)) at (fields (drop 4 (staticParts static_data))) r (now (text .exit)) ⌝ }
 {
     let at = put_hexadecimal(text, at, b"capability", 2, static_data.capability as u32);
@@ -72,14 +72,14 @@ fn put_airframe(text: &mut [u8], at: usize, static_data: Static) -> usize
     put_number(text, at, b"longitudinal", static_data.longitudinal)
 }
 
-fn put_static(text: &mut [u8], at: usize, static_data: Static) -> usize
+fn put_static(text: &mut [u8; 1536], at: usize, static_data: Static) -> usize
     ensures { λ r. ⌜ Clips (now (text .entry)) at (fields (staticParts static_data)) r (now (text .exit)) ⌝ }
 {
     let at = put_vehicle(text, at, static_data);
     put_airframe(text, at, static_data)
 }
 
-fn put_lowest(text: &mut [u8], at: usize, lowest: Lowest) -> usize
+fn put_lowest(text: &mut [u8; 1536], at: usize, lowest: Lowest) -> usize
     ensures { λ r. ⌜ Clips (now (text .entry)) at (field (codes "lowest") (lowestShown lowest)) r (now (text .exit)) ⌝ }
 {
     match lowest {
@@ -91,7 +91,7 @@ fn put_lowest(text: &mut [u8], at: usize, lowest: Lowest) -> usize
     }
 }
 
-fn put_status(text: &mut [u8], at: usize, status: Status, failures: Failures) -> usize
+fn put_status(text: &mut [u8; 1536], at: usize, status: Status, failures: Failures) -> usize
     ensures { λ r. ⌜ Clips (now (text .entry)) at (fields (statusParts status failures)) r (now (text .exit)) ⌝ }
 {
     let count = field_text::unsigned(failures.count);
@@ -103,7 +103,7 @@ fn put_status(text: &mut [u8], at: usize, status: Status, failures: Failures) ->
 
 // A message behind the octets that its frame has.
 pub fn put_message(
-    text: &mut [u8],
+    text: &mut [u8; 1536],
     at: usize,
     header: Header,
     message: Message,

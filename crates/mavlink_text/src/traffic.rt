@@ -20,7 +20,7 @@ ghost use Rattle.text_output.specs.Text.{codes};
 ghost use Rattle.field_text.specs.Fields.{quoted, field, fields};
 ghost use Rattle.mavlink_text.specs.Messages.{squawkOrNone, trafficParts};
 
-fn put_position(text: &mut [u8], at: usize, traffic: Traffic) -> usize
+fn put_position(text: &mut [u8; 1536], at: usize, traffic: Traffic) -> usize
     ensures { λ r. ⌜ Clips (now (text .entry)) at (fields (take 4 (trafficParts traffic))) r (now (text .exit)) ⌝ }
 {
     let latitude = signed_32(traffic.latitude);
@@ -53,7 +53,7 @@ fn put_position(text: &mut [u8], at: usize, traffic: Traffic) -> usize
     )
 }
 
-fn put_motion(text: &mut [u8], at: usize, traffic: Traffic) -> usize
+fn put_motion(text: &mut [u8; 1536], at: usize, traffic: Traffic) -> usize
     ensures { λ r. ⌜ Clips (now (text .entry)) at (fields (take 4 (drop 4 (trafficParts traffic)))) r (now (text .exit)) ⌝ }
 {
     let heading = unsigned(traffic.heading as u32);
@@ -79,7 +79,7 @@ fn put_motion(text: &mut [u8], at: usize, traffic: Traffic) -> usize
     put_hexadecimal(text, at, b"valid", 4, traffic.valid as u32)
 }
 
-fn put_squawk_or_none(text: &mut [u8], at: usize, n: u16) -> usize
+fn put_squawk_or_none(text: &mut [u8; 1536], at: usize, n: u16) -> usize
     ensures { λ r. ⌜ Clips (now (text .entry)) at (field (codes "squawk") (squawkOrNone n)) r (now (text .exit)) ⌝ }
 {
     if n == 65535 {
@@ -89,7 +89,7 @@ fn put_squawk_or_none(text: &mut [u8], at: usize, n: u16) -> usize
 }
 
 // Nine characters.
-fn put_callsign(text: &mut [u8], at: usize, callsign: Text, ninth: u8) -> usize
+fn put_callsign(text: &mut [u8; 1536], at: usize, callsign: Text, ninth: u8) -> usize
     ensures { λ r. ⌜ Clips (now (text .entry)) at (field (codes "callsign") (quoted (textOctets callsign ++ ninth ∷ []))) r (now (text .exit)) ⌝ }
 {
     let octets = [
@@ -106,7 +106,7 @@ fn put_callsign(text: &mut [u8], at: usize, callsign: Text, ninth: u8) -> usize
     put_quoted(text, at, b"callsign", &octets)
 }
 
-fn put_identity(text: &mut [u8], at: usize, traffic: Traffic) -> usize
+fn put_identity(text: &mut [u8; 1536], at: usize, traffic: Traffic) -> usize
     ensures { λ r. ⌜ Clips (now (text .entry)) at (fields (drop 4 (drop 4 (trafficParts traffic)))) r (now (text .exit)) ⌝ }
 {
     let callsign = traffic.callsign;
@@ -118,7 +118,7 @@ fn put_identity(text: &mut [u8], at: usize, traffic: Traffic) -> usize
     put_reading(text, at, b"age", Scale::Ones, Unit::Seconds, age)
 }
 
-pub fn put_traffic(text: &mut [u8], at: usize, traffic: Traffic) -> usize
+pub fn put_traffic(text: &mut [u8; 1536], at: usize, traffic: Traffic) -> usize
     ensures { λ r. ⌜ Clips (now (text .entry)) at (fields (trafficParts traffic)) r (now (text .exit)) ⌝ }
 {
     let at = put_position(text, at, traffic);

@@ -32,7 +32,7 @@ fn since_midnight(heartbeat: Heartbeat) -> u32
     heartbeat.time_stamp as u32 + heartbeat.status_2 as u32 / 128 * 65536
 }
 
-fn put_heartbeat(text: &mut [u8], at: usize, heartbeat: Heartbeat) -> usize
+fn put_heartbeat(text: &mut [u8; 1536], at: usize, heartbeat: Heartbeat) -> usize
     ensures { λ r. ⌜ Clips (now (text .entry)) at (messageShown (HeartbeatMessage heartbeat) []) r (now (text .exit)) ⌝ }
 {
     let time = field_text::unsigned(since_midnight(heartbeat));
@@ -43,14 +43,14 @@ fn put_heartbeat(text: &mut [u8], at: usize, heartbeat: Heartbeat) -> usize
     put_hexadecimal(text, at, b"counts", 4, heartbeat.counts as u32)
 }
 
-fn put_uplink(text: &mut [u8], at: usize, body: &[u8]) -> usize
+fn put_uplink(text: &mut [u8; 1536], at: usize, body: &[u8]) -> usize
     ensures { λ r. ⌜ Clips (now (text .entry)) at (messageShown UplinkMessage (now (body .entry))) r (now (text .exit)) ⌝ }
 {
     let at = put_word(text, at, b" uplink payload");
     text_output::put_spelled(text, at, Spelling::Hex, body, 1)
 }
 
-fn put_angle(text: &mut [u8], at: usize, label: &[u8], n: i32) -> usize
+fn put_angle(text: &mut [u8; 1536], at: usize, label: &[u8], n: i32) -> usize
     ensures { λ r. ⌜ Clips (now (text .entry)) at (field (now (label .entry)) (angle n)) r (now (text .exit)) ⌝ }
 {
     put_reading(
@@ -63,14 +63,14 @@ fn put_angle(text: &mut [u8], at: usize, label: &[u8], n: i32) -> usize
     )
 }
 
-fn put_knots(text: &mut [u8], at: usize, label: &[u8], n: u16) -> usize
+fn put_knots(text: &mut [u8; 1536], at: usize, label: &[u8], n: u16) -> usize
     ensures { λ r. ⌜ Clips (now (text .entry)) at (field (now (label .entry)) (knots n)) r (now (text .exit)) ⌝ }
 {
     let speed = field_text::unless_unsigned(n as u32, 4095);
     put_reading(text, at, label, Scale::Ones, Unit::Knots, speed)
 }
 
-fn put_position(text: &mut [u8], at: usize, report: Report) -> usize
+fn put_position(text: &mut [u8; 1536], at: usize, report: Report) -> usize
     ensures { λ r. ⌜ Clips (now (text .entry)) at (fields (take 5 (reportParts report))) r (now (text .exit)) ⌝ }
 {
     let at = put_number(text, at, b"alert", report.alert);
@@ -80,7 +80,7 @@ fn put_position(text: &mut [u8], at: usize, report: Report) -> usize
     put_angle(text, at, b"longitude", report.longitude)
 }
 
-fn put_motion(text: &mut [u8], at: usize, report: Report) -> usize
+fn put_motion(text: &mut [u8; 1536], at: usize, report: Report) -> usize
     ensures { λ r. ⌜ Clips (now (text .entry)) at (fields (take 7 (drop 5 (reportParts report)))) r (now (text .exit)) ⌝ }
 {
     let altitude = readings::altitude(report.altitude);
@@ -102,7 +102,7 @@ fn put_motion(text: &mut [u8], at: usize, report: Report) -> usize
     put_reading(text, at, b"track", Scale::TenMillionths, Unit::Bare, track)
 }
 
-fn put_vehicle(text: &mut [u8], at: usize, report: Report) -> usize
+fn put_vehicle(text: &mut [u8; 1536], at: usize, report: Report) -> usize
     ensures { λ r. ⌜ Clips (now (text .entry)) at (fields (drop 7 (drop 5 (reportParts report)))) r (now (text .exit)) ⌝ }
 {
     let callsign = report.callsign;
@@ -113,7 +113,7 @@ fn put_vehicle(text: &mut [u8], at: usize, report: Report) -> usize
 }
 
 // Ownship and traffic are told apart by the name.
-fn put_report(text: &mut [u8], at: usize, name: &[u8], report: Report) -> usize
+fn put_report(text: &mut [u8; 1536], at: usize, name: &[u8], report: Report) -> usize
     ensures { λ r. ⌜ Clips (now (text .entry)) at (now (name .entry) ++ fields (reportParts report)) r (now (text .exit)) ⌝ }
 {
     let at = put_word(text, at, name);
@@ -122,7 +122,7 @@ fn put_report(text: &mut [u8], at: usize, name: &[u8], report: Report) -> usize
     put_vehicle(text, at, report)
 }
 
-fn put_geometric(text: &mut [u8], at: usize, geometric: GeometricAltitude) -> usize
+fn put_geometric(text: &mut [u8; 1536], at: usize, geometric: GeometricAltitude) -> usize
     ensures { λ r. ⌜ Clips (now (text .entry)) at (messageShown (GeometricMessage geometric) []) r (now (text .exit)) ⌝ }
 {
     let altitude = readings::geometric(geometric.altitude);
@@ -131,14 +131,14 @@ fn put_geometric(text: &mut [u8], at: usize, geometric: GeometricAltitude) -> us
     put_hexadecimal(text, at, b"metrics", 4, geometric.metrics as u32)
 }
 
-fn put_request(text: &mut [u8], at: usize, request: Request) -> usize
+fn put_request(text: &mut [u8; 1536], at: usize, request: Request) -> usize
     ensures { λ r. ⌜ Clips (now (text .entry)) at (messageShown (RequestMessage request) []) r (now (text .exit)) ⌝ }
 {
     let at = put_word(text, at, b" request");
     put_number(text, at, b"requested", request.requested_id)
 }
 
-fn put_modes(text: &mut [u8], at: usize, control: Control) -> usize
+fn put_modes(text: &mut [u8; 1536], at: usize, control: Control) -> usize
     ensures { λ r. ⌜ Clips (now (text .entry)) at (fields (take 5 (controlParts control))) r (now (text .exit)) ⌝ }
 {
     let at = put_truth(text, at, b"1090es", control.es_enabled);
@@ -148,7 +148,7 @@ fn put_modes(text: &mut [u8], at: usize, control: Control) -> usize
     put_truth(text, at, b"ident", control.ident)
 }
 
-fn put_flight(text: &mut [u8], at: usize, control: Control) -> usize
+fn put_flight(text: &mut [u8; 1536], at: usize, control: Control) -> usize
     ensures { λ r. ⌜ Clips (now (text .entry)) at (fields (drop 5 (controlParts control))) r (now (text .exit)) ⌝ }
 {
     let identity = control.identity;
@@ -168,7 +168,7 @@ fn put_flight(text: &mut [u8], at: usize, control: Control) -> usize
     put_text(text, at, b"identity", identity)
 }
 
-fn put_control(text: &mut [u8], at: usize, control: Control) -> usize
+fn put_control(text: &mut [u8; 1536], at: usize, control: Control) -> usize
     ensures { λ r. ⌜ Clips (now (text .entry)) at (messageShown (ControlMessage control) []) r (now (text .exit)) ⌝ }
 {
     let at = put_word(text, at, b" control");
@@ -176,7 +176,7 @@ fn put_control(text: &mut [u8], at: usize, control: Control) -> usize
     put_flight(text, at, control)
 }
 
-fn put_airframe(text: &mut [u8], at: usize, initialization: Initialization) -> usize
+fn put_airframe(text: &mut [u8; 1536], at: usize, initialization: Initialization) -> usize
     ensures { λ r. ⌜ Clips (now (text .entry)) at (fields (drop 4 (initializationParts initialization))) r (now (text .exit)) ⌝ }
 {
     let at = put_knots(text, at, b"stall speed", initialization.stall_speed as u16);
@@ -185,7 +185,7 @@ fn put_airframe(text: &mut [u8], at: usize, initialization: Initialization) -> u
     put_number(text, at, b"longitudinal", initialization.longitudinal)
 }
 
-fn put_initialization(text: &mut [u8], at: usize, initialization: Initialization) -> usize
+fn put_initialization(text: &mut [u8; 1536], at: usize, initialization: Initialization) -> usize
     ensures { λ r. ⌜ Clips (now (text .entry)) at (messageShown (InitializationMessage initialization) []) r (now (text .exit)) ⌝ }
 {
     let callsign = initialization.callsign;
@@ -198,7 +198,7 @@ fn put_initialization(text: &mut [u8], at: usize, initialization: Initialization
 }
 
 // A message by its kind's name and its fields. An uplink's payload stands in its body.
-pub fn put_message(text: &mut [u8], at: usize, message: Message, body: &[u8]) -> usize
+pub fn put_message(text: &mut [u8; 1536], at: usize, message: Message, body: &[u8]) -> usize
     ensures { λ r. ⌜ Clips (now (text .entry)) at (messageShown message (now (body .entry))) r (now (text .exit)) ⌝ }
 {
     match message {

@@ -3,7 +3,7 @@ use text_output::put_word;
 ghost use Rattle.text_output.specs.Clips.{Clips};
 ghost use Rattle.refusal_text.specs.Refusals.{mavlinkRows, wordsIn, reason, refusal};
 
-fn put_mavlink_reason(text: &mut [u8], at: usize, number: u8) -> usize
+fn put_mavlink_reason(text: &mut [u8; 1536], at: usize, number: u8) -> usize
     ensures { λ r. ⌜ Clips (now (text .entry)) at (wordsIn mavlinkRows number) r (now (text .exit)) ⌝ }
 {
     match number {
@@ -17,7 +17,7 @@ fn put_mavlink_reason(text: &mut [u8], at: usize, number: u8) -> usize
     }
 }
 
-fn put_reason(text: &mut [u8], at: usize, number: u8) -> usize
+fn put_reason(text: &mut [u8; 1536], at: usize, number: u8) -> usize
     ensures { λ r. ⌜ Clips (now (text .entry)) at (reason number) r (now (text .exit)) ⌝ }
 {
     match number {
@@ -35,7 +35,7 @@ fn put_reason(text: &mut [u8], at: usize, number: u8) -> usize
     }
 }
 
-pub fn put_refusal(text: &mut [u8], at: usize, number: u8) -> usize
+pub fn put_refusal(text: &mut [u8; 1536], at: usize, number: u8) -> usize
     ensures { λ r. ⌜ Clips (now (text .entry)) at (refusal number) r (now (text .exit)) ⌝ }
 {
     let at = put_word(text, at, b"no ");

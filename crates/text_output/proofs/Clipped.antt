@@ -9,7 +9,7 @@ use lib.Dec.{leb}
 use lib.ListN.{length, set, length-append}
 use lib.Seq.{sets, length-sets, set-out}
 use borrow.Author.Tests.{leb-true, leb-false}
-use Rattle.text_output.specs.Clips.{Clips}
+use Rattle.text_output.specs.Clips.{textRoom, Clips}
 
 sets-append : (l : List ℕ) (i : ℕ) (us vs : List ℕ) → sets l i (us ++ vs) ≡ sets (sets l i us) (i + length us) vs
 sets-append l i [] vs = rw add-zero
@@ -40,12 +40,12 @@ module _ {before : List ℕ} {at : ℕ} {us : List ℕ} {next : ℕ} {after : Li
   -- a piece behind another
   pub then : {vs : List ℕ} {end : ℕ} {last : List ℕ} → Clips after next vs end last → Clips before at (us ++ vs) end last
   then {vs} {end} {last} q =
-      let long = clips-long in
       record {
+        room = p .room;
         ends = simp length-append (omega (arith, p .ends, q .ends));
         leaves =
             q .leaves
-            ∙ ap (λ (n : ℕ). sets after n vs) (p .ends ∙ ap (λ (n : ℕ). min (at + length us) n) (sym long))
+            ∙ ap (λ (n : ℕ). sets after n vs) (p .ends ∙ ap (λ (n : ℕ). min (at + length us) n) (sym (q .room)))
             ∙ sets-clipped after (at + length us) vs
             ∙ ap (λ (l : List ℕ). sets l (at + length us) vs) (p .leaves)
             ∙ sym (sets-append before at us vs);
@@ -56,5 +56,5 @@ module _ {before : List ℕ} {at : ℕ} {us : List ℕ} {next : ℕ} {after : Li
   last-piece = rw (append-nil us) p
 
   -- where all of it fits all of it is put
-  pub all-fits : at + length us ≤ length before → next ≡ at + length us
+  pub all-fits : at + length us ≤ textRoom → next ≡ at + length us
   all-fits h = omega (arith, p .ends)

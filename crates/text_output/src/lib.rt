@@ -1,11 +1,11 @@
-// Text put into a lent slice. What would stand past the slice's end is left out, so that no function here asks for room:
-// `Clips` says so, and of a slice that is long enough it says that all is there.
+// Text put into a lent text of 1536 octets. What would stand past its end is left out, so that no function here asks for room:
+// `Clips` says so, and where all fits it says that all is there.
 ghost use mathlib.Core.Path.{_≡_};
 ghost use mathlib.Core.List.{[], _∷_};
 ghost use Prim.Native.Nat.{_<_, _≤_, _^_};
-ghost use lib.ListN.{drop};
+ghost use lib.ListN.{length, drop};
 ghost use lib.IntN.{natAbs};
-ghost use Rattle.text_output.specs.Clips.{Clips};
+ghost use Rattle.text_output.specs.Clips.{textRoom, Clips};
 ghost use Rattle.text_output.specs.Text.{hexDigit, hexPair, isPlain, escaped, spelledOctet, spelled, numeral, natural, radix, padded, minus, places, fraction, fixed};
 
 // How octets are written: as they are; in a text, escaped where they have to be; in hexadecimal, a space before each.
@@ -29,7 +29,9 @@ pub enum Scale {
     TenMillionths,
 }
 
-pub fn put_octet(text: &mut [u8], at: usize, octet: u8) -> usize
+// As a slice, since its length is known here.
+fn set_octet(text: &mut [u8], at: usize, octet: u8) -> usize
+    requires { ⌜ length (now text) ≡ textRoom ⌝ }
     ensures { λ r. ⌜ Clips (now (text .entry)) at (octet ∷ []) r (now (text .exit)) ⌝ }
 {
     let end = text.len();
@@ -40,8 +42,8 @@ pub fn put_octet(text: &mut [u8], at: usize, octet: u8) -> usize
     end
 }
 
-// No text, from a place that may lie past the end.
-pub fn put_nothing(text: &mut [u8], at: usize) -> usize
+fn set_nothing(text: &mut [u8], at: usize) -> usize
+    requires { ⌜ length (now text) ≡ textRoom ⌝ }
     ensures { λ r. ⌜ Clips (now (text .entry)) at [] r (now (text .exit)) ⌝ }
 {
     let end = text.len();
@@ -49,6 +51,19 @@ pub fn put_nothing(text: &mut [u8], at: usize) -> usize
         return at;
     }
     end
+}
+
+pub fn put_octet(text: &mut [u8; 1536], at: usize, octet: u8) -> usize
+    ensures { λ r. ⌜ Clips (now (text .entry)) at (octet ∷ []) r (now (text .exit)) ⌝ }
+{
+    set_octet(text, at, octet)
+}
+
+// No text, from a place that may lie past the end.
+pub fn put_nothing(text: &mut [u8; 1536], at: usize) -> usize
+    ensures { λ r. ⌜ Clips (now (text .entry)) at [] r (now (text .exit)) ⌝ }
+{
+    set_nothing(text, at)
 }
 
 // ---- octets
@@ -60,7 +75,7 @@ fn digit(d: u64) -> u8
     (d + 48 + (d + 6) / 16 * 39) as u8
 }
 
-fn put_pair(text: &mut [u8], at: usize, octet: u8) -> usize
+fn put_pair(text: &mut [u8; 1536], at: usize, octet: u8) -> usize
     ensures { λ r. ⌜ Clips (now (text .entry)) at (hexPair octet) r (now (text .exit)) ⌝ }
 {
     let n = octet as u64;
@@ -74,7 +89,7 @@ fn is_plain(x: u8) -> bool
     (0x20 <= x) & (x <= 0x7E) & !(x == 0x22) & !(x == 0x5C)
 }
 
-fn put_escaped(text: &mut [u8], at: usize, octet: u8) -> usize
+fn put_escaped(text: &mut [u8; 1536], at: usize, octet: u8) -> usize
     ensures { λ r. ⌜ Clips (now (text .entry)) at (escaped octet) r (now (text .exit)) ⌝ }
 {
     if is_plain(octet) {
@@ -85,14 +100,14 @@ fn put_escaped(text: &mut [u8], at: usize, octet: u8) -> usize
     put_pair(text, at, octet)
 }
 
-fn put_hex(text: &mut [u8], at: usize, octet: u8) -> usize
+fn put_hex(text: &mut [u8; 1536], at: usize, octet: u8) -> usize
     ensures { λ r. ⌜ Clips (now (text .entry)) at (spelledOctet Spelling.Hex octet) r (now (text .exit)) ⌝ }
 {
     let at = put_octet(text, at, b' ');
     put_pair(text, at, octet)
 }
 
-fn put_spelled_octet(text: &mut [u8], at: usize, spelling: Spelling, octet: u8) -> usize
+fn put_spelled_octet(text: &mut [u8; 1536], at: usize, spelling: Spelling, octet: u8) -> usize
     ensures { λ r. ⌜ Clips (now (text .entry)) at (spelledOctet spelling octet) r (now (text .exit)) ⌝ }
 {
     match spelling {
@@ -104,7 +119,7 @@ fn put_spelled_octet(text: &mut [u8], at: usize, spelling: Spelling, octet: u8) 
 
 // The octets of a slice from a place on.
 pub fn put_spelled(
-    text: &mut [u8],
+    text: &mut [u8; 1536],
     at: usize,
     spelling: Spelling,
     octets: &[u8],
@@ -121,7 +136,7 @@ pub fn put_spelled(
     at
 }
 
-pub fn put_word(text: &mut [u8], at: usize, word: &[u8]) -> usize
+pub fn put_word(text: &mut [u8; 1536], at: usize, word: &[u8]) -> usize
     ensures { λ r. ⌜ Clips (now (text .entry)) at (now (word .entry)) r (now (text .exit)) ⌝ }
 {
     put_spelled(text, at, Spelling::Plain, word, 0)
@@ -129,7 +144,7 @@ pub fn put_word(text: &mut [u8], at: usize, word: &[u8]) -> usize
 
 // ---- numbers
 
-fn put_numeral(text: &mut [u8], at: usize, padded: bool, base: u64, most: u8, n: u64) -> usize
+fn put_numeral(text: &mut [u8; 1536], at: usize, padded: bool, base: u64, most: u8, n: u64) -> usize
     requires { ⌜ (0 < base) × (base ≤ 16) ⌝ }
     ensures { λ r. ⌜ Clips (now (text .entry)) at (numeral padded base most n) r (now (text .exit)) ⌝ }
 {
@@ -143,7 +158,7 @@ fn put_numeral(text: &mut [u8], at: usize, padded: bool, base: u64, most: u8, n:
     put_octet(text, at, digit(n % base))
 }
 
-pub fn put_natural(text: &mut [u8], at: usize, n: u64) -> usize
+pub fn put_natural(text: &mut [u8; 1536], at: usize, n: u64) -> usize
     ensures { λ r. ⌜ Clips (now (text .entry)) at (natural n) r (now (text .exit)) ⌝ }
 {
     put_numeral(text, at, false, 10, 20, n)
@@ -159,7 +174,7 @@ fn size(n: i64) -> u64
     n as u64
 }
 
-fn put_minus(text: &mut [u8], at: usize, n: i64) -> usize
+fn put_minus(text: &mut [u8; 1536], at: usize, n: i64) -> usize
     ensures { λ r. ⌜ Clips (now (text .entry)) at (minus n) r (now (text .exit)) ⌝ }
 {
     if n < 0 {
@@ -178,7 +193,7 @@ fn radix_of(base: Base) -> u64
 }
 
 // So many digits, the low ones of the number.
-pub fn put_padded(text: &mut [u8], at: usize, base: Base, digits: u8, n: u64) -> usize
+pub fn put_padded(text: &mut [u8; 1536], at: usize, base: Base, digits: u8, n: u64) -> usize
     ensures { λ r. ⌜ Clips (now (text .entry)) at (padded base digits n) r (now (text .exit)) ⌝ }
 {
     put_numeral(text, at, true, radix_of(base), digits, n)
@@ -209,7 +224,7 @@ fn whole_of(scale: Scale) -> u64
     }
 }
 
-fn put_fraction(text: &mut [u8], at: usize, places: u8, n: u64) -> usize
+fn put_fraction(text: &mut [u8; 1536], at: usize, places: u8, n: u64) -> usize
     ensures { λ r. ⌜ Clips (now (text .entry)) at (fraction places n) r (now (text .exit)) ⌝ }
 {
     if places == 0 {
@@ -220,7 +235,7 @@ fn put_fraction(text: &mut [u8], at: usize, places: u8, n: u64) -> usize
 }
 
 // So many small units, in wholes.
-pub fn put_fixed(text: &mut [u8], at: usize, scale: Scale, n: i64) -> usize
+pub fn put_fixed(text: &mut [u8; 1536], at: usize, scale: Scale, n: i64) -> usize
     ensures { λ r. ⌜ Clips (now (text .entry)) at (fixed scale n) r (now (text .exit)) ⌝ }
 {
     let small = size(n);

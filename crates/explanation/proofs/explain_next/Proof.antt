@@ -29,7 +29,7 @@ returns c =
     let v = run (stateOf (a .rest) (now (a .store))) (a .counts) (now (a .line)) bodyRoom .verdict in
     let few = line-most v (verdict-fits (t .ensures) long (t .kept .1 .1 .1 .1 .0)) in
     let clips = rw (verdict-told (t .ensures) long) at (c .put-answer .ensures) in
-    let ends = all-fits clips (omega (arith, few, c .before .before .before .put-answer-arg .given .0 .1)) in
+    let ends = all-fits clips (omega (arith, few)) in
     record { long = long; takes = t .ensures; puts = record { ends = ends; leaves = clips .leaves }; within = omega (arith, few, ends) }
 
 pub explain-next-spec : {M : Type 1} → statement M

@@ -1,5 +1,5 @@
 -- `explanation::put_answer` meets its contract, by the answer. Assumes nothing.
-use mathlib.Core.Path.{refl, sym}
+use mathlib.Core.Path.{sym}
 use native.Mathlib.Omega.{arith}
 use lib.Seq.{length-take-le}
 use Prim.Native.Nat.{_≤_}
@@ -11,12 +11,15 @@ use Rattle.explanation.proofs.put_answer.Tie as tie
 enum-told : tie.Need-enum-told
 enum-told c = search needs
 
+put-nothing-requires : tie.Need-put-nothing-requires
+put-nothing-requires c κs = tt
+
 enum-known-answer : tie.Need-enum-known-answer
 enum-known-answer c = search needs
 
 slice-aggregate-put-body : tie.Need-slice-aggregate-put-body
 slice-aggregate-put-body c =
-    let s = c .before .before .before .before .before .before .before in
+    let s = c .before .before .before .before .before .before in
     let h : c .before .before .before .answer .given .0 .0 ≤ bodyRoom = rw (c .before .before .before .answer .given .1) at (s .pre .1) in
     sym (length-take-le _ _ (omega (arith, s .pre .0)))
 
@@ -30,32 +33,25 @@ put-refused-requires : tie.Need-put-refused-requires
 put-refused-requires c κs = tt
 
 returns : tie.Need-returns
-returns c = rw (c .enum-told .given .1) (record { ends = omega arith; leaves = refl })
-
-same-length : tie.Need-same-length
-same-length c = search needs
+returns c = rw (c .before .before .enum-told .given .1) (c .put-nothing .ensures)
 
 returns-2 : tie.Need-returns-2
-returns-2 c = rw (c .before .before .before .before .before .before .answer .given .1) (c .before .before .put-body .ensures)
-
-same-length-2 : tie.Need-same-length-2
-same-length-2 c = search needs
+returns-2 c = rw (c .before .before .before .before .answer .given .1) (c .put-body .ensures)
 
 returns-3 : tie.Need-returns-3
-returns-3 c = rw (c .before .before .before .before .before .answer2 .given .1) (c .before .before .put-refused .ensures)
+returns-3 c = rw (c .before .before .before .answer2 .given .1) (c .put-refused .ensures)
 
 pub put-answer-spec : {M : Type 1} → statement M
 put-answer-spec =
     tie.close
     (tie.spec
     enum-told
+    put-nothing-requires
     enum-known-answer
     slice-aggregate-put-body
     put-body-requires
     enum-known-answer-2
     put-refused-requires
     returns
-    same-length
     returns-2
-    same-length-2
     returns-3)

@@ -18,17 +18,11 @@ enum-known-read-2 c = search needs
 put-unread-requires : tie.Need-put-unread-requires
 put-unread-requires c κs = tt
 
-same-length : tie.Need-same-length
-same-length c = search needs
-
 returns : tie.Need-returns
-returns c = rw (← c .before .before .before .before .before .before .before .read-message .ensures, c .before .before .before .before .before .read .given .1) (c .before .before .put-read .ensures)
-
-same-length-2 : tie.Need-same-length-2
-same-length-2 c = search needs
+returns c = rw (← c .before .before .before .before .before .read-message .ensures, c .before .before .before .read .given .1) (c .put-read .ensures)
 
 returns-2 : tie.Need-returns-2
-returns-2 c = rw (← c .before .before .before .before .before .before .before .read-message .ensures, c .before .before .before .before .before .read2 .given .1) (c .before .before .put-unread .ensures)
+returns-2 c = rw (← c .before .before .before .before .before .read-message .ensures, c .before .before .before .read2 .given .1) (c .put-unread .ensures)
 
 pub put-body-spec : {M : Type 1} → statement M
 put-body-spec =
@@ -39,7 +33,5 @@ put-body-spec =
     put-read-requires
     enum-known-read-2
     put-unread-requires
-    same-length
     returns
-    same-length-2
     returns-2)

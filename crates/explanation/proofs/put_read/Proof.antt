@@ -2,7 +2,6 @@
 use mathlib.Core.Path.{refl}
 use Rattle.explanation.specs.Explanation.{readLine}
 use Rattle.text_output.proofs.Clipped.{then}
-use borrow.Author.Needs.{needs}
 use Rattle.explanation.proofs.put_read.Statement.{statement}
 use Rattle.explanation.proofs.put_read.Tie as tie
 
@@ -21,12 +20,9 @@ put-message-requires c κs = tt
 put-octet-requires : tie.Need-put-octet-requires
 put-octet-requires c κs = tt
 
-same-length : tie.Need-same-length
-same-length c = search needs
-
 returns : tie.Need-returns
 unfolding readLine
-returns c = then (c .before .before .before .before .before .before .before .before .before .before .before .before .before .before .put-word .ensures) (then (c .before .before .before .before .before .before .before .before .before .before .put-natural .ensures) (then (c .before .before .before .before .before .before .put-message .ensures) (c .before .before .put-octet .ensures)))
+returns c = then (c .before .before .before .before .before .before .put-word .ensures) (then (c .before .before .before .before .put-natural .ensures) (then (c .before .before .put-message .ensures) (c .put-octet .ensures)))
 
 pub put-read-spec : {M : Type 1} → statement M
 put-read-spec =
@@ -37,5 +33,4 @@ put-read-spec =
     put-natural-requires
     put-message-requires
     put-octet-requires
-    same-length
     returns)

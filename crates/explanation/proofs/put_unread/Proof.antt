@@ -2,7 +2,6 @@
 use mathlib.Core.Path.{refl}
 use Rattle.explanation.specs.Explanation.{readLine}
 use Rattle.text_output.proofs.Clipped.{then}
-use borrow.Author.Needs.{needs}
 use Rattle.explanation.proofs.put_unread.Statement.{statement}
 use Rattle.explanation.proofs.put_unread.Tie as tie
 
@@ -24,12 +23,9 @@ put-spelled-requires c κs = tt
 put-octet-requires : tie.Need-put-octet-requires
 put-octet-requires c κs = tt
 
-same-length : tie.Need-same-length
-same-length c = search needs
-
 returns : tie.Need-returns
 unfolding readLine
-returns c = then (c .before .before .before .before .before .before .before .before .before .before .before .before .before .before .before .before .before .before .before .put-refusal .ensures) (then (c .before .before .before .before .before .before .before .before .before .before .before .before .before .before .put-word .ensures) (then (c .before .before .before .before .before .before .before .before .before .before .put-natural .ensures) (then (c .before .before .before .before .before .before .put-spelled .ensures) (c .before .before .put-octet .ensures))))
+returns c = then (c .before .before .before .before .before .before .before .before .before .put-refusal .ensures) (then (c .before .before .before .before .before .before .put-word .ensures) (then (c .before .before .before .before .put-natural .ensures) (then (c .before .before .put-spelled .ensures) (c .put-octet .ensures))))
 
 pub put-unread-spec : {M : Type 1} → statement M
 put-unread-spec =
@@ -41,5 +37,4 @@ put-unread-spec =
     put-natural-requires
     put-spelled-requires
     put-octet-requires
-    same-length
     returns)

@@ -12,14 +12,11 @@ put-fixed-requires c κs = search needs
 put-unit-requires : tie.Need-put-unit-requires
 put-unit-requires c κs = search needs
 
-same-length : tie.Need-same-length
-same-length c = search needs
-
 returns : tie.Need-returns
 returns c =
-    let z = c .before .before .before .before .before .before .before .before .before .args .n in
-    let f = c .before .before .before .before .before .before .before .before .before .fits .n in
-    then (rw (toZ-ofZ w64 z f) at (c .before .before .before .before .before .before .put-fixed .ensures)) (c .before .before .put-unit .ensures)
+    let z = c .before .before .before .before .args .n in
+    let f = c .before .before .before .before .fits .n in
+    then (rw (toZ-ofZ w64 z f) at (c .before .before .put-fixed .ensures)) (c .put-unit .ensures)
 
 pub put-known-spec : {M : Type 1} → statement M
-put-known-spec = tie.close (tie.spec put-fixed-requires put-unit-requires same-length returns)
+put-known-spec = tie.close (tie.spec put-fixed-requires put-unit-requires returns)

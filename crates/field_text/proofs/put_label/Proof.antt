@@ -1,6 +1,5 @@
 -- `field_text::put_label` meets its contract. Assumes nothing.
 use Rattle.text_output.proofs.Clipped.{then}
-use borrow.Author.Needs.{needs}
 use Rattle.field_text.proofs.put_label.Statement.{statement}
 use Rattle.field_text.proofs.put_label.Tie as tie
 
@@ -13,13 +12,10 @@ put-word-requires c κs = tt
 put-octet-requires-2 : tie.Need-put-octet-requires-2
 put-octet-requires-2 c κs = tt
 
-same-length : tie.Need-same-length
-same-length c = search needs
-
 returns : tie.Need-returns
-returns c = then (c .before .before .before .before .before .before .before .before .before .before .put-octet .ensures) (then (c .before .before .before .before .before .before .put-word .ensures) (c .before .before .put-octet2 .ensures))
+returns c = then (c .before .before .before .before .put-octet .ensures) (then (c .before .before .put-word .ensures) (c .put-octet2 .ensures))
 
 pub put-label-spec : {M : Type 1} → statement M
 put-label-spec =
     tie.close
-    (tie.spec put-octet-requires put-word-requires put-octet-requires-2 same-length returns)
+    (tie.spec put-octet-requires put-word-requires put-octet-requires-2 returns)

@@ -2,7 +2,6 @@
 use mathlib.Core.Path.{refl}
 use Rattle.field_text.specs.Fields.{shown}
 use Rattle.text_output.proofs.Clipped.{then}
-use borrow.Author.Needs.{needs}
 use Rattle.field_text.proofs.put_none.Statement.{statement}
 use Rattle.field_text.proofs.put_none.Tie as tie
 
@@ -15,13 +14,10 @@ slice-aggregate-put-word c = refl
 put-word-requires : tie.Need-put-word-requires
 put-word-requires c κs = tt
 
-same-length : tie.Need-same-length
-same-length c = search needs
-
 returns : tie.Need-returns
 unfolding shown
-returns c = then (c .before .before .before .before .before .before .before .put-label .ensures) (c .before .before .put-word .ensures)
+returns c = then (c .before .before .before .put-label .ensures) (c .put-word .ensures)
 
 pub put-none-spec : {M : Type 1} → statement M
 put-none-spec =
-    tie.close (tie.spec put-label-requires slice-aggregate-put-word put-word-requires same-length returns)
+    tie.close (tie.spec put-label-requires slice-aggregate-put-word put-word-requires returns)

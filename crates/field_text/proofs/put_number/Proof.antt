@@ -1,7 +1,6 @@
 -- `field_text::put_number` meets its contract. Assumes nothing.
 use Rattle.field_text.specs.Fields.{shown}
 use Rattle.text_output.proofs.Clipped.{then}
-use borrow.Author.Needs.{needs}
 use Rattle.field_text.proofs.put_number.Statement.{statement}
 use Rattle.field_text.proofs.put_number.Tie as tie
 
@@ -11,12 +10,9 @@ put-label-requires c κs = tt
 put-natural-requires : tie.Need-put-natural-requires
 put-natural-requires c κs = tt
 
-same-length : tie.Need-same-length
-same-length c = search needs
-
 returns : tie.Need-returns
 unfolding shown
-returns c = then (c .before .before .before .before .before .before .put-label .ensures) (c .before .before .put-natural .ensures)
+returns c = then (c .before .before .put-label .ensures) (c .put-natural .ensures)
 
 pub put-number-spec : {M : Type 1} → statement M
-put-number-spec = tie.close (tie.spec put-label-requires put-natural-requires same-length returns)
+put-number-spec = tie.close (tie.spec put-label-requires put-natural-requires returns)

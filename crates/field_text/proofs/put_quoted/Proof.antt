@@ -17,12 +17,9 @@ put-spelled-requires c κs = search needs
 put-octet-requires-2 : tie.Need-put-octet-requires-2
 put-octet-requires-2 c κs = search needs
 
-same-length : tie.Need-same-length
-same-length c = search needs
-
 returns : tie.Need-returns
 unfolding shown
-returns c = then (c .before .before .before .before .before .before .before .before .before .before .before .before .before .before .put-label .ensures) (then (c .before .before .before .before .before .before .before .before .before .before .put-octet .ensures) (then (c .before .before .before .before .before .before .put-spelled .ensures) (c .before .before .put-octet2 .ensures)))
+returns c = then (c .before .before .before .before .before .before .put-label .ensures) (then (c .before .before .before .before .put-octet .ensures) (then (c .before .before .put-spelled .ensures) (c .put-octet2 .ensures)))
 
 pub put-quoted-spec : {M : Type 1} → statement M
 put-quoted-spec =
@@ -32,5 +29,4 @@ put-quoted-spec =
     put-octet-requires
     put-spelled-requires
     put-octet-requires-2
-    same-length
     returns)

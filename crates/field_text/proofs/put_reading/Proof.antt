@@ -26,23 +26,17 @@ enum-known-reading c = search needs
 put-known-requires : tie.Need-put-known-requires
 put-known-requires c κs = search needs
 
-same-length : tie.Need-same-length
-same-length c = search needs
-
 returns : tie.Need-returns
 unfolding shown
-returns c = rw (c .before .before .before .before .before .enum-told .given .1) (then (c .before .before .before .before .before .before .before .before .before .put-label .ensures) (c .before .before .put-word .ensures))
-
-same-length-2 : tie.Need-same-length-2
-same-length-2 c = search needs
+returns c = rw (c .before .before .before .enum-told .given .1) (then (c .before .before .before .before .before .put-label .ensures) (c .put-word .ensures))
 
 returns-2 : tie.Need-returns-2
 unfolding shown
 returns-2 c =
-    let z = c .before .before .before .before .before .reading .given .0 .0 in
-    rw (c .before .before .before .before .before .reading .given .1)
-    (then (c .before .before .before .before .before .before .before .before .before .put-label .ensures)
-    (rw (toZ-ofZ w64 z (record { sfits = omega (arith, c .before .before .before .before .known-told .given) })) at (c .before .before .put-known .ensures)))
+    let z = c .before .before .before .reading .given .0 .0 in
+    rw (c .before .before .before .reading .given .1)
+    (then (c .before .before .before .before .before .put-label .ensures)
+    (rw (toZ-ofZ w64 z (record { sfits = omega (arith, c .before .before .known-told .given) })) at (c .put-known .ensures)))
 
 pub put-reading-spec : {M : Type 1} → statement M
 put-reading-spec =
@@ -54,7 +48,5 @@ put-reading-spec =
     put-word-requires
     enum-known-reading
     put-known-requires
-    same-length
     returns
-    same-length-2
     returns-2)

@@ -2,7 +2,6 @@
 use mathlib.Core.Path.{refl}
 use Rattle.field_text.specs.Fields.{shown}
 use Rattle.text_output.proofs.Clipped.{then}
-use borrow.Author.Needs.{needs}
 use Rattle.field_text.proofs.put_truth.Statement.{statement}
 use Rattle.field_text.proofs.put_truth.Tie as tie
 
@@ -15,12 +14,9 @@ slice-aggregate-put-word c = refl
 put-word-requires : tie.Need-put-word-requires
 put-word-requires c κs = tt
 
-same-length : tie.Need-same-length
-same-length c = search needs
-
 returns : tie.Need-returns
 unfolding shown
-returns c = rw (c .before .before .before .before .before .if1 .taken) (then (c .before .before .before .before .before .before .before .before .put-label .ensures) (c .before .before .put-word .ensures))
+returns c = rw (c .before .before .before .if1 .taken) (then (c .before .before .before .before .put-label .ensures) (c .put-word .ensures))
 
 slice-aggregate-put-word-2 : tie.Need-slice-aggregate-put-word-2
 slice-aggregate-put-word-2 c = refl
@@ -28,12 +24,9 @@ slice-aggregate-put-word-2 c = refl
 put-word-requires-2 : tie.Need-put-word-requires-2
 put-word-requires-2 c κs = tt
 
-same-length-2 : tie.Need-same-length-2
-same-length-2 c = search needs
-
 returns-2 : tie.Need-returns-2
 unfolding shown
-returns-2 c = rw (c .before .before .before .before .before .if1 .left) (then (c .before .before .before .before .before .before .before .before .put-label .ensures) (c .before .before .put-word2 .ensures))
+returns-2 c = rw (c .before .before .before .if1 .left) (then (c .before .before .before .before .put-label .ensures) (c .put-word2 .ensures))
 
 pub put-truth-spec : {M : Type 1} → statement M
 put-truth-spec =
@@ -42,9 +35,7 @@ put-truth-spec =
     put-label-requires
     slice-aggregate-put-word
     put-word-requires
-    same-length
     returns
     slice-aggregate-put-word-2
     put-word-requires-2
-    same-length-2
     returns-2)

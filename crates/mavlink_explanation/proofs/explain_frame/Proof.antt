@@ -21,10 +21,10 @@ put-refused-requires : tie.Need-put-refused-requires
 put-refused-requires c κs = tt
 
 returns : tie.Need-returns
-returns c = explained (sym (c .before .before .before .before .before .read-message .ensures) ∙ c .before .before .before .read .given .1) (c .put-frame .ensures) (c .before .put-frame-arg .given .0 .1)
+returns c = explained (sym (c .before .before .before .before .before .read-message .ensures) ∙ c .before .before .before .read .given .1) (c .put-frame .ensures)
 
 returns-2 : tie.Need-returns-2
-returns-2 c = explained (sym (c .before .before .before .before .before .read-message .ensures) ∙ c .before .before .before .read2 .given .1) (c .put-refused .ensures) (c .before .put-refused-arg .given .0 .1)
+returns-2 c = explained (sym (c .before .before .before .before .before .read-message .ensures) ∙ c .before .before .before .read2 .given .1) (c .put-refused .ensures)
 
 pub explain-frame-spec : {M : Type 1} → statement M
 explain-frame-spec =

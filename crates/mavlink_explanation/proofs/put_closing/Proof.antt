@@ -8,7 +8,7 @@ put-closing-line-requires : tie.Need-put-closing-line-requires
 put-closing-line-requires c κs = search needs
 
 returns : tie.Need-returns
-returns c = whole (c .put-closing-line .ensures) (c .before .put-closing-line-arg .given .0 .1) (closing-most _ _)
+returns c = whole (c .put-closing-line .ensures) (closing-most _ _)
 
 pub put-closing-spec : {M : Type 1} → statement M
 put-closing-spec = tie.close (tie.spec put-closing-line-requires returns)

@@ -2,7 +2,6 @@
 use Rattle.mavlink_explanation.specs.Explanation.{closingLine}
 use Rattle.text_output.proofs.Clipped.{then}
 use mathlib.Core.Path.{refl}
-use borrow.Author.Needs.{needs}
 use Rattle.mavlink_explanation.proofs.put_closing_line.Statement.{statement}
 use Rattle.mavlink_explanation.proofs.put_closing_line.Tie as tie
 
@@ -27,12 +26,9 @@ put-natural-requires-2 c κs = tt
 put-octet-requires : tie.Need-put-octet-requires
 put-octet-requires c κs = tt
 
-same-length : tie.Need-same-length
-same-length c = search needs
-
 returns : tie.Need-returns
 unfolding closingLine
-returns c = then (c .before .before .before .before .before .before .before .before .before .before .before .before .before .before .before .before .before .before .before .put-word .ensures) (then (c .before .before .before .before .before .before .before .before .before .before .before .before .before .before .before .put-natural .ensures) (then (c .before .before .before .before .before .before .before .before .before .before .put-word2 .ensures) (then (c .before .before .before .before .before .before .put-natural2 .ensures) (c .before .before .put-octet .ensures))))
+returns c = then (c .before .before .before .before .before .before .before .before .before .put-word .ensures) (then (c .before .before .before .before .before .before .before .put-natural .ensures) (then (c .before .before .before .before .put-word2 .ensures) (then (c .before .before .put-natural2 .ensures) (c .put-octet .ensures))))
 
 pub put-closing-line-spec : {M : Type 1} → statement M
 put-closing-line-spec =
@@ -45,5 +41,4 @@ put-closing-line-spec =
     put-word-requires-2
     put-natural-requires-2
     put-octet-requires
-    same-length
     returns)

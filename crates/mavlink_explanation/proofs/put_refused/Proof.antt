@@ -1,7 +1,6 @@
 -- `mavlink_explanation::put_refused` meets its contract. Assumes nothing.
 use Rattle.mavlink_explanation.specs.Explanation.{frameLine}
 use Rattle.text_output.proofs.Clipped.{then}
-use borrow.Author.Needs.{needs}
 use Rattle.mavlink_explanation.proofs.put_refused.Statement.{statement}
 use Rattle.mavlink_explanation.proofs.put_refused.Tie as tie
 
@@ -11,12 +10,9 @@ put-refusal-requires c κs = tt
 put-octet-requires : tie.Need-put-octet-requires
 put-octet-requires c κs = tt
 
-same-length : tie.Need-same-length
-same-length c = search needs
-
 returns : tie.Need-returns
 unfolding frameLine
-returns c = then (c .before .before .before .before .before .before .put-refusal .ensures) (c .before .before .put-octet .ensures)
+returns c = then (c .before .before .put-refusal .ensures) (c .put-octet .ensures)
 
 pub put-refused-spec : {M : Type 1} → statement M
-put-refused-spec = tie.close (tie.spec put-refusal-requires put-octet-requires same-length returns)
+put-refused-spec = tie.close (tie.spec put-refusal-requires put-octet-requires returns)

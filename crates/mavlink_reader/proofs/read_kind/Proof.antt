@@ -1,10 +1,10 @@
 -- `mavlink_reader::read_kind` meets its contract, test by test. Assumes nothing.
 use mathlib.Core.Path.{_≡_, sym, ap, _∙_}
 use mathlib.Core.List.{[], _∷_, _++_}
-use Prim.Native.Nat.{ℕ, _+_, _-_, _*_}
+use Prim.Native.Nat.{ℕ, _+_, _-_}
 use native.Mathlib.Omega.{arith}
 use denote.Ref.{now}
-use lib.ListN.{getD, take, drop}
+use lib.ListN.{take, drop}
 use Rattle.x25_check.specs.Check.{x25}
 use Rattle.mavlink_reader.specs.declared.Found.the-variants.{Frame}
 use Rattle.mavlink_reader.specs.Reads.{headerAt, checkAt, checkDue}

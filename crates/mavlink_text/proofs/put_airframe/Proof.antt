@@ -1,5 +1,5 @@
 -- `mavlink_text::put_airframe` meets its contract. Assumes nothing.
-use Rattle.text_output.proofs.Clipped.{clips-long, then, last-piece}
+use Rattle.text_output.proofs.Clipped.{then, last-piece}
 use mathlib.Core.Path.{refl}
 use Rattle.field_text.specs.Fields.{fields}
 use borrow.Author.Needs.{needs}
@@ -41,14 +41,11 @@ put-number-requires-4 c κs = tt
 
 returns : tie.Need-returns
 unfolding fields
-returns c = then (c .before .before .before .before .before .before .before .before .before .before .before .before .before .before .before .before .before .before .before .before .before .before .put-hexadecimal .ensures)
-    (then (c .before .before .before .before .before .before .before .before .before .before .before .before .before .before .before .before .before .put-number .ensures)
-    (then (c .before .before .before .before .before .before .before .before .before .before .before .before .put-number2 .ensures)
-    (then (c .before .before .before .before .before .before .before .put-number3 .ensures)
-    (last-piece (c .before .before .put-number4 .ensures)))))
-
-same-length : tie.Need-same-length
-same-length c = clips-long (returns c)
+returns c = then (c .before .before .before .before .before .before .before .before .before .before .before .before .put-hexadecimal .ensures)
+    (then (c .before .before .before .before .before .before .before .before .before .put-number .ensures)
+    (then (c .before .before .before .before .before .before .put-number2 .ensures)
+    (then (c .before .before .before .put-number3 .ensures)
+    (last-piece (c .put-number4 .ensures)))))
 
 pub put-airframe-spec : {M : Type 1} → statement M
 put-airframe-spec =
@@ -65,5 +62,4 @@ put-airframe-spec =
     put-number-requires-3
     slice-aggregate-put-number-4
     put-number-requires-4
-    same-length
     returns)

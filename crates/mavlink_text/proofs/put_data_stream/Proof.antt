@@ -1,5 +1,5 @@
 -- `mavlink_text::put_data_stream` meets its contract. Assumes nothing.
-use Rattle.text_output.proofs.Clipped.{clips-long, then, last-piece}
+use Rattle.text_output.proofs.Clipped.{then, last-piece}
 use mathlib.Core.Path.{refl}
 use Rattle.field_text.specs.Fields.{fields}
 use borrow.Author.Needs.{needs}
@@ -44,14 +44,11 @@ put-number-requires-4 c κs = tt
 
 returns : tie.Need-returns
 unfolding fields
-returns c = then (rw (c .before .before .before .before .before .before .before .before .before .before .before .before .before .before .before .before .before .before .before .before .before .before .before .before .before .unsigned .ensures) at (c .before .before .before .before .before .before .before .before .before .before .before .before .before .before .before .before .before .before .before .before .before .before .put-reading .ensures))
-    (then (c .before .before .before .before .before .before .before .before .before .before .before .before .before .before .before .before .before .put-number .ensures)
-    (then (c .before .before .before .before .before .before .before .before .before .before .before .before .put-number2 .ensures)
-    (then (c .before .before .before .before .before .before .before .put-number3 .ensures)
-    (last-piece (c .before .before .put-number4 .ensures)))))
-
-same-length : tie.Need-same-length
-same-length c = clips-long (returns c)
+returns c = then (rw (c .before .before .before .before .before .before .before .before .before .before .before .before .before .before .before .unsigned .ensures) at (c .before .before .before .before .before .before .before .before .before .before .before .before .put-reading .ensures))
+    (then (c .before .before .before .before .before .before .before .before .before .put-number .ensures)
+    (then (c .before .before .before .before .before .before .put-number2 .ensures)
+    (then (c .before .before .before .put-number3 .ensures)
+    (last-piece (c .put-number4 .ensures)))))
 
 pub put-data-stream-spec : {M : Type 1} → statement M
 put-data-stream-spec =
@@ -69,5 +66,4 @@ put-data-stream-spec =
     put-number-requires-3
     slice-aggregate-put-number-4
     put-number-requires-4
-    same-length
     returns)

@@ -1,5 +1,5 @@
 -- `mavlink_text::put_heading` meets its contract. Assumes nothing.
-use Rattle.text_output.proofs.Clipped.{clips-long, then, last-piece}
+use Rattle.text_output.proofs.Clipped.{then, last-piece}
 use mathlib.Core.Path.{refl}
 use Rattle.field_text.specs.Fields.{fields}
 use Rattle.mavlink_text.proofs.put_heading.Statement.{statement}
@@ -28,13 +28,10 @@ put-number-requires-3 c κs = tt
 
 returns : tie.Need-returns
 unfolding fields
-returns c = then (c .before .before .before .before .before .before .before .before .before .before .before .before .before .before .before .before .before .put-word .ensures)
-    (then (c .before .before .before .before .before .before .before .before .before .before .before .before .put-number .ensures)
-    (then (c .before .before .before .before .before .before .before .put-number2 .ensures)
-    (last-piece (c .before .before .put-number3 .ensures))))
-
-same-length : tie.Need-same-length
-same-length c = clips-long (returns c)
+returns c = then (c .before .before .before .before .before .before .before .before .before .put-word .ensures)
+    (then (c .before .before .before .before .before .before .put-number .ensures)
+    (then (c .before .before .before .put-number2 .ensures)
+    (last-piece (c .put-number3 .ensures))))
 
 pub put-heading-spec : {M : Type 1} → statement M
 put-heading-spec =
@@ -47,5 +44,4 @@ put-heading-spec =
     put-number-requires-2
     slice-aggregate-put-number-3
     put-number-requires-3
-    same-length
     returns)

@@ -25,17 +25,11 @@ slice-aggregate-put-none c = refl
 put-none-requires : tie.Need-put-none-requires
 put-none-requires c κs = tt
 
-same-length : tie.Need-same-length
-same-length c = search needs
-
 returns : tie.Need-returns
-returns c = rw (c .before .before .before .before .before .before .before .lowest .given .1) (rw (c .before .before .before .before .before .unsigned .ensures) at (c .before .before .put-reading .ensures))
-
-same-length-2 : tie.Need-same-length-2
-same-length-2 c = search needs
+returns c = rw (c .before .before .before .before .before .lowest .given .1) (rw (c .before .before .before .unsigned .ensures) at (c .put-reading .ensures))
 
 returns-2 : tie.Need-returns-2
-returns-2 c = rw (c .before .before .before .before .before .enum-told .given .1) (c .before .before .put-none .ensures)
+returns-2 c = rw (c .before .before .before .enum-told .given .1) (c .put-none .ensures)
 
 pub put-lowest-spec : {M : Type 1} → statement M
 put-lowest-spec =
@@ -48,7 +42,5 @@ put-lowest-spec =
     enum-told
     slice-aggregate-put-none
     put-none-requires
-    same-length
     returns
-    same-length-2
     returns-2)

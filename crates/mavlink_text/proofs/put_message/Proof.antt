@@ -66,40 +66,25 @@ put-heading-requires-5 c κs = tt
 put-traffic-requires : tie.Need-put-traffic-requires
 put-traffic-requires c κs = tt
 
-same-length : tie.Need-same-length
-same-length c = search needs
-
 returns : tie.Need-returns
 unfolding messageShown
-returns c = rw (c .before .before .before .before .before .before .before .before .before .before .message .given .1) (then (c .before .before .before .before .before .before .put-heading .ensures) (c .before .before .put-data-stream .ensures))
-
-same-length-2 : tie.Need-same-length-2
-same-length-2 c = search needs
+returns c = rw (c .before .before .before .before .before .before .message .given .1) (then (c .before .before .put-heading .ensures) (c .put-data-stream .ensures))
 
 returns-2 : tie.Need-returns-2
 unfolding messageShown
-returns-2 c = rw (c .before .before .before .before .before .before .before .before .before .before .message2 .given .1) (then (c .before .before .before .before .before .before .put-heading2 .ensures) (c .before .before .put-static .ensures))
-
-same-length-3 : tie.Need-same-length-3
-same-length-3 c = search needs
+returns-2 c = rw (c .before .before .before .before .before .before .message2 .given .1) (then (c .before .before .put-heading2 .ensures) (c .put-static .ensures))
 
 returns-3 : tie.Need-returns-3
 unfolding messageShown
-returns-3 c = rw (c .before .before .before .before .before .before .before .before .before .before .message3 .given .1) (then (c .before .before .before .before .before .before .put-heading3 .ensures) (c .before .before .put-dynamic .ensures))
-
-same-length-4 : tie.Need-same-length-4
-same-length-4 c = search needs
+returns-3 c = rw (c .before .before .before .before .before .before .message3 .given .1) (then (c .before .before .put-heading3 .ensures) (c .put-dynamic .ensures))
 
 returns-4 : tie.Need-returns-4
 unfolding messageShown
-returns-4 c = rw (c .before .before .before .before .before .before .before .before .before .before .message4 .given .1) (then (c .before .before .before .before .before .before .put-heading4 .ensures) (c .before .before .put-status .ensures))
-
-same-length-5 : tie.Need-same-length-5
-same-length-5 c = search needs
+returns-4 c = rw (c .before .before .before .before .before .before .message4 .given .1) (then (c .before .before .put-heading4 .ensures) (c .put-status .ensures))
 
 returns-5 : tie.Need-returns-5
 unfolding messageShown
-returns-5 c = rw (c .before .before .before .before .before .before .before .before .before .before .message5 .given .1) (then (c .before .before .before .before .before .before .put-heading5 .ensures) (c .before .before .put-traffic .ensures))
+returns-5 c = rw (c .before .before .before .before .before .before .message5 .given .1) (then (c .before .before .put-heading5 .ensures) (c .put-traffic .ensures))
 
 pub put-message-spec : {M : Type 1} → statement M
 put-message-spec =
@@ -125,13 +110,8 @@ put-message-spec =
     slice-aggregate-put-heading-5
     put-heading-requires-5
     put-traffic-requires
-    same-length
     returns
-    same-length-2
     returns-2
-    same-length-3
     returns-3
-    same-length-4
     returns-4
-    same-length-5
     returns-5)

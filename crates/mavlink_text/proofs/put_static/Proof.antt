@@ -2,7 +2,6 @@
 use Rattle.mavlink_text.specs.Messages.{staticParts}
 use Rattle.field_text.proofs.Parts.{fields-split}
 use Rattle.text_output.proofs.Clipped.{then}
-use borrow.Author.Needs.{needs}
 use Rattle.mavlink_text.proofs.put_static.Statement.{statement}
 use Rattle.mavlink_text.proofs.put_static.Tie as tie
 
@@ -12,14 +11,11 @@ put-vehicle-requires c κs = tt
 put-airframe-requires : tie.Need-put-airframe-requires
 put-airframe-requires c κs = tt
 
-same-length : tie.Need-same-length
-same-length c = search needs
-
 returns : tie.Need-returns
 returns c =
-    let parts = staticParts (c .before .before .before .before .before .before .before .before .before .args .static-data) in
-    rw (fields-split 4 parts) at (then (c .before .before .before .before .before .before .put-vehicle .ensures) (c .before .before .put-airframe .ensures))
+    let parts = staticParts (c .before .before .before .before .args .static-data) in
+    rw (fields-split 4 parts) at (then (c .before .before .put-vehicle .ensures) (c .put-airframe .ensures))
 
 pub put-static-spec : {M : Type 1} → statement M
 put-static-spec =
-    tie.close (tie.spec put-vehicle-requires put-airframe-requires same-length returns)
+    tie.close (tie.spec put-vehicle-requires put-airframe-requires returns)

@@ -1,5 +1,5 @@
 -- `mavlink_text::put_status` meets its contract. Assumes nothing.
-use Rattle.text_output.proofs.Clipped.{clips-long, then, last-piece}
+use Rattle.text_output.proofs.Clipped.{then, last-piece}
 use mathlib.Core.Path.{refl}
 use Rattle.field_text.specs.Fields.{fields}
 use borrow.Author.Needs.{needs}
@@ -29,12 +29,9 @@ put-lowest-requires c κs = tt
 
 returns : tie.Need-returns
 unfolding fields
-returns c = then (c .before .before .before .before .before .before .before .before .before .before .before .put-hexadecimal .ensures)
-    (then (rw (c .before .before .before .before .before .before .before .before .before .before .before .before .before .before .before .unsigned .ensures) at (c .before .before .before .before .before .before .put-reading .ensures))
-    (last-piece (c .before .before .put-lowest .ensures)))
-
-same-length : tie.Need-same-length
-same-length c = clips-long (returns c)
+returns c = then (c .before .before .before .before .before .put-hexadecimal .ensures)
+    (then (rw (c .before .before .before .before .before .before .before .before .before .unsigned .ensures) at (c .before .before .put-reading .ensures))
+    (last-piece (c .put-lowest .ensures)))
 
 pub put-status-spec : {M : Type 1} → statement M
 put-status-spec =
@@ -47,5 +44,4 @@ put-status-spec =
     slice-aggregate-put-reading
     put-reading-requires
     put-lowest-requires
-    same-length
     returns)

@@ -1,5 +1,5 @@
 -- `mavlink_text::put_vehicle` meets its contract. Assumes nothing.
-use Rattle.text_output.proofs.Clipped.{clips-long, then, last-piece}
+use Rattle.text_output.proofs.Clipped.{then, last-piece}
 use mathlib.Core.Path.{refl}
 use Rattle.field_text.specs.Fields.{fields}
 use borrow.Author.Needs.{needs}
@@ -41,13 +41,10 @@ put-text-requires c κs = tt
 
 returns : tie.Need-returns
 unfolding fields
-returns c = then (c .before .before .before .before .before .before .before .before .before .before .before .before .before .before .before .before .before .before .put-hexadecimal .ensures)
-    (then (c .before .before .before .before .before .before .before .before .before .before .before .before .put-hexadecimal2 .ensures)
-    (then (rw (c .before .before .before .before .before .before .before .before .before .before .before .before .before .before .before .before .before .before .before .before .before .before .unsigned .ensures) at (c .before .before .before .before .before .before .before .put-reading .ensures))
-    (last-piece (c .before .before .put-text .ensures))))
-
-same-length : tie.Need-same-length
-same-length c = clips-long (returns c)
+returns c = then (c .before .before .before .before .before .before .before .before .before .before .put-hexadecimal .ensures)
+    (then (c .before .before .before .before .before .before .put-hexadecimal2 .ensures)
+    (then (rw (c .before .before .before .before .before .before .before .before .before .before .before .before .before .before .unsigned .ensures) at (c .before .before .before .put-reading .ensures))
+    (last-piece (c .put-text .ensures))))
 
 pub put-vehicle-spec : {M : Type 1} → statement M
 put-vehicle-spec =
@@ -64,5 +61,4 @@ put-vehicle-spec =
     put-reading-requires
     slice-aggregate-put-text
     put-text-requires
-    same-length
     returns)

@@ -33,12 +33,9 @@ slice-aggregate-put-number-3 c = refl
 put-number-requires-3 : tie.Need-put-number-requires-3
 put-number-requires-3 c κs = tt
 
-same-length : tie.Need-same-length
-same-length c = search needs
-
 returns : tie.Need-returns
 unfolding fields
-returns c = then (c .before .before .before .before .before .before .before .before .before .before .before .before .before .before .before .before .before .put-knots .ensures) (then (c .before .before .before .before .before .before .before .before .before .before .before .before .put-number .ensures) (then (c .before .before .before .before .before .before .before .put-number2 .ensures) (last-piece (c .before .before .put-number3 .ensures))))
+returns c = then (c .before .before .before .before .before .before .before .before .before .put-knots .ensures) (then (c .before .before .before .before .before .before .put-number .ensures) (then (c .before .before .before .put-number2 .ensures) (last-piece (c .put-number3 .ensures))))
 
 pub put-airframe-spec : {M : Type 1} → statement M
 put-airframe-spec =
@@ -53,5 +50,4 @@ put-airframe-spec =
     put-number-requires-2
     slice-aggregate-put-number-3
     put-number-requires-3
-    same-length
     returns)

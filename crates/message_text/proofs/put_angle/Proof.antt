@@ -11,11 +11,8 @@ angle-requires c κs = search needs
 put-reading-requires : tie.Need-put-reading-requires
 put-reading-requires c κs = search needs
 
-same-length : tie.Need-same-length
-same-length c = search needs
-
 returns : tie.Need-returns
-returns c = rw (c .before .before .before .angle .ensures, toZ-ofZ w32 (c .before .before .before .before .before .before .before .args .n) (c .before .before .before .before .before .before .before .fits .n)) at (c .before .before .put-reading .ensures)
+returns c = rw (c .before .angle .ensures, toZ-ofZ w32 (c .before .before .before .before .args .n) (c .before .before .before .before .fits .n)) at (c .put-reading .ensures)
 
 pub put-angle-spec : {M : Type 1} → statement M
-put-angle-spec = tie.close (tie.spec angle-requires put-reading-requires same-length returns)
+put-angle-spec = tie.close (tie.spec angle-requires put-reading-requires returns)

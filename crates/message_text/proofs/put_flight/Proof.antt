@@ -3,7 +3,7 @@ use Rattle.field_text.specs.Fields.{unless, fields}
 use mathlib.Core.Path.{_≡_}
 use mir.Syntax.{w32}
 use mir.ValLaws.{toZ-ofZ}
-use Rattle.text_output.proofs.Clipped.{clips-long, then, last-piece}
+use Rattle.text_output.proofs.Clipped.{then, last-piece}
 use borrow.Author.Needs.{needs}
 use Rattle.message_text.proofs.put_flight.Statement.{statement}
 use Rattle.message_text.proofs.put_flight.Tie as tie
@@ -50,17 +50,14 @@ put-text-requires c κs = search needs
 returns : tie.Need-returns
 unfolding fields
 returns c =
-    let altitude : c .before .before .before .before .before .before .before .before .before .before .before .before .before .before .before .before .before .before .before .before .before .before .before .before .before .before .before .before .before .before .unless-signed-32 .result ≡ unless 2147483647 (c .before .before .before .before .before .before .before .before .before .before .before .before .before .before .before .before .before .before .before .before .before .before .before .before .before .before .before .before .before .before .before .before .before .before .args .control .altitude) =
-    rw (toZ-ofZ w32 (c .before .before .before .before .before .before .before .before .before .before .before .before .before .before .before .before .before .before .before .before .before .before .before .before .before .before .before .before .before .before .before .before .before .before .args .control .altitude) (record { sfits = c .before .before .before .before .before .before .before .before .before .before .before .before .before .before .before .before .before .before .before .before .before .before .before .before .before .before .before .before .before .before .before .struct-told .given .1 .1 .1 .1 .1 .1 .1 .0 .1 })) at (c .before .before .before .before .before .before .before .before .before .before .before .before .before .before .before .before .before .before .before .before .before .before .before .before .before .before .before .before .before .before .unless-signed-32 .ensures) in
-    then (c .before .before .before .before .before .before .before .before .before .before .before .before .before .before .before .before .before .before .before .before .before .before .before .before .before .before .before .put-number .ensures)
-    (then (c .before .before .before .before .before .before .before .before .before .before .before .before .before .before .before .before .before .before .before .before .before .before .put-truth .ensures)
-    (then (rw altitude at (c .before .before .before .before .before .before .before .before .before .before .before .before .before .before .before .before .before .put-reading .ensures))
-    (then (c .before .before .before .before .before .before .before .before .before .before .before .before .put-squawk .ensures)
-    (then (c .before .before .before .before .before .before .before .put-number2 .ensures)
-    (last-piece (c .before .before .put-text .ensures))))))
-
-same-length : tie.Need-same-length
-same-length c = clips-long (returns c)
+    let altitude : c .before .before .before .before .before .before .before .before .before .before .before .before .before .before .before .before .before .before .unless-signed-32 .result ≡ unless 2147483647 (c .before .before .before .before .before .before .before .before .before .before .before .before .before .before .before .before .before .before .before .before .before .args .control .altitude) =
+    rw (toZ-ofZ w32 (c .before .before .before .before .before .before .before .before .before .before .before .before .before .before .before .before .before .before .before .before .before .args .control .altitude) (record { sfits = c .before .before .before .before .before .before .before .before .before .before .before .before .before .before .before .before .before .before .before .struct-told .given .1 .1 .1 .1 .1 .1 .1 .0 .1 })) at (c .before .before .before .before .before .before .before .before .before .before .before .before .before .before .before .before .before .before .unless-signed-32 .ensures) in
+    then (c .before .before .before .before .before .before .before .before .before .before .before .before .before .before .before .put-number .ensures)
+    (then (c .before .before .before .before .before .before .before .before .before .before .before .before .put-truth .ensures)
+    (then (rw altitude at (c .before .before .before .before .before .before .before .before .before .put-reading .ensures))
+    (then (c .before .before .before .before .before .before .put-squawk .ensures)
+    (then (c .before .before .before .put-number2 .ensures)
+    (last-piece (c .put-text .ensures))))))
 
 pub put-flight-spec : {M : Type 1} → statement M
 put-flight-spec =
@@ -79,5 +76,4 @@ put-flight-spec =
     put-number-requires-2
     slice-aggregate-put-text
     put-text-requires
-    same-length
     returns)

@@ -3,7 +3,7 @@ use mir.Syntax.{w16}
 use mir.ValLaws.{toZ-ofZ}
 use Rattle.message_text.specs.Messages.{messageShown}
 use Rattle.field_text.specs.Fields.{fields}
-use Rattle.text_output.proofs.Clipped.{clips-long, then, last-piece}
+use Rattle.text_output.proofs.Clipped.{then, last-piece}
 use borrow.Author.Needs.{needs}
 use Rattle.message_text.proofs.put_geometric.Statement.{statement}
 use Rattle.message_text.proofs.put_geometric.Tie as tie
@@ -35,13 +35,10 @@ put-hexadecimal-requires c κs = search needs
 returns : tie.Need-returns
 unfolding messageShown fields
 returns c =
-    let z = c .before .before .before .before .before .before .before .before .before .before .before .before .before .before .before .before .before .before .before .args .geometric .altitude in
-    then (c .before .before .before .before .before .before .before .before .before .before .before .before .before .put-word .ensures)
-    (then (rw (c .before .before .before .before .before .before .before .before .before .before .before .before .before .before .before .before .geometric .ensures, toZ-ofZ w16 z (record { sfits = c .before .before .before .before .before .before .before .before .before .before .before .before .before .before .before .before .before .struct-told .given .0 .1 })) at (c .before .before .before .before .before .before .before .before .put-reading .ensures))
-    (last-piece (c .before .before .put-hexadecimal .ensures)))
-
-same-length : tie.Need-same-length
-same-length c = clips-long (returns c)
+    let z = c .before .before .before .before .before .before .before .before .before .before .before .before .args .geometric .altitude in
+    then (c .before .before .before .before .before .before .before .put-word .ensures)
+    (then (rw (c .before .before .before .before .before .before .before .before .before .before .geometric .ensures, toZ-ofZ w16 z (record { sfits = c .before .before .before .before .before .before .before .before .before .before .before .struct-told .given .0 .1 })) at (c .before .before .before .before .put-reading .ensures))
+    (last-piece (c .put-hexadecimal .ensures)))
 
 pub put-geometric-spec : {M : Type 1} → statement M
 put-geometric-spec =
@@ -55,5 +52,4 @@ put-geometric-spec =
     slice-aggregate-put-hexadecimal
     cast-put-hexadecimal
     put-hexadecimal-requires
-    same-length
     returns)

@@ -1,7 +1,7 @@
 -- `message_text::put_heartbeat` meets its contract. Assumes nothing.
 use Rattle.message_text.specs.Messages.{messageShown}
 use Rattle.field_text.specs.Fields.{fields}
-use Rattle.text_output.proofs.Clipped.{clips-long, then, last-piece}
+use Rattle.text_output.proofs.Clipped.{then, last-piece}
 use borrow.Author.Needs.{needs}
 use Rattle.message_text.proofs.put_heartbeat.Statement.{statement}
 use Rattle.message_text.proofs.put_heartbeat.Tie as tie
@@ -53,14 +53,11 @@ put-hexadecimal-requires-3 c κs = search needs
 
 returns : tie.Need-returns
 unfolding messageShown fields
-returns c = then (c .before .before .before .before .before .before .before .before .before .before .before .before .before .before .before .before .before .before .before .before .before .before .before .before .before .put-word .ensures)
-    (then (c .before .before .before .before .before .before .before .before .before .before .before .before .before .before .before .before .before .before .before .put-hexadecimal .ensures)
-    (then (c .before .before .before .before .before .before .before .before .before .before .before .before .before .put-hexadecimal2 .ensures)
-    (then (rw (c .before .before .before .before .before .before .before .before .before .before .before .before .before .before .before .before .before .before .before .before .before .before .before .before .before .before .before .before .unsigned .ensures, c .before .before .before .before .before .before .before .before .before .before .before .before .before .before .before .before .before .before .before .before .before .before .before .before .before .before .before .before .before .since-midnight .ensures) at (c .before .before .before .before .before .before .before .before .put-reading .ensures))
-    (last-piece (c .before .before .put-hexadecimal3 .ensures)))))
-
-same-length : tie.Need-same-length
-same-length c = clips-long (returns c)
+returns c = then (c .before .before .before .before .before .before .before .before .before .before .before .before .before .before .before .put-word .ensures)
+    (then (c .before .before .before .before .before .before .before .before .before .before .before .put-hexadecimal .ensures)
+    (then (c .before .before .before .before .before .before .before .put-hexadecimal2 .ensures)
+    (then (rw (c .before .before .before .before .before .before .before .before .before .before .before .before .before .before .before .before .before .before .unsigned .ensures, c .before .before .before .before .before .before .before .before .before .before .before .before .before .before .before .before .before .before .before .since-midnight .ensures) at (c .before .before .before .before .put-reading .ensures))
+    (last-piece (c .put-hexadecimal3 .ensures)))))
 
 pub put-heartbeat-spec : {M : Type 1} → statement M
 put-heartbeat-spec =
@@ -81,5 +78,4 @@ put-heartbeat-spec =
     slice-aggregate-put-hexadecimal-3
     cast-put-hexadecimal-3
     put-hexadecimal-requires-3
-    same-length
     returns)

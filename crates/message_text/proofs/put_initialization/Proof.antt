@@ -3,7 +3,6 @@ use mathlib.Core.Path.{refl}
 use Rattle.field_text.specs.Fields.{fields}
 use Rattle.message_text.specs.Messages.{messageShown}
 use Rattle.text_output.proofs.Clipped.{then}
-use borrow.Author.Needs.{needs}
 use Rattle.message_text.proofs.put_initialization.Statement.{statement}
 use Rattle.message_text.proofs.put_initialization.Tie as tie
 
@@ -40,12 +39,9 @@ put-text-requires c κs = tt
 put-airframe-requires : tie.Need-put-airframe-requires
 put-airframe-requires c κs = tt
 
-same-length : tie.Need-same-length
-same-length c = search needs
-
 returns : tie.Need-returns
 unfolding messageShown fields
-returns c = then (c .before .before .before .before .before .before .before .before .before .before .before .before .before .before .before .before .before .before .before .before .before .before .before .before .before .before .put-word .ensures) (then (c .before .before .before .before .before .before .before .before .before .before .before .before .before .before .before .before .before .before .before .before .before .put-number .ensures) (then (c .before .before .before .before .before .before .before .before .before .before .before .before .before .before .before .before .put-hexadecimal .ensures) (then (c .before .before .before .before .before .before .before .before .before .before .before .put-number2 .ensures) (then (c .before .before .before .before .before .before .put-text .ensures) (c .before .before .put-airframe .ensures)))))
+returns c = then (c .before .before .before .before .before .before .before .before .before .before .before .before .before .before .put-word .ensures) (then (c .before .before .before .before .before .before .before .before .before .before .before .put-number .ensures) (then (c .before .before .before .before .before .before .before .before .put-hexadecimal .ensures) (then (c .before .before .before .before .before .put-number2 .ensures) (then (c .before .before .put-text .ensures) (c .put-airframe .ensures)))))
 
 pub put-initialization-spec : {M : Type 1} → statement M
 put-initialization-spec =
@@ -62,5 +58,4 @@ put-initialization-spec =
     slice-aggregate-put-text
     put-text-requires
     put-airframe-requires
-    same-length
     returns)

@@ -9,11 +9,8 @@ unless-unsigned-requires c κs = search needs
 put-reading-requires : tie.Need-put-reading-requires
 put-reading-requires c κs = search needs
 
-same-length : tie.Need-same-length
-same-length c = search needs
-
 returns : tie.Need-returns
-returns c = rw (c .before .before .before .before .unless-unsigned .ensures) at (c .before .before .put-reading .ensures)
+returns c = rw (c .before .before .unless-unsigned .ensures) at (c .put-reading .ensures)
 
 pub put-knots-spec : {M : Type 1} → statement M
-put-knots-spec = tie.close (tie.spec unless-unsigned-requires put-reading-requires same-length returns)
+put-knots-spec = tie.close (tie.spec unless-unsigned-requires put-reading-requires returns)

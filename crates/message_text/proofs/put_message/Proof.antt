@@ -59,61 +59,37 @@ enum-known-message-7 c = search needs
 put-initialization-requires : tie.Need-put-initialization-requires
 put-initialization-requires c κs = tt
 
-same-length : tie.Need-same-length
-same-length c = search needs
-
 returns : tie.Need-returns
 unfolding messageShown
-returns c = rw (c .before .before .before .before .before .message .given .1) (c .before .before .put-heartbeat .ensures)
-
-same-length-2 : tie.Need-same-length-2
-same-length-2 c = search needs
+returns c = rw (c .before .before .before .message .given .1) (c .put-heartbeat .ensures)
 
 returns-2 : tie.Need-returns-2
 unfolding messageShown
-returns-2 c = rw (c .before .before .before .before .enum-told .given .1) (c .before .before .put-uplink .ensures)
-
-same-length-3 : tie.Need-same-length-3
-same-length-3 c = search needs
+returns-2 c = rw (c .before .before .enum-told .given .1) (c .put-uplink .ensures)
 
 returns-3 : tie.Need-returns-3
 unfolding messageShown
-returns-3 c = rw (c .before .before .before .before .before .before .message2 .given .1) (c .before .before .put-report .ensures)
-
-same-length-4 : tie.Need-same-length-4
-same-length-4 c = search needs
+returns-3 c = rw (c .before .before .before .before .message2 .given .1) (c .put-report .ensures)
 
 returns-4 : tie.Need-returns-4
 unfolding messageShown
-returns-4 c = rw (c .before .before .before .before .before .message3 .given .1) (c .before .before .put-geometric .ensures)
-
-same-length-5 : tie.Need-same-length-5
-same-length-5 c = search needs
+returns-4 c = rw (c .before .before .before .message3 .given .1) (c .put-geometric .ensures)
 
 returns-5 : tie.Need-returns-5
 unfolding messageShown
-returns-5 c = rw (c .before .before .before .before .before .before .message4 .given .1) (c .before .before .put-report2 .ensures)
-
-same-length-6 : tie.Need-same-length-6
-same-length-6 c = search needs
+returns-5 c = rw (c .before .before .before .before .message4 .given .1) (c .put-report2 .ensures)
 
 returns-6 : tie.Need-returns-6
 unfolding messageShown
-returns-6 c = rw (c .before .before .before .before .before .message5 .given .1) (c .before .before .put-request .ensures)
-
-same-length-7 : tie.Need-same-length-7
-same-length-7 c = search needs
+returns-6 c = rw (c .before .before .before .message5 .given .1) (c .put-request .ensures)
 
 returns-7 : tie.Need-returns-7
 unfolding messageShown
-returns-7 c = rw (c .before .before .before .before .before .message6 .given .1) (c .before .before .put-control .ensures)
-
-same-length-8 : tie.Need-same-length-8
-same-length-8 c = search needs
+returns-7 c = rw (c .before .before .before .message6 .given .1) (c .put-control .ensures)
 
 returns-8 : tie.Need-returns-8
 unfolding messageShown
-returns-8 c = rw (c .before .before .before .before .before .message7 .given .1) (c .before .before .put-initialization .ensures)
+returns-8 c = rw (c .before .before .before .message7 .given .1) (c .put-initialization .ensures)
 
 pub put-message-spec : {M : Type 1} → statement M
 put-message-spec =
@@ -137,19 +113,11 @@ put-message-spec =
     put-control-requires
     enum-known-message-7
     put-initialization-requires
-    same-length
     returns
-    same-length-2
     returns-2
-    same-length-3
     returns-3
-    same-length-4
     returns-4
-    same-length-5
     returns-5
-    same-length-6
     returns-6
-    same-length-7
     returns-7
-    same-length-8
     returns-8)

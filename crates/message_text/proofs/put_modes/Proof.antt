@@ -2,7 +2,6 @@
 use mathlib.Core.Path.{refl}
 use Rattle.field_text.specs.Fields.{fields}
 use Rattle.text_output.proofs.Clipped.{then, last-piece}
-use borrow.Author.Needs.{needs}
 use Rattle.message_text.proofs.put_modes.Statement.{statement}
 use Rattle.message_text.proofs.put_modes.Tie as tie
 
@@ -36,12 +35,9 @@ slice-aggregate-put-truth-5 c = refl
 put-truth-requires-5 : tie.Need-put-truth-requires-5
 put-truth-requires-5 c κs = tt
 
-same-length : tie.Need-same-length
-same-length c = search needs
-
 returns : tie.Need-returns
 unfolding fields
-returns c = then (c .before .before .before .before .before .before .before .before .before .before .before .before .before .before .before .before .before .before .before .before .before .before .put-truth .ensures) (then (c .before .before .before .before .before .before .before .before .before .before .before .before .before .before .before .before .before .put-truth2 .ensures) (then (c .before .before .before .before .before .before .before .before .before .before .before .before .put-truth3 .ensures) (then (c .before .before .before .before .before .before .before .put-truth4 .ensures) (last-piece (c .before .before .put-truth5 .ensures)))))
+returns c = then (c .before .before .before .before .before .before .before .before .before .before .before .before .put-truth .ensures) (then (c .before .before .before .before .before .before .before .before .before .put-truth2 .ensures) (then (c .before .before .before .before .before .before .put-truth3 .ensures) (then (c .before .before .before .put-truth4 .ensures) (last-piece (c .put-truth5 .ensures)))))
 
 pub put-modes-spec : {M : Type 1} → statement M
 put-modes-spec =
@@ -57,5 +53,4 @@ put-modes-spec =
     put-truth-requires-4
     slice-aggregate-put-truth-5
     put-truth-requires-5
-    same-length
     returns)

@@ -5,7 +5,7 @@ use mathlib.Core.Path.{_≡_}
 use mir.Syntax.{w16}
 use mir.ValLaws.{toZ-ofZ}
 use Rattle.field_text.specs.Fields.{fields}
-use Rattle.text_output.proofs.Clipped.{clips-long, then, last-piece}
+use Rattle.text_output.proofs.Clipped.{then, last-piece}
 use borrow.Author.Needs.{needs}
 use Rattle.message_text.proofs.put_motion.Statement.{statement}
 use Rattle.message_text.proofs.put_motion.Tie as tie
@@ -64,18 +64,15 @@ put-reading-requires-3 c κs = search needs
 returns : tie.Need-returns
 unfolding fields
 returns c =
-    let rate : c .before .before .before .before .before .before .before .before .before .before .before .before .before .before .before .before .before .before .before .before .before .before .before .before .before .before .before .before .before .before .before .before .before .before .before .before .rate .result ≡ rateReading (rateMeans (c .before .before .before .before .before .before .before .before .before .before .before .before .before .before .before .before .before .before .before .before .before .before .before .before .before .before .before .before .before .before .before .before .before .before .before .before .before .before .before .before .args .report .«vertical_rate»)) =
-    rw (toZ-ofZ w16 (c .before .before .before .before .before .before .before .before .before .before .before .before .before .before .before .before .before .before .before .before .before .before .before .before .before .before .before .before .before .before .before .before .before .before .before .before .before .before .before .before .args .report .«vertical_rate») (record { sfits = c .before .before .before .before .before .before .before .before .before .before .before .before .before .before .before .before .before .before .before .before .before .before .before .before .before .before .before .before .before .before .before .before .before .before .before .before .before .struct-told .given .1 .1 .1 .1 .1 .1 .1 .1 .1 .1 .0 .1 })) at (c .before .before .before .before .before .before .before .before .before .before .before .before .before .before .before .before .before .before .before .before .before .before .before .before .before .before .before .before .before .before .before .before .before .before .before .before .rate .ensures) in
-    then (rw (c .before .before .before .before .before .before .before .before .before .before .before .before .before .before .before .before .before .before .before .before .before .before .before .before .before .before .before .before .before .before .before .before .before .before .before .before .before .before .altitude .ensures) at (c .before .before .before .before .before .before .before .before .before .before .before .before .before .before .before .before .before .before .before .before .before .before .before .before .before .before .before .before .before .before .before .before .put-reading .ensures))
-    (then (c .before .before .before .before .before .before .before .before .before .before .before .before .before .before .before .before .before .before .before .before .before .before .before .before .before .before .before .put-number .ensures)
-    (then (c .before .before .before .before .before .before .before .before .before .before .before .before .before .before .before .before .before .before .before .before .before .before .put-number2 .ensures)
-    (then (c .before .before .before .before .before .before .before .before .before .before .before .before .before .before .before .before .before .put-number3 .ensures)
-    (then (c .before .before .before .before .before .before .before .before .before .before .before .before .put-knots .ensures)
-    (then (rw rate at (c .before .before .before .before .before .before .before .put-reading2 .ensures))
-    (last-piece (rw (c .before .before .before .before .before .before .before .before .before .before .before .before .before .before .before .before .before .before .before .before .before .before .before .before .before .before .before .before .before .before .before .before .before .before .before .track .ensures) at (c .before .before .put-reading3 .ensures))))))))
-
-same-length : tie.Need-same-length
-same-length c = clips-long (returns c)
+    let rate : c .before .before .before .before .before .before .before .before .before .before .before .before .before .before .before .before .before .before .before .before .before .before .rate .result ≡ rateReading (rateMeans (c .before .before .before .before .before .before .before .before .before .before .before .before .before .before .before .before .before .before .before .before .before .before .before .before .before .args .report .«vertical_rate»)) =
+    rw (toZ-ofZ w16 (c .before .before .before .before .before .before .before .before .before .before .before .before .before .before .before .before .before .before .before .before .before .before .before .before .before .args .report .«vertical_rate») (record { sfits = c .before .before .before .before .before .before .before .before .before .before .before .before .before .before .before .before .before .before .before .before .before .before .before .struct-told .given .1 .1 .1 .1 .1 .1 .1 .1 .1 .1 .0 .1 })) at (c .before .before .before .before .before .before .before .before .before .before .before .before .before .before .before .before .before .before .before .before .before .before .rate .ensures) in
+    then (rw (c .before .before .before .before .before .before .before .before .before .before .before .before .before .before .before .before .before .before .before .before .before .before .before .before .altitude .ensures) at (c .before .before .before .before .before .before .before .before .before .before .before .before .before .before .before .before .before .before .put-reading .ensures))
+    (then (c .before .before .before .before .before .before .before .before .before .before .before .before .before .before .before .put-number .ensures)
+    (then (c .before .before .before .before .before .before .before .before .before .before .before .before .put-number2 .ensures)
+    (then (c .before .before .before .before .before .before .before .before .before .put-number3 .ensures)
+    (then (c .before .before .before .before .before .before .put-knots .ensures)
+    (then (rw rate at (c .before .before .before .put-reading2 .ensures))
+    (last-piece (rw (c .before .before .before .before .before .before .before .before .before .before .before .before .before .before .before .before .before .before .before .before .before .track .ensures) at (c .put-reading3 .ensures))))))))
 
 pub put-motion-spec : {M : Type 1} → statement M
 put-motion-spec =
@@ -98,5 +95,4 @@ put-motion-spec =
     put-reading-requires-2
     slice-aggregate-put-reading-3
     put-reading-requires-3
-    same-length
     returns)

@@ -3,7 +3,7 @@ use mathlib.Core.Path.{refl}
 use mir.Syntax.{w32}
 use mir.ValLaws.{toZ-ofZ}
 use Rattle.field_text.specs.Fields.{fields}
-use Rattle.text_output.proofs.Clipped.{clips-long, then, last-piece}
+use Rattle.text_output.proofs.Clipped.{then, last-piece}
 use Rattle.message_text.proofs.put_position.Statement.{statement}
 use Rattle.message_text.proofs.put_position.Tie as tie
 
@@ -40,15 +40,12 @@ put-angle-requires-2 c κs = tt
 returns : tie.Need-returns
 unfolding fields
 returns c =
-    let r = c .before .before .before .before .before .before .before .before .before .before .before .before .before .before .before .before .before .before .before .before .before .before .before .before .before .before .before .before .args .report in
-    then (c .before .before .before .before .before .before .before .before .before .before .before .before .before .before .before .before .before .before .before .before .before .before .before .before .put-number .ensures)
-    (then (c .before .before .before .before .before .before .before .before .before .before .before .before .before .before .before .before .before .before .before .put-number2 .ensures)
-    (then (c .before .before .before .before .before .before .before .before .before .before .before .before .before .before .put-hexadecimal .ensures)
-    (then (rw (toZ-ofZ w32 (r .latitude) (record { sfits = c .before .before .before .before .before .before .before .before .before .struct-told .given .1 .1 .1 .0 .1 })) at (c .before .before .before .before .before .before .before .before .put-angle .ensures))
-    (last-piece (rw (toZ-ofZ w32 (r .longitude) (record { sfits = c .before .before .before .struct-told2 .given .1 .1 .1 .1 .0 .1 })) at (c .before .before .put-angle2 .ensures))))))
-
-same-length : tie.Need-same-length
-same-length c = clips-long (returns c)
+    let r = c .before .before .before .before .before .before .before .before .before .before .before .before .before .before .before .before .before .args .report in
+    then (c .before .before .before .before .before .before .before .before .before .before .before .before .before .before .put-number .ensures)
+    (then (c .before .before .before .before .before .before .before .before .before .before .before .put-number2 .ensures)
+    (then (c .before .before .before .before .before .before .before .before .put-hexadecimal .ensures)
+    (then (rw (toZ-ofZ w32 (r .latitude) (record { sfits = c .before .before .before .before .before .struct-told .given .1 .1 .1 .0 .1 })) at (c .before .before .before .before .put-angle .ensures))
+    (last-piece (rw (toZ-ofZ w32 (r .longitude) (record { sfits = c .before .struct-told2 .given .1 .1 .1 .1 .0 .1 })) at (c .put-angle2 .ensures))))))
 
 pub put-position-spec : {M : Type 1} → statement M
 put-position-spec =
@@ -64,5 +61,4 @@ put-position-spec =
     put-angle-requires
     slice-aggregate-put-angle-2
     put-angle-requires-2
-    same-length
     returns)

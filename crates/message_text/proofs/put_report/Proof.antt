@@ -3,7 +3,6 @@ use lib.ListN.{drop}
 use Rattle.field_text.proofs.Parts.{fields-split}
 use Rattle.message_text.specs.Messages.{reportParts}
 use Rattle.text_output.proofs.Clipped.{then}
-use borrow.Author.Needs.{needs}
 use Rattle.message_text.proofs.put_report.Statement.{statement}
 use Rattle.message_text.proofs.put_report.Tie as tie
 
@@ -19,14 +18,11 @@ put-motion-requires c κs = tt
 put-vehicle-requires : tie.Need-put-vehicle-requires
 put-vehicle-requires c κs = tt
 
-same-length : tie.Need-same-length
-same-length c = search needs
-
 returns : tie.Need-returns
 returns c =
-    let parts = reportParts (c .before .before .before .before .before .before .before .before .before .before .before .before .before .before .before .before .before .before .args .report) in
-    then (c .before .before .before .before .before .before .before .before .before .before .before .before .before .before .put-word .ensures)
-    (rw (fields-split 5 parts) at (then (c .before .before .before .before .before .before .before .before .before .before .put-position .ensures) (rw (fields-split 7 (drop 5 parts)) at (then (c .before .before .before .before .before .before .put-motion .ensures) (c .before .before .put-vehicle .ensures)))))
+    let parts = reportParts (c .before .before .before .before .before .before .before .before .before .args .report) in
+    then (c .before .before .before .before .before .before .put-word .ensures)
+    (rw (fields-split 5 parts) at (then (c .before .before .before .before .put-position .ensures) (rw (fields-split 7 (drop 5 parts)) at (then (c .before .before .put-motion .ensures) (c .put-vehicle .ensures)))))
 
 pub put-report-spec : {M : Type 1} → statement M
 put-report-spec =
@@ -36,5 +32,4 @@ put-report-spec =
     put-position-requires
     put-motion-requires
     put-vehicle-requires
-    same-length
     returns)

@@ -3,7 +3,6 @@ use mathlib.Core.Path.{refl}
 use Rattle.field_text.specs.Fields.{fields}
 use Rattle.message_text.specs.Messages.{messageShown}
 use Rattle.text_output.proofs.Clipped.{then, last-piece}
-use borrow.Author.Needs.{needs}
 use Rattle.message_text.proofs.put_request.Statement.{statement}
 use Rattle.message_text.proofs.put_request.Tie as tie
 
@@ -19,12 +18,9 @@ slice-aggregate-put-number c = refl
 put-number-requires : tie.Need-put-number-requires
 put-number-requires c κs = tt
 
-same-length : tie.Need-same-length
-same-length c = search needs
-
 returns : tie.Need-returns
 unfolding messageShown fields
-returns c = then (c .before .before .before .before .before .before .before .put-word .ensures) (last-piece (c .before .before .put-number .ensures))
+returns c = then (c .before .before .before .put-word .ensures) (last-piece (c .put-number .ensures))
 
 pub put-request-spec : {M : Type 1} → statement M
 put-request-spec =
@@ -34,5 +30,4 @@ put-request-spec =
     put-word-requires
     slice-aggregate-put-number
     put-number-requires
-    same-length
     returns)

@@ -2,7 +2,6 @@
 use mathlib.Core.Path.{refl}
 use Rattle.message_text.specs.Messages.{messageShown}
 use Rattle.text_output.proofs.Clipped.{then}
-use borrow.Author.Needs.{needs}
 use Rattle.message_text.proofs.put_uplink.Statement.{statement}
 use Rattle.message_text.proofs.put_uplink.Tie as tie
 
@@ -15,14 +14,11 @@ put-word-requires c κs = tt
 put-spelled-requires : tie.Need-put-spelled-requires
 put-spelled-requires c κs = tt
 
-same-length : tie.Need-same-length
-same-length c = search needs
-
 returns : tie.Need-returns
 unfolding messageShown
-returns c = then (c .before .before .before .before .before .before .put-word .ensures) (c .before .before .put-spelled .ensures)
+returns c = then (c .before .before .put-word .ensures) (c .put-spelled .ensures)
 
 pub put-uplink-spec : {M : Type 1} → statement M
 put-uplink-spec =
     tie.close
-    (tie.spec slice-aggregate-put-word put-word-requires put-spelled-requires same-length returns)
+    (tie.spec slice-aggregate-put-word put-word-requires put-spelled-requires returns)

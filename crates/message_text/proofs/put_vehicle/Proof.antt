@@ -2,7 +2,6 @@
 use mathlib.Core.Path.{refl}
 use Rattle.field_text.specs.Fields.{fields}
 use Rattle.text_output.proofs.Clipped.{then, last-piece}
-use borrow.Author.Needs.{needs}
 use Rattle.message_text.proofs.put_vehicle.Statement.{statement}
 use Rattle.message_text.proofs.put_vehicle.Tie as tie
 
@@ -30,12 +29,9 @@ slice-aggregate-put-number-3 c = refl
 put-number-requires-3 : tie.Need-put-number-requires-3
 put-number-requires-3 c κs = tt
 
-same-length : tie.Need-same-length
-same-length c = search needs
-
 returns : tie.Need-returns
 unfolding fields
-returns c = then (c .before .before .before .before .before .before .before .before .before .before .before .before .before .before .before .before .before .put-number .ensures) (then (c .before .before .before .before .before .before .before .before .before .before .before .before .put-text .ensures) (then (c .before .before .before .before .before .before .before .put-number2 .ensures) (last-piece (c .before .before .put-number3 .ensures))))
+returns c = then (c .before .before .before .before .before .before .before .before .before .put-number .ensures) (then (c .before .before .before .before .before .before .put-text .ensures) (then (c .before .before .before .put-number2 .ensures) (last-piece (c .put-number3 .ensures))))
 
 pub put-vehicle-spec : {M : Type 1} → statement M
 put-vehicle-spec =
@@ -49,5 +45,4 @@ put-vehicle-spec =
     put-number-requires-2
     slice-aggregate-put-number-3
     put-number-requires-3
-    same-length
     returns)

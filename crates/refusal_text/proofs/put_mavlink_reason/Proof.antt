@@ -46,48 +46,27 @@ slice-aggregate-put-word-7 c = search needs
 put-word-requires-7 : tie.Need-put-word-requires-7
 put-word-requires-7 c κs = search needs
 
-same-length : tie.Need-same-length
-same-length c = search needs
-
 returns : tie.Need-returns
-returns c = rw (c .before .before .before .before .before .match .keys1) (c .before .before .put-word .ensures)
-
-same-length-2 : tie.Need-same-length-2
-same-length-2 c = search needs
+returns c = rw (c .before .before .before .match .keys1) (c .put-word .ensures)
 
 returns-2 : tie.Need-returns-2
-returns-2 c = rw (c .before .before .before .before .before .match .keys2) (c .before .before .put-word2 .ensures)
-
-same-length-3 : tie.Need-same-length-3
-same-length-3 c = search needs
+returns-2 c = rw (c .before .before .before .match .keys2) (c .put-word2 .ensures)
 
 returns-3 : tie.Need-returns-3
-returns-3 c = rw (c .before .before .before .before .before .match .keys3) (c .before .before .put-word3 .ensures)
-
-same-length-4 : tie.Need-same-length-4
-same-length-4 c = search needs
+returns-3 c = rw (c .before .before .before .match .keys3) (c .put-word3 .ensures)
 
 returns-4 : tie.Need-returns-4
-returns-4 c = rw (c .before .before .before .before .before .match .keys4) (c .before .before .put-word4 .ensures)
-
-same-length-5 : tie.Need-same-length-5
-same-length-5 c = search needs
+returns-4 c = rw (c .before .before .before .match .keys4) (c .put-word4 .ensures)
 
 returns-5 : tie.Need-returns-5
-returns-5 c = rw (c .before .before .before .before .before .match .keys5) (c .before .before .put-word5 .ensures)
-
-same-length-6 : tie.Need-same-length-6
-same-length-6 c = search needs
+returns-5 c = rw (c .before .before .before .match .keys5) (c .put-word5 .ensures)
 
 returns-6 : tie.Need-returns-6
-returns-6 c = rw (c .before .before .before .before .before .match .keys6) (c .before .before .put-word6 .ensures)
-
-same-length-7 : tie.Need-same-length-7
-same-length-7 c = search needs
+returns-6 c = rw (c .before .before .before .match .keys6) (c .put-word6 .ensures)
 
 returns-7 : tie.Need-returns-7
 returns-7 c =
-    let n = c .before .before .before .before .before .match .rest in
+    let n = c .before .before .before .match .rest in
     rw (
       ne-eqb _ _ (n .0 .0 .0 .0 .0 .1),
       ne-eqb _ _ (n .0 .0 .0 .0 .1),
@@ -96,7 +75,7 @@ returns-7 c =
       ne-eqb _ _ (n .0 .1),
       ne-eqb _ _ (n .1),
     )
-    (c .before .before .put-word7 .ensures)
+    (c .put-word7 .ensures)
 
 pub put-mavlink-reason-spec : {M : Type 1} → statement M
 put-mavlink-reason-spec =
@@ -116,17 +95,10 @@ put-mavlink-reason-spec =
     put-word-requires-6
     slice-aggregate-put-word-7
     put-word-requires-7
-    same-length
     returns
-    same-length-2
     returns-2
-    same-length-3
     returns-3
-    same-length-4
     returns-4
-    same-length-5
     returns-5
-    same-length-6
     returns-6
-    same-length-7
     returns-7)

@@ -68,83 +68,50 @@ put-word-requires-10 c κs = search needs
 put-mavlink-reason-requires : tie.Need-put-mavlink-reason-requires
 put-mavlink-reason-requires c κs = search needs
 
-same-length : tie.Need-same-length
-same-length c = search needs
-
 returns : tie.Need-returns
 unfolding reason
-returns c = rw (c .before .before .before .before .before .match .keys1) (c .before .before .put-word .ensures)
-
-same-length-2 : tie.Need-same-length-2
-same-length-2 c = search needs
+returns c = rw (c .before .before .before .match .keys1) (c .put-word .ensures)
 
 returns-2 : tie.Need-returns-2
 unfolding reason
-returns-2 c = rw (c .before .before .before .before .before .match .keys2) (c .before .before .put-word2 .ensures)
-
-same-length-3 : tie.Need-same-length-3
-same-length-3 c = search needs
+returns-2 c = rw (c .before .before .before .match .keys2) (c .put-word2 .ensures)
 
 returns-3 : tie.Need-returns-3
 unfolding reason
-returns-3 c = rw (c .before .before .before .before .before .match .keys3) (c .before .before .put-word3 .ensures)
-
-same-length-4 : tie.Need-same-length-4
-same-length-4 c = search needs
+returns-3 c = rw (c .before .before .before .match .keys3) (c .put-word3 .ensures)
 
 returns-4 : tie.Need-returns-4
 unfolding reason
-returns-4 c = rw (c .before .before .before .before .before .match .keys4) (c .before .before .put-word4 .ensures)
-
-same-length-5 : tie.Need-same-length-5
-same-length-5 c = search needs
+returns-4 c = rw (c .before .before .before .match .keys4) (c .put-word4 .ensures)
 
 returns-5 : tie.Need-returns-5
 unfolding reason
-returns-5 c = rw (c .before .before .before .before .before .match .keys5) (c .before .before .put-word5 .ensures)
-
-same-length-6 : tie.Need-same-length-6
-same-length-6 c = search needs
+returns-5 c = rw (c .before .before .before .match .keys5) (c .put-word5 .ensures)
 
 returns-6 : tie.Need-returns-6
 unfolding reason
-returns-6 c = rw (c .before .before .before .before .before .match .keys6) (c .before .before .put-word6 .ensures)
-
-same-length-7 : tie.Need-same-length-7
-same-length-7 c = search needs
+returns-6 c = rw (c .before .before .before .match .keys6) (c .put-word6 .ensures)
 
 returns-7 : tie.Need-returns-7
 unfolding reason
-returns-7 c = rw (c .before .before .before .before .before .match .keys7) (c .before .before .put-word7 .ensures)
-
-same-length-8 : tie.Need-same-length-8
-same-length-8 c = search needs
+returns-7 c = rw (c .before .before .before .match .keys7) (c .put-word7 .ensures)
 
 returns-8 : tie.Need-returns-8
 unfolding reason
-returns-8 c = rw (c .before .before .before .before .before .match .keys8) (c .before .before .put-word8 .ensures)
-
-same-length-9 : tie.Need-same-length-9
-same-length-9 c = search needs
+returns-8 c = rw (c .before .before .before .match .keys8) (c .put-word8 .ensures)
 
 returns-9 : tie.Need-returns-9
 unfolding reason
-returns-9 c = rw (c .before .before .before .before .before .match .keys9) (c .before .before .put-word9 .ensures)
-
-same-length-10 : tie.Need-same-length-10
-same-length-10 c = search needs
+returns-9 c = rw (c .before .before .before .match .keys9) (c .put-word9 .ensures)
 
 returns-10 : tie.Need-returns-10
 unfolding reason
-returns-10 c = rw (c .before .before .before .before .before .match .keys10) (c .before .before .put-word10 .ensures)
-
-same-length-11 : tie.Need-same-length-11
-same-length-11 c = search needs
+returns-10 c = rw (c .before .before .before .match .keys10) (c .put-word10 .ensures)
 
 returns-11 : tie.Need-returns-11
 unfolding reason
 returns-11 c =
-    let n = c .before .before .before .before .match .rest in
+    let n = c .before .before .match .rest in
     rw (
       ne-eqb _ _ (n .0 .0 .0 .0 .0 .0 .0 .0 .0 .1),
       ne-eqb _ _ (n .0 .0 .0 .0 .0 .0 .0 .0 .1),
@@ -157,7 +124,7 @@ returns-11 c =
       ne-eqb _ _ (n .0 .1),
       ne-eqb _ _ (n .1),
     )
-    (c .before .before .put-mavlink-reason .ensures)
+    (c .put-mavlink-reason .ensures)
 
 pub put-reason-spec : {M : Type 1} → statement M
 put-reason-spec =
@@ -184,25 +151,14 @@ put-reason-spec =
     slice-aggregate-put-word-10
     put-word-requires-10
     put-mavlink-reason-requires
-    same-length
     returns
-    same-length-2
     returns-2
-    same-length-3
     returns-3
-    same-length-4
     returns-4
-    same-length-5
     returns-5
-    same-length-6
     returns-6
-    same-length-7
     returns-7
-    same-length-8
     returns-8
-    same-length-9
     returns-9
-    same-length-10
     returns-10
-    same-length-11
     returns-11)

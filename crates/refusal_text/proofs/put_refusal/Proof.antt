@@ -2,7 +2,6 @@
 use mathlib.Core.Path.{refl}
 use Rattle.refusal_text.specs.Refusals.{refusal}
 use Rattle.text_output.proofs.Clipped.{then}
-use borrow.Author.Needs.{needs}
 use Rattle.refusal_text.proofs.put_refusal.Statement.{statement}
 use Rattle.refusal_text.proofs.put_refusal.Tie as tie
 
@@ -18,12 +17,9 @@ put-natural-requires c κs = tt
 put-reason-requires : tie.Need-put-reason-requires
 put-reason-requires c κs = tt
 
-same-length : tie.Need-same-length
-same-length c = search needs
-
 returns : tie.Need-returns
 unfolding refusal
-returns c = then (c .before .before .before .before .before .before .before .before .before .before .put-word .ensures) (then (c .before .before .before .before .before .before .put-natural .ensures) (c .before .before .put-reason .ensures))
+returns c = then (c .before .before .before .before .put-word .ensures) (then (c .before .before .put-natural .ensures) (c .put-reason .ensures))
 
 pub put-refusal-spec : {M : Type 1} → statement M
 put-refusal-spec =
@@ -33,5 +29,4 @@ put-refusal-spec =
     put-word-requires
     put-natural-requires
     put-reason-requires
-    same-length
     returns)

@@ -30,70 +30,59 @@ put-numeral-below t =
 put-numeral-put-nothing-requires : (t : ℕ) → put-numeral-lts.Need-put-nothing-requires (put-nothing-reads.Asked, put-nothing-reads.Learnt, digit-reads.Asked, digit-reads.Learnt, put-octet-reads.Asked, put-octet-reads.Learnt, put-numeral-below t, put-numeral.Post) (put-numeral-at t) put-numeral.Post
 put-numeral-put-nothing-requires t c κs = search needs
 
-put-numeral-same-length : (t : ℕ) → put-numeral-lts.Need-same-length (put-nothing-reads.Asked, put-nothing-reads.Learnt, digit-reads.Asked, digit-reads.Learnt, put-octet-reads.Asked, put-octet-reads.Learnt, put-numeral-below t, put-numeral.Post) (put-numeral-at t) put-numeral.Post
-put-numeral-same-length t c = search needs
-
 put-numeral-returns : (t : ℕ) → put-numeral-lts.Need-returns (put-nothing-reads.Asked, put-nothing-reads.Learnt, digit-reads.Asked, digit-reads.Learnt, put-octet-reads.Asked, put-octet-reads.Learnt, put-numeral-below t, put-numeral.Post) (put-numeral-at t) put-numeral.Post
 put-numeral-returns t c =
-    let s = c .before .before .before .before .before .before in
-    rw (no-digit (s .args .padded) (s .args .base) (s .args .most) (s .args .n) (c .before .before .before .before .if1 .taken)) (c .before .before .put-nothing .ensures)
+    let s = c .before .before .before in
+    rw (no-digit (s .args .padded) (s .args .base) (s .args .most) (s .args .n) (c .before .before .if1 .taken)) (c .put-nothing .ensures)
 
 put-numeral-digit-requires : (t : ℕ) → put-numeral-lts.Need-digit-requires (put-nothing-reads.Asked, put-nothing-reads.Learnt, digit-reads.Asked, digit-reads.Learnt, put-octet-reads.Asked, put-octet-reads.Learnt, put-numeral-below t, put-numeral.Post) (put-numeral-at t) put-numeral.Post
 put-numeral-digit-requires t c κs =
-    let s = c .before .before .before .before in
+    let s = c .before .before .before in
     omega (arith, last-small (s .args .padded) (s .args .n) (s .args .base) (c .before .if2 .taken), s .pre .1 .1)
 
 put-numeral-put-octet-requires : (t : ℕ) → put-numeral-lts.Need-put-octet-requires (put-nothing-reads.Asked, put-nothing-reads.Learnt, digit-reads.Asked, digit-reads.Learnt, put-octet-reads.Asked, put-octet-reads.Learnt, put-numeral-below t, put-numeral.Post) (put-numeral-at t) put-numeral.Post
 put-numeral-put-octet-requires t c κs = search needs
 
-put-numeral-same-length-2 : (t : ℕ) → put-numeral-lts.Need-same-length-2 (put-nothing-reads.Asked, put-nothing-reads.Learnt, digit-reads.Asked, digit-reads.Learnt, put-octet-reads.Asked, put-octet-reads.Learnt, put-numeral-below t, put-numeral.Post) (put-numeral-at t) put-numeral.Post
-put-numeral-same-length-2 t c = search needs
-
 put-numeral-returns-2 : (t : ℕ) → put-numeral-lts.Need-returns-2 (put-nothing-reads.Asked, put-nothing-reads.Learnt, digit-reads.Asked, digit-reads.Learnt, put-octet-reads.Asked, put-octet-reads.Learnt, put-numeral-below t, put-numeral.Post) (put-numeral-at t) put-numeral.Post
 put-numeral-returns-2 t c =
-    let s = c .before .before .before .before .before .before .before .before in
-    rw (one-digit (s .args .padded) (s .args .base) (s .args .most) (s .args .n) (c .before .before .before .before .before .before .if1 .left) (c .before .before .before .before .before .if2 .taken), ← c .before .before .before .digit .ensures) (c .before .before .put-octet .ensures)
+    let s = c .before .before .before .before .before in
+    rw (one-digit (s .args .padded) (s .args .base) (s .args .most) (s .args .n) (c .before .before .before .before .if1 .left) (c .before .before .before .if2 .taken), ← c .before .digit .ensures) (c .put-octet .ensures)
 
 put-numeral-sub-put-numeral : (t : ℕ) → put-numeral-lts.Need-sub-put-numeral (put-nothing-reads.Asked, put-nothing-reads.Learnt, digit-reads.Asked, digit-reads.Learnt, put-octet-reads.Asked, put-octet-reads.Learnt, put-numeral-below t, put-numeral.Post) (put-numeral-at t) put-numeral.Post
 put-numeral-sub-put-numeral t c = search needs
 
 put-numeral-div-put-numeral : (t : ℕ) → put-numeral-lts.Need-div-put-numeral (put-nothing-reads.Asked, put-nothing-reads.Learnt, digit-reads.Asked, digit-reads.Learnt, put-octet-reads.Asked, put-octet-reads.Learnt, put-numeral-below t, put-numeral.Post) (put-numeral-at t) put-numeral.Post
-put-numeral-div-put-numeral t c = c .before .before .before .before .pre .1 .0
+put-numeral-div-put-numeral t c = c .before .before .before .pre .1 .0
 
 put-numeral-put-numeral-requires : (t : ℕ) → put-numeral-lts.Need-put-numeral-requires (put-nothing-reads.Asked, put-nothing-reads.Learnt, digit-reads.Asked, digit-reads.Learnt, put-octet-reads.Asked, put-octet-reads.Learnt, put-numeral-below t, put-numeral.Post) (put-numeral-at t) put-numeral.Post
 put-numeral-put-numeral-requires t c κs =
-    let s = c .before .before .before .before in
+    let s = c .before .before .before in
     (omega (arith, s .pre .0, c .before .before .if1 .left), s .pre .1)
 
 put-numeral-rem-digit : (t : ℕ) → put-numeral-lts.Need-rem-digit (put-nothing-reads.Asked, put-nothing-reads.Learnt, digit-reads.Asked, digit-reads.Learnt, put-octet-reads.Asked, put-octet-reads.Learnt, put-numeral-below t, put-numeral.Post) (put-numeral-at t) put-numeral.Post
-put-numeral-rem-digit t c = c .before .before .before .before .before .before .before .before .pre .1 .0
+put-numeral-rem-digit t c = c .before .before .before .before .before .pre .1 .0
 
 put-numeral-digit-requires-2 : (t : ℕ) → put-numeral-lts.Need-digit-requires-2 (put-nothing-reads.Asked, put-nothing-reads.Learnt, digit-reads.Asked, digit-reads.Learnt, put-octet-reads.Asked, put-octet-reads.Learnt, put-numeral-below t, put-numeral.Post) (put-numeral-at t) put-numeral.Post
 put-numeral-digit-requires-2 t c κs =
-    let s = c .before .before .before .before .before .before .before .before in
+    let s = c .before .before .before .before .before in
     omega (arith, mod-lt (s .args .n) (s .pre .1 .0), s .pre .1 .1)
 
 put-numeral-put-octet-requires-2 : (t : ℕ) → put-numeral-lts.Need-put-octet-requires-2 (put-nothing-reads.Asked, put-nothing-reads.Learnt, digit-reads.Asked, digit-reads.Learnt, put-octet-reads.Asked, put-octet-reads.Learnt, put-numeral-below t, put-numeral.Post) (put-numeral-at t) put-numeral.Post
 put-numeral-put-octet-requires-2 t c κs = search needs
 
-put-numeral-same-length-3 : (t : ℕ) → put-numeral-lts.Need-same-length-3 (put-nothing-reads.Asked, put-nothing-reads.Learnt, digit-reads.Asked, digit-reads.Learnt, put-octet-reads.Asked, put-octet-reads.Learnt, put-numeral-below t, put-numeral.Post) (put-numeral-at t) put-numeral.Post
-put-numeral-same-length-3 t c = search needs
-
 put-numeral-returns-3 : (t : ℕ) → put-numeral-lts.Need-returns-3 (put-nothing-reads.Asked, put-nothing-reads.Learnt, digit-reads.Asked, digit-reads.Learnt, put-octet-reads.Asked, put-octet-reads.Learnt, put-numeral-below t, put-numeral.Post) (put-numeral-at t) put-numeral.Post
 put-numeral-returns-3 t c =
-    let s = c .before .before .before .before .before .before .before .before .before .before .before .before in
-    rw (more-digits (s .args .padded) (s .args .base) (s .args .most) (s .args .n) (c .before .before .before .before .before .before .before .before .before .before .if1 .left) (c .before .before .before .before .before .before .before .before .before .if2 .left), ← c .before .before .before .digit2 .ensures) (then (c .before .before .before .before .before .before .before .put-numeral .ensures) (c .before .before .put-octet2 .ensures))
+    let s = c .before .before .before .before .before .before .before in
+    rw (more-digits (s .args .padded) (s .args .base) (s .args .most) (s .args .n) (c .before .before .before .before .before .before .if1 .left) (c .before .before .before .before .before .if2 .left), ← c .before .digit2 .ensures) (then (c .before .before .before .put-numeral .ensures) (c .put-octet2 .ensures))
 
 pub +put-numeral-spec : {M : Type 1} → statement M
 +put-numeral-spec = close μ-put-numeral λ t. put-numeral-lts.spec (put-nothing-reads.Asked, put-nothing-reads.Learnt, digit-reads.Asked, digit-reads.Learnt, put-octet-reads.Asked, put-octet-reads.Learnt, put-numeral-below t, put-numeral.Post)
     (put-numeral-at t)
     put-numeral.Post
     (put-numeral-put-nothing-requires t)
-    (put-numeral-same-length t)
     (put-numeral-returns t)
     (put-numeral-digit-requires t)
     (put-numeral-put-octet-requires t)
-    (put-numeral-same-length-2 t)
     (put-numeral-returns-2 t)
     (put-numeral-sub-put-numeral t)
     (put-numeral-div-put-numeral t)
@@ -101,5 +90,4 @@ pub +put-numeral-spec : {M : Type 1} → statement M
     (put-numeral-rem-digit t)
     (put-numeral-digit-requires-2 t)
     (put-numeral-put-octet-requires-2 t)
-    (put-numeral-same-length-3 t)
     (put-numeral-returns-3 t)

@@ -2,7 +2,6 @@
 use mathlib.Core.Path.{sym, _∙_}
 use Rattle.text_output.specs.Text.{escaped}
 use Rattle.text_output.proofs.Clipped.{then}
-use borrow.Author.Needs.{needs}
 use Rattle.text_output.proofs.put_escaped.Statement.{statement}
 use Rattle.text_output.proofs.put_escaped.Tie as tie
 
@@ -12,12 +11,9 @@ is-plain-requires c κs = tt
 put-octet-requires : tie.Need-put-octet-requires
 put-octet-requires c κs = tt
 
-same-length : tie.Need-same-length
-same-length c = search needs
-
 returns : tie.Need-returns
 unfolding escaped
-returns c = rw (sym (c .before .before .before .before .before .is-plain .ensures) ∙ c .before .before .before .before .if1 .taken) (c .before .before .put-octet .ensures)
+returns c = rw (sym (c .before .before .before .is-plain .ensures) ∙ c .before .before .if1 .taken) (c .put-octet .ensures)
 
 put-octet-requires-2 : tie.Need-put-octet-requires-2
 put-octet-requires-2 c κs = tt
@@ -28,12 +24,9 @@ put-octet-requires-3 c κs = tt
 put-pair-requires : tie.Need-put-pair-requires
 put-pair-requires c κs = tt
 
-same-length-2 : tie.Need-same-length-2
-same-length-2 c = search needs
-
 returns-2 : tie.Need-returns-2
 unfolding escaped
-returns-2 c = rw (sym (c .before .before .before .before .before .before .before .before .before .before .before .before .before .is-plain .ensures) ∙ c .before .before .before .before .before .before .before .before .before .before .before .before .if1 .left) (then (c .before .before .before .before .before .before .before .before .before .before .put-octet2 .ensures) (then (c .before .before .before .before .before .before .put-octet3 .ensures) (c .before .before .put-pair .ensures)))
+returns-2 c = rw (sym (c .before .before .before .before .before .before .before .is-plain .ensures) ∙ c .before .before .before .before .before .before .if1 .left) (then (c .before .before .before .before .put-octet2 .ensures) (then (c .before .before .put-octet3 .ensures) (c .put-pair .ensures)))
 
 pub put-escaped-spec : {M : Type 1} → statement M
 put-escaped-spec =
@@ -41,10 +34,8 @@ put-escaped-spec =
     (tie.spec
     is-plain-requires
     put-octet-requires
-    same-length
     returns
     put-octet-requires-2
     put-octet-requires-3
     put-pair-requires
-    same-length-2
     returns-2)

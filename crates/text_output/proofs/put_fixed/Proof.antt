@@ -33,18 +33,15 @@ rem-put-fraction c = search needs
 put-fraction-requires : tie.Need-put-fraction-requires
 put-fraction-requires c κs = search needs
 
-same-length : tie.Need-same-length
-same-length c = search needs
-
 returns : tie.Need-returns
 unfolding fixed
 returns c =
-    let z = c .before .before .before .before .before .before .before .before .before .before .before .before .before .before .before .before .args .n in
-    let f = c .before .before .before .before .before .before .before .before .before .before .before .before .before .before .before .before .fits .n in
-    let small : c .before .before .before .before .before .before .before .before .before .before .before .before .before .before .size .result ≡ natAbs z = rw (toZ-ofZ w64 z f) at (c .before .before .before .before .before .before .before .before .before .before .before .before .before .before .size .ensures) in
-    then (rw (toZ-ofZ w64 z f) at (c .before .before .before .before .before .before .before .before .before .before .before .put-minus .ensures))
-    (then (rw (small, c .before .before .before .before .before .before .before .before .before .before .before .before .before .whole-of .ensures .0) at (c .before .before .before .before .before .before .before .put-natural .ensures))
-    (rw (small, c .before .before .before .before .before .before .before .before .before .before .before .before .before .whole-of .ensures .0, c .before .before .before .places-of .ensures) at (c .before .before .put-fraction .ensures)))
+    let z = c .before .before .before .before .before .before .before .before .before .args .n in
+    let f = c .before .before .before .before .before .before .before .before .before .fits .n in
+    let small : c .before .before .before .before .before .before .before .before .size .result ≡ natAbs z = rw (toZ-ofZ w64 z f) at (c .before .before .before .before .before .before .before .before .size .ensures) in
+    then (rw (toZ-ofZ w64 z f) at (c .before .before .before .before .before .put-minus .ensures))
+    (then (rw (small, c .before .before .before .before .before .before .before .whole-of .ensures .0) at (c .before .before .before .put-natural .ensures))
+    (rw (small, c .before .before .before .before .before .before .before .whole-of .ensures .0, c .before .places-of .ensures) at (c .put-fraction .ensures)))
 
 pub put-fixed-spec : {M : Type 1} → statement M
 put-fixed-spec =
@@ -58,5 +55,4 @@ put-fixed-spec =
     places-of-requires
     rem-put-fraction
     put-fraction-requires
-    same-length
     returns)

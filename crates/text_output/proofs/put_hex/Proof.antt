@@ -1,6 +1,5 @@
 -- `text_output::put_hex` meets its contract. Assumes nothing.
 use Rattle.text_output.proofs.Clipped.{then}
-use borrow.Author.Needs.{needs}
 use Rattle.text_output.proofs.put_hex.Statement.{statement}
 use Rattle.text_output.proofs.put_hex.Tie as tie
 
@@ -10,11 +9,8 @@ put-octet-requires c κs = tt
 put-pair-requires : tie.Need-put-pair-requires
 put-pair-requires c κs = tt
 
-same-length : tie.Need-same-length
-same-length c = search needs
-
 returns : tie.Need-returns
-returns c = then (c .before .before .before .before .before .before .put-octet .ensures) (c .before .before .put-pair .ensures)
+returns c = then (c .before .before .put-octet .ensures) (c .put-pair .ensures)
 
 pub put-hex-spec : {M : Type 1} → statement M
-put-hex-spec = tie.close (tie.spec put-octet-requires put-pair-requires same-length returns)
+put-hex-spec = tie.close (tie.spec put-octet-requires put-pair-requires returns)

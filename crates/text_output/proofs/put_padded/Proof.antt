@@ -9,11 +9,8 @@ radix-of-requires c κs = search needs
 put-numeral-requires : tie.Need-put-numeral-requires
 put-numeral-requires c κs = search needs
 
-same-length : tie.Need-same-length
-same-length c = search needs
-
 returns : tie.Need-returns
-returns c = rw (c .before .before .before .radix-of .ensures .0) at (c .before .before .put-numeral .ensures)
+returns c = rw (c .before .radix-of .ensures .0) at (c .put-numeral .ensures)
 
 pub put-padded-spec : {M : Type 1} → statement M
-put-padded-spec = tie.close (tie.spec radix-of-requires put-numeral-requires same-length returns)
+put-padded-spec = tie.close (tie.spec radix-of-requires put-numeral-requires returns)

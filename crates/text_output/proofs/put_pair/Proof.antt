@@ -16,11 +16,8 @@ digit-requires-2 c κs = search needs
 put-octet-requires-2 : tie.Need-put-octet-requires-2
 put-octet-requires-2 c κs = tt
 
-same-length : tie.Need-same-length
-same-length c = search needs
-
 returns : tie.Need-returns
-returns c = rw (← c .before .before .before .before .before .before .before .before .digit .ensures, ← c .before .before .before .digit2 .ensures) (then (c .before .before .before .before .before .before .before .put-octet .ensures) (c .before .before .put-octet2 .ensures))
+returns c = rw (← c .before .before .before .before .digit .ensures, ← c .before .digit2 .ensures) (then (c .before .before .before .put-octet .ensures) (c .put-octet2 .ensures))
 
 pub put-pair-spec : {M : Type 1} → statement M
 put-pair-spec =
@@ -30,5 +27,4 @@ put-pair-spec =
     put-octet-requires
     digit-requires-2
     put-octet-requires-2
-    same-length
     returns)

@@ -5,6 +5,7 @@ use Prim.Native.Nat.{_-_, _≤_}
 use native.Mathlib.Omega.{arith}
 use denote.Ref.{now}
 use lib.ListN.{length, drop}
+use Rattle.text_output.specs.Clips.{textRoom}
 use Rattle.text_output.specs.Text.{spelled}
 use Rattle.text_output.proofs.Clipped.{clips-long, then}
 use Rattle.text_output.proofs.Spelled.{Left, next-spelled, all-spelled}
@@ -14,7 +15,7 @@ use Rattle.text_output.proofs.put_spelled.Tie as tie
 
 abbrev Inv-loop : tie.InvT-loop
 Inv-loop text₀ at spelling octets from at₀ i₀ text at' i =
-    (at' ≤ length text) × (length text ≡ length text₀) × Left text₀ at₀ (spelled spelling (drop i₀ octets)) text at' (spelled spelling (drop i octets))
+    (at' ≤ textRoom) × (length text ≡ textRoom) × Left text₀ at₀ (spelled spelling (drop i₀ octets)) text at' (spelled spelling (drop i octets))
 
 abbrev μ-loop : tie.MeasureT-loop
 μ-loop text₀ at spelling octets from at₀ i₀ text at' i = length octets - i
@@ -23,7 +24,9 @@ put-nothing-requires : tie.Need-put-nothing-requires Inv-loop μ-loop
 put-nothing-requires c κs = tt
 
 loop-holds : tie.Need-loop-holds Inv-loop μ-loop
-loop-holds c = (omega (arith, c .before .before .put-nothing .ensures .ends, clips-long (c .before .before .put-nothing .ensures)), refl, λ end last p. p)
+loop-holds c =
+    let p = c .put-nothing .ensures in
+    (omega (arith, p .ends), clips-long p ∙ p .room, λ end last q. q)
 
 shared-slice-read-put-spelled-octet : tie.Need-shared-slice-read-put-spelled-octet Inv-loop μ-loop
 shared-slice-read-put-spelled-octet c = search needs
@@ -39,18 +42,15 @@ loop-less c = search needs
 
 loop-again : tie.Need-loop-again Inv-loop μ-loop
 loop-again c =
-    let l = c .before .before .before .before .before .before .loop in
-    let p = c .before .before .put-spelled-octet .ensures in
-    (omega (arith, p .ends, clips-long p), clips-long p ∙ l .inv .1, next-spelled (c .before .before .before .before .before .before .before .before .before .before .before .before .before .args .spelling) (now (c .before .before .before .before .before .before .before .before .before .before .before .before .before .args .octets)) (l .i) (c .before .before .before .before .before .loop-test .taken) (l .inv .2) p)
-
-same-length : tie.Need-same-length Inv-loop μ-loop
-same-length c = c .before .loop .inv .1 ∙ clips-long (c .before .before .before .before .put-nothing .ensures)
+    let l = c .before .before .before .before .loop in
+    let p = c .put-spelled-octet .ensures in
+    (omega (arith, p .ends), clips-long p ∙ l .inv .1, next-spelled (c .before .before .before .before .before .before .before .before .args .spelling) (now (c .before .before .before .before .before .before .before .before .args .octets)) (l .i) (c .before .before .before .loop-test .taken) (l .inv .2) p)
 
 returns : tie.Need-returns Inv-loop μ-loop
 returns c =
     let l = c .before .loop in
-    then (c .before .before .before .before .put-nothing .ensures)
-    (all-spelled (c .before .before .before .before .before .before .before .before .args .spelling) (now (c .before .before .before .before .before .before .before .before .args .octets)) (l .i) (c .loop-test .left) (l .inv .2) (record { ends = omega (arith, l .inv .0); leaves = refl }))
+    then (c .before .before .put-nothing .ensures)
+    (all-spelled (c .before .before .before .before .before .args .spelling) (now (c .before .before .before .before .before .args .octets)) (l .i) (c .loop-test .left) (l .inv .2) (record { room = l .inv .1; ends = omega (arith, l .inv .0); leaves = refl }))
 
 pub put-spelled-spec : {M : Type 1} → statement M
 put-spelled-spec =
@@ -65,5 +65,4 @@ put-spelled-spec =
     add-i
     loop-less
     loop-again
-    same-length
     returns)

@@ -21,23 +21,14 @@ enum-told-3 c = search needs
 put-hex-requires : tie.Need-put-hex-requires
 put-hex-requires c κs = tt
 
-same-length : tie.Need-same-length
-same-length c = search needs
-
 returns : tie.Need-returns
-returns c = rw (c .before .before .before .before .enum-told .given .1) (c .before .before .put-octet .ensures)
-
-same-length-2 : tie.Need-same-length-2
-same-length-2 c = search needs
+returns c = rw (c .before .before .enum-told .given .1) (c .put-octet .ensures)
 
 returns-2 : tie.Need-returns-2
-returns-2 c = rw (c .before .before .before .before .enum-told2 .given .1) (c .before .before .put-escaped .ensures)
-
-same-length-3 : tie.Need-same-length-3
-same-length-3 c = search needs
+returns-2 c = rw (c .before .before .enum-told2 .given .1) (c .put-escaped .ensures)
 
 returns-3 : tie.Need-returns-3
-returns-3 c = rw (c .before .before .before .before .enum-told3 .given .1) (c .before .before .put-hex .ensures)
+returns-3 c = rw (c .before .before .enum-told3 .given .1) (c .put-hex .ensures)
 
 pub put-spelled-octet-spec : {M : Type 1} → statement M
 put-spelled-octet-spec =
@@ -49,9 +40,6 @@ put-spelled-octet-spec =
     put-escaped-requires
     enum-told-3
     put-hex-requires
-    same-length
     returns
-    same-length-2
     returns-2
-    same-length-3
     returns-3)

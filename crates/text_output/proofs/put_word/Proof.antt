@@ -1,18 +1,14 @@
 -- `text_output::put_word` meets its contract. Assumes nothing.
 use denote.Ref.{now}
 use Rattle.text_output.proofs.Spelled.{plain-same}
-use borrow.Author.Needs.{needs}
 use Rattle.text_output.proofs.put_word.Statement.{statement}
 use Rattle.text_output.proofs.put_word.Tie as tie
 
 put-spelled-requires : tie.Need-put-spelled-requires
 put-spelled-requires c κs = tt
 
-same-length : tie.Need-same-length
-same-length c = search needs
-
 returns : tie.Need-returns
-returns c = rw (plain-same (now (c .before .before .before .before .before .before .args .word))) at (c .before .before .put-spelled .ensures)
+returns c = rw (plain-same (now (c .before .before .before .args .word))) at (c .put-spelled .ensures)
 
 pub put-word-spec : {M : Type 1} → statement M
-put-word-spec = tie.close (tie.spec put-spelled-requires same-length returns)
+put-word-spec = tie.close (tie.spec put-spelled-requires returns)

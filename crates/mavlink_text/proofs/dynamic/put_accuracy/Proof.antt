@@ -1,5 +1,5 @@
 -- `mavlink_text::dynamic::put_accuracy` meets its contract. Assumes nothing.
-use Rattle.text_output.proofs.Clipped.{clips-long, then, last-piece}
+use Rattle.text_output.proofs.Clipped.{then, last-piece}
 use mathlib.Core.Path.{refl}
 use Rattle.field_text.specs.Fields.{fields}
 use borrow.Author.Needs.{needs}
@@ -41,12 +41,9 @@ put-reading-requires-3 c κs = tt
 
 returns : tie.Need-returns
 unfolding fields
-returns c = then (rw (c .before .before .before .before .before .before .before .before .before .before .before .before .before .before .before .before .before .before .before .unless-unsigned .ensures) at (c .before .before .before .before .before .before .before .before .before .before .before .before .put-reading .ensures))
-    (then (rw (c .before .before .before .before .before .before .before .before .before .before .before .before .before .before .before .before .before .unless-unsigned2 .ensures) at (c .before .before .before .before .before .before .before .put-reading2 .ensures))
-    (last-piece (rw (c .before .before .before .before .before .before .before .before .before .before .before .before .before .before .before .unless-unsigned3 .ensures) at (c .before .before .put-reading3 .ensures))))
-
-same-length : tie.Need-same-length
-same-length c = clips-long (returns c)
+returns c = then (rw (c .before .before .before .before .before .before .before .before .before .before .before .before .before .unless-unsigned .ensures) at (c .before .before .before .before .before .before .put-reading .ensures))
+    (then (rw (c .before .before .before .before .before .before .before .before .before .before .before .unless-unsigned2 .ensures) at (c .before .before .before .put-reading2 .ensures))
+    (last-piece (rw (c .before .before .before .before .before .before .before .before .before .unless-unsigned3 .ensures) at (c .put-reading3 .ensures))))
 
 pub put-accuracy-spec : {M : Type 1} → statement M
 put-accuracy-spec =
@@ -63,5 +60,4 @@ put-accuracy-spec =
     put-reading-requires-2
     slice-aggregate-put-reading-3
     put-reading-requires-3
-    same-length
     returns)

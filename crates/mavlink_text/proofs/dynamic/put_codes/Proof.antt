@@ -1,6 +1,7 @@
 -- `mavlink_text::dynamic::put_codes` meets its contract. Assumes nothing.
-use Rattle.text_output.proofs.Clipped.{clips-long, then, last-piece}
+use Rattle.text_output.proofs.Clipped.{then, last-piece}
 use mathlib.Core.Path.{refl}
+use native.Mathlib.Omega.{arith}
 use Rattle.field_text.specs.Fields.{fields}
 use borrow.Author.Needs.{needs}
 use Rattle.mavlink_text.proofs.dynamic.put_codes.Statement.{statement}
@@ -49,22 +50,19 @@ slice-aggregate-put-hexadecimal-2 : tie.Need-slice-aggregate-put-hexadecimal-2
 slice-aggregate-put-hexadecimal-2 c = refl
 
 cast-put-hexadecimal-2 : tie.Need-cast-put-hexadecimal-2
-cast-put-hexadecimal-2 c = search needs
+cast-put-hexadecimal-2 c = omega (arith, c .struct-known3 .given)
 
 put-hexadecimal-requires-2 : tie.Need-put-hexadecimal-requires-2
 put-hexadecimal-requires-2 c κs = tt
 
 returns : tie.Need-returns
 unfolding fields
-returns c = then (c .before .before .before .before .before .before .before .before .before .before .before .before .before .before .before .before .before .before .before .before .before .before .before .before .before .before .before .before .put-hexadecimal .ensures)
-    (then (c .before .before .before .before .before .before .before .before .before .before .before .before .before .before .before .before .before .before .before .before .before .before .before .put-squawk .ensures)
-    (then (c .before .before .before .before .before .before .before .before .before .before .before .before .before .before .before .before .before .before .put-number .ensures)
-    (then (rw (c .before .before .before .before .before .before .before .before .before .before .before .before .before .before .before .before .before .before .before .before .before .before .before .before .before .before .before .before .before .before .before .before .unless-unsigned .ensures) at (c .before .before .before .before .before .before .before .before .before .before .before .before .before .put-reading .ensures))
-    (then (c .before .before .before .before .before .before .before .before .put-number2 .ensures)
-    (last-piece (c .before .before .put-hexadecimal2 .ensures))))))
-
-same-length : tie.Need-same-length
-same-length c = clips-long (returns c)
+returns c = then (c .before .before .before .before .before .before .before .before .before .before .before .before .before .before .before .before .put-hexadecimal .ensures)
+    (then (c .before .before .before .before .before .before .before .before .before .before .before .before .before .put-squawk .ensures)
+    (then (c .before .before .before .before .before .before .before .before .before .before .put-number .ensures)
+    (then (rw (c .before .before .before .before .before .before .before .before .before .before .before .before .before .before .before .before .before .before .before .before .unless-unsigned .ensures) at (c .before .before .before .before .before .before .before .put-reading .ensures))
+    (then (c .before .before .before .before .put-number2 .ensures)
+    (last-piece (c .put-hexadecimal2 .ensures))))))
 
 pub put-codes-spec : {M : Type 1} → statement M
 put-codes-spec =
@@ -86,5 +84,4 @@ put-codes-spec =
     slice-aggregate-put-hexadecimal-2
     cast-put-hexadecimal-2
     put-hexadecimal-requires-2
-    same-length
     returns)

@@ -3,7 +3,6 @@ use lib.ListN.{drop}
 use Rattle.mavlink_text.specs.Messages.{dynamicParts}
 use Rattle.field_text.proofs.Parts.{fields-split}
 use Rattle.text_output.proofs.Clipped.{then}
-use borrow.Author.Needs.{needs}
 use Rattle.mavlink_text.proofs.dynamic.put_dynamic.Statement.{statement}
 use Rattle.mavlink_text.proofs.dynamic.put_dynamic.Tie as tie
 
@@ -19,13 +18,10 @@ put-velocity-requires c κs = tt
 put-codes-requires : tie.Need-put-codes-requires
 put-codes-requires c κs = tt
 
-same-length : tie.Need-same-length
-same-length c = search needs
-
 returns : tie.Need-returns
 returns c =
-    let parts = dynamicParts (c .before .before .before .before .before .before .before .before .before .before .before .before .before .before .before .before .before .args .dynamic) in
-    rw (fields-split 5 parts) at (then (c .before .before .before .before .before .before .before .before .before .before .before .before .before .before .put-position .ensures) (rw (fields-split 3 (drop 5 parts)) at (then (c .before .before .before .before .before .before .before .before .before .before .put-accuracy .ensures) (rw (fields-split 3 (drop 3 (drop 5 parts))) at (then (c .before .before .before .before .before .before .put-velocity .ensures) (c .before .before .put-codes .ensures))))))
+    let parts = dynamicParts (c .before .before .before .before .before .before .before .before .args .dynamic) in
+    rw (fields-split 5 parts) at (then (c .before .before .before .before .before .before .put-position .ensures) (rw (fields-split 3 (drop 5 parts)) at (then (c .before .before .before .before .put-accuracy .ensures) (rw (fields-split 3 (drop 3 (drop 5 parts))) at (then (c .before .before .put-velocity .ensures) (c .put-codes .ensures))))))
 
 pub put-dynamic-spec : {M : Type 1} → statement M
 put-dynamic-spec =
@@ -35,5 +31,4 @@ put-dynamic-spec =
     put-accuracy-requires
     put-velocity-requires
     put-codes-requires
-    same-length
     returns)

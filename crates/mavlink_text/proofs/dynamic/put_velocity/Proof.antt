@@ -1,5 +1,5 @@
 -- `mavlink_text::dynamic::put_velocity` meets its contract. Assumes nothing.
-use Rattle.text_output.proofs.Clipped.{clips-long, then, last-piece}
+use Rattle.text_output.proofs.Clipped.{then, last-piece}
 use mathlib.Core.Path.{refl}
 use mir.Syntax.{w16}
 use mir.ValLaws.{toZ-ofZ}
@@ -36,12 +36,9 @@ put-reading-requires-3 c κs = tt
 
 returns : tie.Need-returns
 unfolding fields
-returns c = then (rw (c .before .before .before .before .before .before .before .before .before .before .before .before .before .before .before .before .before .before .before .unless-signed-16 .ensures, toZ-ofZ w16 (c .before .before .before .before .before .before .before .before .before .before .before .before .before .before .before .before .before .before .before .before .before .before .args .dynamic .climb) (record { sfits = c .before .before .before .before .before .before .before .before .before .before .before .before .before .before .before .before .before .before .before .before .struct-told .given .1 .1 .1 .1 .1 .1 .1 .1 .0 .1 })) at (c .before .before .before .before .before .before .before .before .before .before .before .before .put-reading .ensures))
-    (then (rw (c .before .before .before .before .before .before .before .before .before .before .before .before .before .before .before .before .before .unless-signed-162 .ensures, toZ-ofZ w16 (c .before .before .before .before .before .before .before .before .before .before .before .before .before .before .before .before .before .before .before .before .before .before .args .dynamic .north) (record { sfits = c .before .before .before .before .before .before .before .before .before .before .before .before .before .before .before .before .before .before .struct-told2 .given .1 .1 .1 .1 .1 .1 .1 .1 .1 .0 .1 })) at (c .before .before .before .before .before .before .before .put-reading2 .ensures))
-    (last-piece (rw (c .before .before .before .before .before .before .before .before .before .before .before .before .before .before .before .unless-signed-163 .ensures, toZ-ofZ w16 (c .before .before .before .before .before .before .before .before .before .before .before .before .before .before .before .before .before .before .before .before .before .before .args .dynamic .east) (record { sfits = c .before .before .before .before .before .before .before .before .before .before .before .before .before .before .before .before .struct-told3 .given .1 .1 .1 .1 .1 .1 .1 .1 .1 .1 .0 .1 })) at (c .before .before .put-reading3 .ensures))))
-
-same-length : tie.Need-same-length
-same-length c = clips-long (returns c)
+returns c = then (rw (c .before .before .before .before .before .before .before .before .before .before .before .before .before .unless-signed-16 .ensures, toZ-ofZ w16 (c .before .before .before .before .before .before .before .before .before .before .before .before .before .before .before .args .dynamic .climb) (record { sfits = c .before .before .before .before .before .before .before .before .before .before .before .before .before .before .struct-told .given .1 .1 .1 .1 .1 .1 .1 .1 .0 .1 })) at (c .before .before .before .before .before .before .put-reading .ensures))
+    (then (rw (c .before .before .before .before .before .before .before .before .before .before .before .unless-signed-162 .ensures, toZ-ofZ w16 (c .before .before .before .before .before .before .before .before .before .before .before .before .before .before .before .args .dynamic .north) (record { sfits = c .before .before .before .before .before .before .before .before .before .before .before .before .struct-told2 .given .1 .1 .1 .1 .1 .1 .1 .1 .1 .0 .1 })) at (c .before .before .before .put-reading2 .ensures))
+    (last-piece (rw (c .before .before .before .before .before .before .before .before .before .unless-signed-163 .ensures, toZ-ofZ w16 (c .before .before .before .before .before .before .before .before .before .before .before .before .before .before .before .args .dynamic .east) (record { sfits = c .before .before .before .before .before .before .before .before .before .before .struct-told3 .given .1 .1 .1 .1 .1 .1 .1 .1 .1 .1 .0 .1 })) at (c .put-reading3 .ensures))))
 
 pub put-velocity-spec : {M : Type 1} → statement M
 put-velocity-spec =
@@ -56,5 +53,4 @@ put-velocity-spec =
     put-reading-requires-2
     slice-aggregate-put-reading-3
     put-reading-requires-3
-    same-length
     returns)

@@ -1,5 +1,5 @@
 -- `mavlink_text::traffic::put_identity` meets its contract. Assumes nothing.
-use Rattle.text_output.proofs.Clipped.{clips-long, then, last-piece}
+use Rattle.text_output.proofs.Clipped.{then, last-piece}
 use mathlib.Core.Path.{refl}
 use Rattle.field_text.specs.Fields.{fields}
 use borrow.Author.Needs.{needs}
@@ -38,14 +38,11 @@ put-reading-requires c κs = tt
 
 returns : tie.Need-returns
 unfolding fields
-returns c = then (c .before .before .before .before .before .before .before .before .before .before .before .before .before .before .before .before .before .before .before .before .before .put-squawk-or-none .ensures)
-    (then (c .before .before .before .before .before .before .before .before .before .before .before .before .before .before .before .before .put-number .ensures)
-    (then (c .before .before .before .before .before .before .before .before .before .before .before .before .put-callsign .ensures)
-    (then (c .before .before .before .before .before .before .before .put-number2 .ensures)
-    (last-piece (rw (c .before .before .before .before .before .before .before .before .before .before .before .before .before .before .before .before .before .before .before .before .before .before .before .unsigned .ensures) at (c .before .before .put-reading .ensures))))))
-
-same-length : tie.Need-same-length
-same-length c = clips-long (returns c)
+returns c = then (c .before .before .before .before .before .before .before .before .before .before .before .put-squawk-or-none .ensures)
+    (then (c .before .before .before .before .before .before .before .before .put-number .ensures)
+    (then (c .before .before .before .before .before .before .put-callsign .ensures)
+    (then (c .before .before .before .put-number2 .ensures)
+    (last-piece (rw (c .before .before .before .before .before .before .before .before .before .before .before .before .before .unsigned .ensures) at (c .put-reading .ensures))))))
 
 pub put-identity-spec : {M : Type 1} → statement M
 put-identity-spec =
@@ -61,5 +58,4 @@ put-identity-spec =
     put-number-requires-2
     slice-aggregate-put-reading
     put-reading-requires
-    same-length
     returns)

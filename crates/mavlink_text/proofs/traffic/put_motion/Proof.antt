@@ -1,5 +1,5 @@
 -- `mavlink_text::traffic::put_motion` meets its contract. Assumes nothing.
-use Rattle.text_output.proofs.Clipped.{clips-long, then, last-piece}
+use Rattle.text_output.proofs.Clipped.{then, last-piece}
 use mathlib.Core.Path.{refl}
 use mir.Syntax.{w16}
 use mir.ValLaws.{toZ-ofZ}
@@ -52,13 +52,10 @@ put-hexadecimal-requires c κs = tt
 
 returns : tie.Need-returns
 unfolding fields
-returns c = then (rw (c .before .before .before .before .before .before .before .before .before .before .before .before .before .before .before .before .before .before .before .before .before .before .before .before .before .unsigned .ensures) at (c .before .before .before .before .before .before .before .before .before .before .before .before .before .before .before .before .before .before .put-reading .ensures))
-    (then (rw (c .before .before .before .before .before .before .before .before .before .before .before .before .before .before .before .before .before .before .before .before .before .before .before .unsigned2 .ensures) at (c .before .before .before .before .before .before .before .before .before .before .before .before .before .put-reading2 .ensures))
-    (then (rw (c .before .before .before .before .before .before .before .before .before .before .before .before .before .before .before .before .before .before .before .before .before .signed-16 .ensures, toZ-ofZ w16 (c .before .before .before .before .before .before .before .before .before .before .before .before .before .before .before .before .before .before .before .before .before .before .before .before .before .before .before .before .args .traffic .climb) (record { sfits = c .before .before .before .before .before .before .before .before .before .before .before .before .before .before .before .before .before .before .before .before .before .before .struct-told .given .1 .1 .1 .1 .1 .1 .0 .1 })) at (c .before .before .before .before .before .before .before .before .put-reading3 .ensures))
-    (last-piece (c .before .before .put-hexadecimal .ensures))))
-
-same-length : tie.Need-same-length
-same-length c = clips-long (returns c)
+returns c = then (rw (c .before .before .before .before .before .before .before .before .before .before .before .before .before .before .before .before .before .unsigned .ensures) at (c .before .before .before .before .before .before .before .before .before .before .put-reading .ensures))
+    (then (rw (c .before .before .before .before .before .before .before .before .before .before .before .before .before .before .before .unsigned2 .ensures) at (c .before .before .before .before .before .before .before .put-reading2 .ensures))
+    (then (rw (c .before .before .before .before .before .before .before .before .before .before .before .before .before .signed-16 .ensures, toZ-ofZ w16 (c .before .before .before .before .before .before .before .before .before .before .before .before .before .before .before .before .before .before .before .args .traffic .climb) (record { sfits = c .before .before .before .before .before .before .before .before .before .before .before .before .before .before .struct-told .given .1 .1 .1 .1 .1 .1 .0 .1 })) at (c .before .before .before .before .put-reading3 .ensures))
+    (last-piece (c .put-hexadecimal .ensures))))
 
 pub put-motion-spec : {M : Type 1} → statement M
 put-motion-spec =
@@ -78,5 +75,4 @@ put-motion-spec =
     slice-aggregate-put-hexadecimal
     cast-put-hexadecimal
     put-hexadecimal-requires
-    same-length
     returns)

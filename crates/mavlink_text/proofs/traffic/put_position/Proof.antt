@@ -1,5 +1,5 @@
 -- `mavlink_text::traffic::put_position` meets its contract. Assumes nothing.
-use Rattle.text_output.proofs.Clipped.{clips-long, then, last-piece}
+use Rattle.text_output.proofs.Clipped.{then, last-piece}
 use mathlib.Core.Path.{refl}
 use mir.Syntax.{w32}
 use mir.ValLaws.{toZ-ofZ}
@@ -42,13 +42,10 @@ put-reading-requires-3 c κs = tt
 
 returns : tie.Need-returns
 unfolding fields
-returns c = then (c .before .before .before .before .before .before .before .before .before .before .before .before .before .before .before .before .before .put-hexadecimal .ensures)
-    (then (rw (c .before .before .before .before .before .before .before .before .before .before .before .before .before .before .before .before .before .before .before .before .before .before .before .before .signed-32 .ensures, toZ-ofZ w32 (c .before .before .before .before .before .before .before .before .before .before .before .before .before .before .before .before .before .before .before .before .before .before .before .before .before .before .before .args .traffic .latitude) (record { sfits = c .before .before .before .before .before .before .before .before .before .before .before .before .before .before .before .before .before .before .before .before .before .before .before .before .before .struct-told .given .1 .0 .1 })) at (c .before .before .before .before .before .before .before .before .before .before .before .before .put-reading .ensures))
-    (then (rw (c .before .before .before .before .before .before .before .before .before .before .before .before .before .before .before .before .before .before .before .before .before .before .signed-322 .ensures, toZ-ofZ w32 (c .before .before .before .before .before .before .before .before .before .before .before .before .before .before .before .before .before .before .before .before .before .before .before .before .before .before .before .args .traffic .longitude) (record { sfits = c .before .before .before .before .before .before .before .before .before .before .before .before .before .before .before .before .before .before .before .before .before .before .before .struct-told2 .given .1 .1 .0 .1 })) at (c .before .before .before .before .before .before .before .put-reading2 .ensures))
-    (last-piece (rw (c .before .before .before .before .before .before .before .before .before .before .before .before .before .before .before .before .before .before .before .before .signed-323 .ensures, toZ-ofZ w32 (c .before .before .before .before .before .before .before .before .before .before .before .before .before .before .before .before .before .before .before .before .before .before .before .before .before .before .before .args .traffic .altitude) (record { sfits = c .before .before .before .before .before .before .before .before .before .before .before .before .before .before .before .before .before .before .before .before .before .struct-told3 .given .1 .1 .1 .0 .1 })) at (c .before .before .put-reading3 .ensures)))))
-
-same-length : tie.Need-same-length
-same-length c = clips-long (returns c)
+returns c = then (c .before .before .before .before .before .before .before .before .before .put-hexadecimal .ensures)
+    (then (rw (c .before .before .before .before .before .before .before .before .before .before .before .before .before .before .before .before .signed-32 .ensures, toZ-ofZ w32 (c .before .before .before .before .before .before .before .before .before .before .before .before .before .before .before .before .before .before .args .traffic .latitude) (record { sfits = c .before .before .before .before .before .before .before .before .before .before .before .before .before .before .before .before .before .struct-told .given .1 .0 .1 })) at (c .before .before .before .before .before .before .put-reading .ensures))
+    (then (rw (c .before .before .before .before .before .before .before .before .before .before .before .before .before .before .signed-322 .ensures, toZ-ofZ w32 (c .before .before .before .before .before .before .before .before .before .before .before .before .before .before .before .before .before .before .args .traffic .longitude) (record { sfits = c .before .before .before .before .before .before .before .before .before .before .before .before .before .before .before .struct-told2 .given .1 .1 .0 .1 })) at (c .before .before .before .put-reading2 .ensures))
+    (last-piece (rw (c .before .before .before .before .before .before .before .before .before .before .before .before .signed-323 .ensures, toZ-ofZ w32 (c .before .before .before .before .before .before .before .before .before .before .before .before .before .before .before .before .before .before .args .traffic .altitude) (record { sfits = c .before .before .before .before .before .before .before .before .before .before .before .before .before .struct-told3 .given .1 .1 .1 .0 .1 })) at (c .put-reading3 .ensures)))))
 
 pub put-position-spec : {M : Type 1} → statement M
 put-position-spec =
@@ -65,5 +62,4 @@ put-position-spec =
     put-reading-requires-2
     slice-aggregate-put-reading-3
     put-reading-requires-3
-    same-length
     returns)

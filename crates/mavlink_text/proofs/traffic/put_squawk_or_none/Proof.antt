@@ -1,7 +1,6 @@
 -- `mavlink_text::traffic::put_squawk_or_none` meets its contract, with a code and without. Assumes nothing.
 use borrow.Author.Tests.{eq-eqb, ne-eqb}
 use mathlib.Core.Path.{refl}
-use borrow.Author.Needs.{needs}
 use Rattle.mavlink_text.proofs.traffic.put_squawk_or_none.Statement.{statement}
 use Rattle.mavlink_text.proofs.traffic.put_squawk_or_none.Tie as tie
 
@@ -11,11 +10,8 @@ slice-aggregate-put-none c = refl
 put-none-requires : tie.Need-put-none-requires
 put-none-requires c κs = tt
 
-same-length : tie.Need-same-length
-same-length c = search needs
-
 returns : tie.Need-returns
-returns c = rw (eq-eqb (c .before .before .before .before .before .before .before .args .n) 65535 (c .before .before .before .before .before .if1 .taken)) (c .before .before .put-none .ensures)
+returns c = rw (eq-eqb (c .before .before .before .before .args .n) 65535 (c .before .before .before .if1 .taken)) (c .put-none .ensures)
 
 slice-aggregate-put-squawk : tie.Need-slice-aggregate-put-squawk
 slice-aggregate-put-squawk c = refl
@@ -23,11 +19,8 @@ slice-aggregate-put-squawk c = refl
 put-squawk-requires : tie.Need-put-squawk-requires
 put-squawk-requires c κs = tt
 
-same-length-2 : tie.Need-same-length-2
-same-length-2 c = search needs
-
 returns-2 : tie.Need-returns-2
-returns-2 c = rw (ne-eqb (c .before .before .before .before .before .before .before .args .n) 65535 (c .before .before .before .before .before .if1 .left)) (c .before .before .put-squawk .ensures)
+returns-2 c = rw (ne-eqb (c .before .before .before .before .args .n) 65535 (c .before .before .before .if1 .left)) (c .put-squawk .ensures)
 
 pub put-squawk-or-none-spec : {M : Type 1} → statement M
 put-squawk-or-none-spec =
@@ -35,9 +28,7 @@ put-squawk-or-none-spec =
     (tie.spec
     slice-aggregate-put-none
     put-none-requires
-    same-length
     returns
     slice-aggregate-put-squawk
     put-squawk-requires
-    same-length-2
     returns-2)

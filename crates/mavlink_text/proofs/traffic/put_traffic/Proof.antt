@@ -3,7 +3,6 @@ use lib.ListN.{drop}
 use Rattle.mavlink_text.specs.Messages.{trafficParts}
 use Rattle.field_text.proofs.Parts.{fields-split}
 use Rattle.text_output.proofs.Clipped.{then}
-use borrow.Author.Needs.{needs}
 use Rattle.mavlink_text.proofs.traffic.put_traffic.Statement.{statement}
 use Rattle.mavlink_text.proofs.traffic.put_traffic.Tie as tie
 
@@ -16,15 +15,12 @@ put-motion-requires c κs = tt
 put-identity-requires : tie.Need-put-identity-requires
 put-identity-requires c κs = tt
 
-same-length : tie.Need-same-length
-same-length c = search needs
-
 returns : tie.Need-returns
 returns c =
-    let parts = trafficParts (c .before .before .before .before .before .before .before .before .before .before .before .before .before .args .traffic) in
-    rw (fields-split 4 parts) at (then (c .before .before .before .before .before .before .before .before .before .before .put-position .ensures) (rw (fields-split 4 (drop 4 parts)) at (then (c .before .before .before .before .before .before .put-motion .ensures) (c .before .before .put-identity .ensures))))
+    let parts = trafficParts (c .before .before .before .before .before .before .args .traffic) in
+    rw (fields-split 4 parts) at (then (c .before .before .before .before .put-position .ensures) (rw (fields-split 4 (drop 4 parts)) at (then (c .before .before .put-motion .ensures) (c .put-identity .ensures))))
 
 pub put-traffic-spec : {M : Type 1} → statement M
 put-traffic-spec =
     tie.close
-    (tie.spec put-position-requires put-motion-requires put-identity-requires same-length returns)
+    (tie.spec put-position-requires put-motion-requires put-identity-requires returns)
