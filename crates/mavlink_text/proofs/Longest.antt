@@ -12,7 +12,9 @@ use Rattle.mavlink_messages.specs.declared.Lowest.the-variants.{Bit, None}
 use Rattle.mavlink_messages.specs.declared.Failures.{Failures}
 use Rattle.mavlink_messages.specs.declared.Message.{Message}
 use Rattle.mavlink_messages.specs.declared.Message.the-variants.{DataStream, Static, Dynamic, Status, Traffic}
-use Rattle.mavlink_text.specs.Messages.{headerParts, dataStreamParts, staticParts, dynamicParts, lowestShown, statusParts, trafficParts, messageShown}
+use Rattle.dynamic_text.specs.Parts.{dynamicParts}
+use Rattle.traffic_text.specs.Parts.{trafficParts}
+use Rattle.mavlink_text.specs.Messages.{headerParts, dataStreamParts, staticParts, lowestShown, statusParts, messageShown}
 
 lowest-most : (l : Lowest) → most (lowestShown l) ≤ 47
 lowest-most (Bit b) = omega arith

@@ -1,17 +1,16 @@
 -- The fields of each MAVLink kind as they are shown, in the order of its layout: units and marks for unknown as document 001
--- has them, north and east velocity in cm/s as document 01 decides. Assumes nothing.
+-- has them. Assumes nothing.
 use Prim.Native.String.{String}
-use mathlib.Core.Bool.{cond}
 use mathlib.Core.List.{List, [], _∷_, _++_}
 use Prim.Native.Nat.{ℕ}
-use lib.Dec.{eqb}
 use lib.IntN.{pos}
-use Rattle.octet_fields.specs.Texts.{textOctets}
-use Rattle.text_output.specs.declared.Scale.the-variants.{Ones, Hundredths, Thousandths, TenMillionths}
+use Rattle.text_output.specs.declared.Scale.the-variants.{Ones, Hundredths}
 use Rattle.text_output.specs.Text.{codes}
 use Rattle.field_text.specs.declared.Reading.the-variants.{Known}
-use Rattle.field_text.specs.declared.Unit.the-variants.{Bare, Seconds, Metres, MetresPerSecond}
-use Rattle.field_text.specs.Fields.{unless, Value, number, reading, squawk, hexadecimal, quoted, text, none, Part, _is_, fields}
+use Rattle.field_text.specs.declared.Unit.the-variants.{Bare, MetresPerSecond}
+use Rattle.field_text.specs.Fields.{Value, number, reading, hexadecimal, text, none, Part, _is_, fields}
+use Rattle.dynamic_text.specs.Parts.{dynamicParts}
+use Rattle.traffic_text.specs.Parts.{trafficParts}
 use Rattle.mavlink_frame.specs.declared.Header.{Header}
 use Rattle.mavlink_messages.specs.declared.DataStream.{DataStream}
 use Rattle.mavlink_messages.specs.declared.Static.{Static}
@@ -55,28 +54,6 @@ staticParts s =
     ∷ "longitudinal" is number (s .longitudinal)
     ∷ []
 
--- 202
-abbrev pub dynamicParts : Dynamic → List Part
-dynamicParts d =
-    "utc time" is reading Ones Seconds (unless 4294967295 (pos (d .utc)))
-    ∷ "latitude" is reading TenMillionths Bare (unless 2147483647 (d .latitude))
-    ∷ "longitude" is reading TenMillionths Bare (unless 2147483647 (d .longitude))
-    ∷ "pressure altitude" is reading Thousandths Metres (unless 2147483647 (d .pressure))
-    ∷ "gnss altitude" is reading Thousandths Metres (unless 2147483647 (d .gnss))
-    ∷ "horizontal accuracy" is reading Thousandths Metres (unless 4294967295 (pos (d .horizontal)))
-    ∷ "vertical accuracy" is reading Hundredths Metres (unless 65535 (pos (d .vertical)))
-    ∷ "velocity accuracy" is reading Thousandths MetresPerSecond (unless 65535 (pos (d .velocity)))
-    ∷ "vertical speed" is reading Hundredths MetresPerSecond (unless 32767 (d .climb))
-    ∷ "north velocity" is reading Hundredths MetresPerSecond (unless 32767 (d .north))
-    ∷ "east velocity" is reading Hundredths MetresPerSecond (unless 32767 (d .east))
-    ∷ "state" is hexadecimal 4 (d .state)
-    ∷ "squawk" is squawk (d .squawk)
-    ∷ "fix" is number (d .fix)
-    ∷ "satellites" is reading Ones Bare (unless 255 (pos (d .satellites)))
-    ∷ "emergency" is number (d .emergency)
-    ∷ "control" is hexadecimal 2 (d .control)
-    ∷ []
-
 abbrev pub lowestShown : Lowest → Value
 lowestShown (Bit b) = reading Ones Bare (Known (pos b))
 lowestShown None = none
@@ -87,28 +64,6 @@ statusParts s f =
     "status" is hexadecimal 2 (s .status)
     ∷ "failures" is reading Ones Bare (Known (pos (f .count)))
     ∷ "lowest" is lowestShown (f .lowest)
-    ∷ []
-
--- 65535 is no code
-abbrev pub squawkOrNone : ℕ → Value
-squawkOrNone n = cond (eqb n 65535) none (squawk n)
-
--- 246
-abbrev pub trafficParts : Traffic → List Part
-trafficParts t =
-    "address" is hexadecimal 8 (t .address)
-    ∷ "latitude" is reading TenMillionths Bare (Known (t .latitude))
-    ∷ "longitude" is reading TenMillionths Bare (Known (t .longitude))
-    ∷ "altitude" is reading Thousandths Metres (Known (t .altitude))
-    ∷ "heading" is reading Hundredths Bare (Known (pos (t .heading)))
-    ∷ "horizontal velocity" is reading Hundredths MetresPerSecond (Known (pos (t .speed)))
-    ∷ "vertical velocity" is reading Hundredths MetresPerSecond (Known (t .climb))
-    ∷ "valid" is hexadecimal 4 (t .valid)
-    ∷ "squawk" is squawkOrNone (t .squawk)
-    ∷ "altitude type" is number (t .datum)
-    ∷ "callsign" is quoted (textOctets (t .callsign) ++ t .ninth ∷ [])
-    ∷ "emitter" is number (t .emitter)
-    ∷ "age" is reading Ones Seconds (Known (pos (t .age)))
     ∷ []
 
 -- a kind's name, and the frame's header

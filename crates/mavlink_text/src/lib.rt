@@ -1,7 +1,4 @@
 // The MAVLink kinds, each by its name, its frame's header and its fields in users' units.
-mod dynamic;
-mod traffic;
-
 use field_text::Unit;
 use field_text::put_hexadecimal;
 use field_text::put_none;
@@ -122,7 +119,7 @@ pub fn put_message(
         }
         Message::Dynamic(dynamic_data) => {
             let at = put_heading(text, at, b" dynamic", header);
-            dynamic::put_dynamic(text, at, dynamic_data)
+            dynamic_text::put_dynamic(text, at, dynamic_data)
         }
         Message::Status(status) => {
             let at = put_heading(text, at, b" status", header);
@@ -130,7 +127,7 @@ pub fn put_message(
         }
         Message::Traffic(report) => {
             let at = put_heading(text, at, b" traffic report", header);
-            traffic::put_traffic(text, at, report)
+            traffic_text::put_traffic(text, at, report)
         }
     }
 }

@@ -7,7 +7,8 @@ use Rattle.text_output.proofs.Spelled.{hex-length}
 use Rattle.field_text.proofs.Longest.{fields-most}
 use Rattle.ucp_messages.specs.declared.Message.{Message}
 use Rattle.ucp_messages.specs.declared.Message.the-variants.{Heartbeat as HeartbeatMessage, Uplink as UplinkMessage, Ownship as OwnshipMessage, GeometricAltitude as GeometricMessage, Traffic as TrafficMessage, Request as RequestMessage, Control as ControlMessage, Initialization as InitializationMessage}
-use Rattle.message_text.specs.Messages.{heartbeatParts, reportParts, geometricParts, requestParts, controlParts, initializationParts, messageShown}
+use Rattle.report_text.specs.Parts.{reportParts, geometricParts}
+use Rattle.message_text.specs.Messages.{heartbeatParts, requestParts, controlParts, initializationParts, messageShown}
 
 pub message-most : (m : Message) (body : List ℕ) → length body ≤ 436 → length (messageShown m body) ≤ 1330
 unfolding messageShown

@@ -1,58 +1,21 @@
 -- The fields of each kind of message as they are shown, in the order of its definition. Assumes nothing.
 use mathlib.Core.List.{List, [], _∷_, _++_}
 use Prim.Native.Nat.{ℕ, _+_, _*_, _/_}
-use lib.IntN.{ℤ, pos}
+use lib.IntN.{pos}
 use lib.ListN.{drop}
 use Rattle.text_output.specs.declared.Spelling.the-variants.{Hex}
-use Rattle.text_output.specs.declared.Scale.the-variants.{Ones, Thousandths, TenMillionths}
+use Rattle.text_output.specs.declared.Scale.the-variants.{Ones, Thousandths}
 use Rattle.text_output.specs.Text.{codes, spelled}
-use Rattle.field_text.specs.declared.Reading.{Reading}
-use Rattle.field_text.specs.declared.Reading.the-variants.{NoData, Known}
-use Rattle.field_text.specs.declared.Unit.the-variants.{Bare, Seconds, Feet, FeetPerMinute, Knots, Metres}
-use Rattle.field_text.specs.Fields.{unless, Value, number, reading, squawk, hexadecimal, text, truth, Part, _is_, fields}
-use Rattle.message_meanings.specs.declared.Altitude.{Altitude}
-use Rattle.message_meanings.specs.declared.Altitude.the-variants.{NoData as NoAltitude, Feet as AltitudeInFeet}
-use Rattle.message_meanings.specs.declared.Rate.{Rate}
-use Rattle.message_meanings.specs.declared.Rate.the-variants.{NoData as NoRate, FeetPerMinute as RateInFeet}
-use Rattle.message_meanings.specs.Meanings.{altitudeMeans, rateMeans, geometricMeans, degreesE7}
+use Rattle.field_text.specs.declared.Reading.the-variants.{Known}
+use Rattle.field_text.specs.declared.Unit.the-variants.{Seconds, Metres}
+use Rattle.field_text.specs.Fields.{unless, number, reading, squawk, hexadecimal, text, truth, Part, _is_, fields}
+use Rattle.report_text.specs.Parts.{knots, reportParts, geometricParts}
 use Rattle.gdl90_messages.specs.declared.Heartbeat.{Heartbeat}
-use Rattle.gdl90_messages.specs.declared.Report.{Report}
-use Rattle.gdl90_messages.specs.declared.GeometricAltitude.{GeometricAltitude}
 use Rattle.control_messages.specs.declared.Request.{Request}
 use Rattle.control_messages.specs.declared.Control.{Control}
 use Rattle.control_messages.specs.declared.Initialization.{Initialization}
 use Rattle.ucp_messages.specs.declared.Message.{Message}
 use Rattle.ucp_messages.specs.declared.Message.the-variants.{Heartbeat as HeartbeatMessage, Uplink as UplinkMessage, Ownship as OwnshipMessage, GeometricAltitude as GeometricMessage, Traffic as TrafficMessage, Request as RequestMessage, Control as ControlMessage, Initialization as InitializationMessage}
-
--- ---- raw numbers of messages 10 and 20
-
-abbrev pub altitudeReading : Altitude → Reading
-altitudeReading NoAltitude = NoData
-altitudeReading (AltitudeInFeet z) = Known z
-
-abbrev pub rateReading : Rate → Reading
-rateReading NoRate = NoData
-rateReading (RateInFeet z) = Known z
-
-abbrev pub altitude : ℕ → Value
-altitude n = reading Ones Feet (altitudeReading (altitudeMeans n))
-
-abbrev pub rate : ℤ → Value
-rate z = reading Ones FeetPerMinute (rateReading (rateMeans z))
-
--- in degrees
-abbrev pub angle : ℤ → Value
-angle z = reading TenMillionths Bare (Known (degreesE7 z))
-
--- 360 degrees in 2^8 steps are 180 degrees in 2^7, so each is 2^16 steps of an angle
-abbrev pub track : ℕ → Value
-track n = angle (pos (n * 65536))
-
--- FFF is no data (GDL90 public ICD, horizontal velocity); a stall speed's octet can't hold it
-abbrev pub knots : ℕ → Value
-knots n = reading Ones Knots (unless 4095 (pos n))
-
--- ---- the fields of each kind
 
 -- seconds since midnight: bit 16 is bit 7 of the second status octet (document 003, section 6.2.1)
 abbrev pub seconds : Heartbeat → ℕ
@@ -65,30 +28,6 @@ heartbeatParts h =
     ∷ "time" is reading Ones Seconds (Known (pos (seconds h)))
     ∷ "counts" is hexadecimal 4 (h .counts)
     ∷ []
-
-abbrev pub reportParts : Report → List Part
-reportParts r =
-    "alert" is number (r .alert)
-    ∷ "address type" is number (r .«address_type»)
-    ∷ "address" is hexadecimal 6 (r .address)
-    ∷ "latitude" is angle (r .latitude)
-    ∷ "longitude" is angle (r .longitude)
-    ∷ "altitude" is altitude (r .altitude)
-    ∷ "miscellaneous" is number (r .miscellaneous)
-    ∷ "nic" is number (r .nic)
-    ∷ "nacp" is number (r .nacp)
-    ∷ "speed" is knots (r .speed)
-    ∷ "vertical rate" is rate (r .«vertical_rate»)
-    ∷ "track" is track (r .track)
-    ∷ "emitter" is number (r .emitter)
-    ∷ "callsign" is text (r .callsign)
-    ∷ "emergency" is number (r .emergency)
-    ∷ "spare" is number (r .spare)
-    ∷ []
-
-abbrev pub geometricParts : GeometricAltitude → List Part
-geometricParts g =
-    "altitude" is reading Ones Feet (Known (geometricMeans (g .altitude))) ∷ "metrics" is hexadecimal 4 (g .metrics) ∷ []
 
 abbrev pub requestParts : Request → List Part
 requestParts r = "requested" is number (r .«requested_id») ∷ []

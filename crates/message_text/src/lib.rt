@@ -1,6 +1,4 @@
 // The kinds of message on the UCP line, each by its name and its fields in users' units.
-mod readings;
-
 use control_messages::Control;
 use control_messages::Initialization;
 use control_messages::Request;
@@ -19,12 +17,12 @@ use text_output::Spelling;
 use text_output::put_word;
 use ucp_messages::Message;
 ghost use mathlib.Core.Path.{_≡_};
-ghost use mathlib.Core.List.{[], _++_};
+ghost use mathlib.Core.List.{[]};
 ghost use lib.ListN.{take, drop};
-ghost use Rattle.ucp_messages.specs.declared.Message.the-variants.{Heartbeat as HeartbeatMessage, Uplink as UplinkMessage, GeometricAltitude as GeometricMessage, Request as RequestMessage, Control as ControlMessage, Initialization as InitializationMessage};
+ghost use Rattle.ucp_messages.specs.declared.Message.the-variants.{Heartbeat as HeartbeatMessage, Uplink as UplinkMessage, Request as RequestMessage, Control as ControlMessage, Initialization as InitializationMessage};
 ghost use Rattle.text_output.specs.Clips.{Clips};
-ghost use Rattle.field_text.specs.Fields.{field, fields};
-ghost use Rattle.message_text.specs.Messages.{angle, knots, seconds, reportParts, controlParts, initializationParts, messageShown};
+ghost use Rattle.field_text.specs.Fields.{fields};
+ghost use Rattle.message_text.specs.Messages.{seconds, controlParts, initializationParts, messageShown};
 
 fn since_midnight(heartbeat: Heartbeat) -> u32
     ensures { λ r. ⌜ r ≡ seconds heartbeat ⌝ }
@@ -48,87 +46,6 @@ fn put_uplink(text: &mut [u8; 1536], at: usize, body: &[u8]) -> usize
 {
     let at = put_word(text, at, b" uplink payload");
     text_output::put_spelled(text, at, Spelling::Hex, body, 1)
-}
-
-fn put_angle(text: &mut [u8; 1536], at: usize, label: &[u8], n: i32) -> usize
-    ensures { λ r. ⌜ Clips (now (text .entry)) at (field (now (label .entry)) (angle n)) r (now (text .exit)) ⌝ }
-{
-    put_reading(
-        text,
-        at,
-        label,
-        Scale::TenMillionths,
-        Unit::Bare,
-        readings::angle(n),
-    )
-}
-
-fn put_knots(text: &mut [u8; 1536], at: usize, label: &[u8], n: u16) -> usize
-    ensures { λ r. ⌜ Clips (now (text .entry)) at (field (now (label .entry)) (knots n)) r (now (text .exit)) ⌝ }
-{
-    let speed = field_text::unless_unsigned(n as u32, 4095);
-    put_reading(text, at, label, Scale::Ones, Unit::Knots, speed)
-}
-
-fn put_position(text: &mut [u8; 1536], at: usize, report: Report) -> usize
-    ensures { λ r. ⌜ Clips (now (text .entry)) at (fields (take 5 (reportParts report))) r (now (text .exit)) ⌝ }
-{
-    let at = put_number(text, at, b"alert", report.alert);
-    let at = put_number(text, at, b"address type", report.address_type);
-    let at = put_hexadecimal(text, at, b"address", 6, report.address);
-    let at = put_angle(text, at, b"latitude", report.latitude);
-    put_angle(text, at, b"longitude", report.longitude)
-}
-
-fn put_motion(text: &mut [u8; 1536], at: usize, report: Report) -> usize
-    ensures { λ r. ⌜ Clips (now (text .entry)) at (fields (take 7 (drop 5 (reportParts report)))) r (now (text .exit)) ⌝ }
-{
-    let altitude = readings::altitude(report.altitude);
-    let rate = readings::rate(report.vertical_rate);
-    let track = readings::track(report.track);
-    let at = put_reading(text, at, b"altitude", Scale::Ones, Unit::Feet, altitude);
-    let at = put_number(text, at, b"miscellaneous", report.miscellaneous);
-    let at = put_number(text, at, b"nic", report.nic);
-    let at = put_number(text, at, b"nacp", report.nacp);
-    let at = put_knots(text, at, b"speed", report.speed);
-    let at = put_reading(
-        text,
-        at,
-        b"vertical rate",
-        Scale::Ones,
-        Unit::FeetPerMinute,
-        rate,
-    );
-    put_reading(text, at, b"track", Scale::TenMillionths, Unit::Bare, track)
-}
-
-fn put_vehicle(text: &mut [u8; 1536], at: usize, report: Report) -> usize
-    ensures { λ r. ⌜ Clips (now (text .entry)) at (fields (drop 7 (drop 5 (reportParts report)))) r (now (text .exit)) ⌝ }
-{
-    let callsign = report.callsign;
-    let at = put_number(text, at, b"emitter", report.emitter);
-    let at = put_text(text, at, b"callsign", callsign);
-    let at = put_number(text, at, b"emergency", report.emergency);
-    put_number(text, at, b"spare", report.spare)
-}
-
-// Ownship and traffic are told apart by the name.
-fn put_report(text: &mut [u8; 1536], at: usize, name: &[u8], report: Report) -> usize
-    ensures { λ r. ⌜ Clips (now (text .entry)) at (now (name .entry) ++ fields (reportParts report)) r (now (text .exit)) ⌝ }
-{
-    let at = put_word(text, at, name);
-    let at = put_position(text, at, report);
-    let at = put_motion(text, at, report);
-    put_vehicle(text, at, report)
-}
-
-fn put_geometric(text: &mut [u8; 1536], at: usize, geometric: GeometricAltitude) -> usize
-    ensures { λ r. ⌜ Clips (now (text .entry)) at (messageShown (GeometricMessage geometric) []) r (now (text .exit)) ⌝ }
-{
-    let altitude = readings::geometric(geometric.altitude);
-    let at = put_word(text, at, b" geometric altitude");
-    let at = put_reading(text, at, b"altitude", Scale::Ones, Unit::Feet, altitude);
-    put_hexadecimal(text, at, b"metrics", 4, geometric.metrics as u32)
 }
 
 fn put_request(text: &mut [u8; 1536], at: usize, request: Request) -> usize
@@ -179,7 +96,7 @@ fn put_control(text: &mut [u8; 1536], at: usize, control: Control) -> usize
 fn put_airframe(text: &mut [u8; 1536], at: usize, initialization: Initialization) -> usize
     ensures { λ r. ⌜ Clips (now (text .entry)) at (fields (drop 4 (initializationParts initialization))) r (now (text .exit)) ⌝ }
 {
-    let at = put_knots(text, at, b"stall speed", initialization.stall_speed as u16);
+    let at = report_text::put_knots(text, at, b"stall speed", initialization.stall_speed as u16);
     let at = put_number(text, at, b"size", initialization.size);
     let at = put_number(text, at, b"lateral", initialization.lateral);
     put_number(text, at, b"longitudinal", initialization.longitudinal)
@@ -204,9 +121,9 @@ pub fn put_message(text: &mut [u8; 1536], at: usize, message: Message, body: &[u
     match message {
         Message::Heartbeat(heartbeat) => put_heartbeat(text, at, heartbeat),
         Message::Uplink => put_uplink(text, at, body),
-        Message::Ownship(report) => put_report(text, at, b" ownship", report),
-        Message::GeometricAltitude(geometric) => put_geometric(text, at, geometric),
-        Message::Traffic(report) => put_report(text, at, b" traffic", report),
+        Message::Ownship(report) => report_text::put_report(text, at, b" ownship", report),
+        Message::GeometricAltitude(geometric) => report_text::put_geometric(text, at, geometric),
+        Message::Traffic(report) => report_text::put_report(text, at, b" traffic", report),
         Message::Request(request) => put_request(text, at, request),
         Message::Control(control) => put_control(text, at, control),
         Message::Initialization(initialization) => put_initialization(text, at, initialization),

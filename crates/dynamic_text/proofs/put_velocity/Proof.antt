@@ -1,0 +1,19 @@
+-- `dynamic_text::put_velocity` meets its contract. Assumes nothing.
+use Rattle.text_output.proofs.Clipped.{then, last-piece}
+use mathlib.Core.Path.{refl}
+use mir.Syntax.{w16}
+use mir.ValLaws.{toZ-ofZ}
+use Rattle.field_text.specs.Fields.{fields}
+use Rattle.dynamic_text.proofs.put_velocity.Statement.{statement}
+use Rattle.dynamic_text.proofs.put_velocity.Tie as tie
+
+returns : tie.Need-returns
+unfolding fields
+returns c = then (rw (toZ-ofZ w16 (c .before .before .before .before .before .before .before .before .before .before .before .before .args .dynamic .climb) (record { sfits = c .before .before .before .before .before .before .before .before .before .struct-told .given .1 .1 .1 .1 .1 .1 .1 .1 .0 .1 })) at (c .before .before .before .before .before .before .before .before .put-speed .ensures))
+    (then (rw (toZ-ofZ w16 (c .before .before .before .before .before .before .before .before .before .before .before .before .args .dynamic .north) (record { sfits = c .before .before .before .before .before .struct-told2 .given .1 .1 .1 .1 .1 .1 .1 .1 .1 .0 .1 })) at (c .before .before .before .before .put-speed2 .ensures))
+    (last-piece (rw (toZ-ofZ w16 (c .before .before .before .before .before .before .before .before .before .before .before .before .args .dynamic .east) (record { sfits = c .before .struct-told3 .given .1 .1 .1 .1 .1 .1 .1 .1 .1 .1 .0 .1 })) at (c .put-speed3 .ensures))))
+
+pub put-velocity-spec : {M : Type 1} → statement M
+put-velocity-spec =
+    tie.close
+    (tie.spec (λ c. refl) (λ c κs. tt) (λ c. refl) (λ c κs. tt) (λ c. refl) (λ c κs. tt) returns)

@@ -1,0 +1,64 @@
+-- `report_text::put_position` meets its contract. Assumes nothing.
+use mathlib.Core.Path.{refl}
+use mir.Syntax.{w32}
+use mir.ValLaws.{toZ-ofZ}
+use Rattle.field_text.specs.Fields.{fields}
+use Rattle.text_output.proofs.Clipped.{then, last-piece}
+use Rattle.report_text.proofs.put_position.Statement.{statement}
+use Rattle.report_text.proofs.put_position.Tie as tie
+
+slice-aggregate-put-number : tie.Need-slice-aggregate-put-number
+slice-aggregate-put-number c = refl
+
+put-number-requires : tie.Need-put-number-requires
+put-number-requires c κs = tt
+
+slice-aggregate-put-number-2 : tie.Need-slice-aggregate-put-number-2
+slice-aggregate-put-number-2 c = refl
+
+put-number-requires-2 : tie.Need-put-number-requires-2
+put-number-requires-2 c κs = tt
+
+slice-aggregate-put-hexadecimal : tie.Need-slice-aggregate-put-hexadecimal
+slice-aggregate-put-hexadecimal c = refl
+
+put-hexadecimal-requires : tie.Need-put-hexadecimal-requires
+put-hexadecimal-requires c κs = tt
+
+slice-aggregate-put-angle : tie.Need-slice-aggregate-put-angle
+slice-aggregate-put-angle c = refl
+
+put-angle-requires : tie.Need-put-angle-requires
+put-angle-requires c κs = tt
+
+slice-aggregate-put-angle-2 : tie.Need-slice-aggregate-put-angle-2
+slice-aggregate-put-angle-2 c = refl
+
+put-angle-requires-2 : tie.Need-put-angle-requires-2
+put-angle-requires-2 c κs = tt
+
+returns : tie.Need-returns
+unfolding fields
+returns c =
+    let r = c .before .before .before .before .before .before .before .before .before .before .before .before .before .before .before .before .before .args .report in
+    then (c .before .before .before .before .before .before .before .before .before .before .before .before .before .before .put-number .ensures)
+    (then (c .before .before .before .before .before .before .before .before .before .before .before .put-number2 .ensures)
+    (then (c .before .before .before .before .before .before .before .before .put-hexadecimal .ensures)
+    (then (rw (toZ-ofZ w32 (r .latitude) (record { sfits = c .before .before .before .before .before .struct-told .given .1 .1 .1 .0 .1 })) at (c .before .before .before .before .put-angle .ensures))
+    (last-piece (rw (toZ-ofZ w32 (r .longitude) (record { sfits = c .before .struct-told2 .given .1 .1 .1 .1 .0 .1 })) at (c .put-angle2 .ensures))))))
+
+pub put-position-spec : {M : Type 1} → statement M
+put-position-spec =
+    tie.close
+    (tie.spec
+    slice-aggregate-put-number
+    put-number-requires
+    slice-aggregate-put-number-2
+    put-number-requires-2
+    slice-aggregate-put-hexadecimal
+    put-hexadecimal-requires
+    slice-aggregate-put-angle
+    put-angle-requires
+    slice-aggregate-put-angle-2
+    put-angle-requires-2
+    returns)
