@@ -160,13 +160,10 @@ fn no_failures() -> Failures
 fn message_failures(message: Message) -> Failures
     ensures { λ r. ⌜ r ≡ failuresOf message ⌝ }
 {
-    match message {
-        Message::Status(status) => failures_of(status.status),
-        Message::DataStream(_) => no_failures(),
-        Message::Static(_) => no_failures(),
-        Message::Dynamic(_) => no_failures(),
-        Message::Traffic(_) => no_failures(),
+    if let Message::Status(status) = message {
+        return failures_of(status.status);
     }
+    no_failures()
 }
 
 // ---- writing: 25 for a field outside its range, then 8. On a refusal nothing is written.

@@ -1,7 +1,7 @@
 // Message 202, the dynamic data of an aircraft.
 use super::Dynamic;
 ghost use mathlib.Core.Path.{_≡_};
-ghost use lib.ListN.{length};
+ghost use lib.ListN.{length, take, drop};
 ghost use Rattle.mavlink_messages.specs.Dynamic.{dynamicIn, dynamicPayload};
 ghost use Rattle.mavlink_messages.specs.Ranges.{dynamicInRange};
 
@@ -39,19 +39,23 @@ pub fn in_range(dynamic: Dynamic) -> bool
 pub fn octets(dynamic: Dynamic) -> [u8; 42]
     ensures { λ r. ⌜ r ≡ dynamicPayload dynamic ⌝ }
 {
+    let first = first_octets(dynamic);
+    let last = last_octets(dynamic);
+    let mut octets = [0; 42];
+    super::numbers::join(&first, &last, &mut octets);
+    octets
+}
+
+// The numbers of 32 bits, which come first.
+fn first_octets(dynamic: Dynamic) -> [u8; 24]
+    ensures { λ r. ⌜ r ≡ take 24 (dynamicPayload dynamic) ⌝ }
+{
     let utc = super::numbers::little_32(dynamic.utc);
     let latitude = super::numbers::signed_32(dynamic.latitude);
     let longitude = super::numbers::signed_32(dynamic.longitude);
     let pressure = super::numbers::signed_32(dynamic.pressure);
     let gnss = super::numbers::signed_32(dynamic.gnss);
     let horizontal = super::numbers::little_32(dynamic.horizontal);
-    let vertical = super::numbers::little_16(dynamic.vertical);
-    let velocity = super::numbers::little_16(dynamic.velocity);
-    let climb = super::numbers::signed_16(dynamic.climb);
-    let north = super::numbers::signed_16(dynamic.north);
-    let east = super::numbers::signed_16(dynamic.east);
-    let state = super::numbers::little_16(dynamic.state);
-    let squawk = super::numbers::little_16(dynamic.squawk);
     [
         utc.0,
         utc.1,
@@ -77,6 +81,21 @@ pub fn octets(dynamic: Dynamic) -> [u8; 42]
         horizontal.1,
         horizontal.2,
         horizontal.3,
+    ]
+}
+
+// The numbers of 16 bits, and the single octets.
+fn last_octets(dynamic: Dynamic) -> [u8; 18]
+    ensures { λ r. ⌜ r ≡ drop 24 (dynamicPayload dynamic) ⌝ }
+{
+    let vertical = super::numbers::little_16(dynamic.vertical);
+    let velocity = super::numbers::little_16(dynamic.velocity);
+    let climb = super::numbers::signed_16(dynamic.climb);
+    let north = super::numbers::signed_16(dynamic.north);
+    let east = super::numbers::signed_16(dynamic.east);
+    let state = super::numbers::little_16(dynamic.state);
+    let squawk = super::numbers::little_16(dynamic.squawk);
+    [
         vertical.0,
         vertical.1,
         velocity.0,

@@ -1,7 +1,7 @@
 // Message 246, a report of traffic.
 use super::Traffic;
 ghost use mathlib.Core.Path.{_≡_};
-ghost use lib.ListN.{length};
+ghost use lib.ListN.{length, take, drop};
 ghost use Rattle.mavlink_messages.specs.Traffic.{trafficIn, trafficPayload};
 ghost use Rattle.mavlink_messages.specs.Ranges.{trafficInRange};
 
@@ -36,16 +36,21 @@ pub fn in_range(traffic: Traffic) -> bool
 pub fn octets(traffic: Traffic) -> [u8; 38]
     ensures { λ r. ⌜ r ≡ trafficPayload traffic ⌝ }
 {
+    let first = first_octets(traffic);
+    let last = last_octets(traffic);
+    let mut octets = [0; 38];
+    super::numbers::join(&first, &last, &mut octets);
+    octets
+}
+
+// The numbers of 32 bits, which come first.
+fn first_octets(traffic: Traffic) -> [u8; 16]
+    ensures { λ r. ⌜ r ≡ take 16 (trafficPayload traffic) ⌝ }
+{
     let address = super::numbers::little_32(traffic.address);
     let latitude = super::numbers::signed_32(traffic.latitude);
     let longitude = super::numbers::signed_32(traffic.longitude);
     let altitude = super::numbers::signed_32(traffic.altitude);
-    let heading = super::numbers::little_16(traffic.heading);
-    let speed = super::numbers::little_16(traffic.speed);
-    let climb = super::numbers::signed_16(traffic.climb);
-    let valid = super::numbers::little_16(traffic.valid);
-    let squawk = super::numbers::little_16(traffic.squawk);
-    let text = traffic.callsign;
     [
         address.0,
         address.1,
@@ -63,6 +68,20 @@ pub fn octets(traffic: Traffic) -> [u8; 38]
         altitude.1,
         altitude.2,
         altitude.3,
+    ]
+}
+
+// The numbers of 16 bits, and the single octets.
+fn last_octets(traffic: Traffic) -> [u8; 22]
+    ensures { λ r. ⌜ r ≡ drop 16 (trafficPayload traffic) ⌝ }
+{
+    let heading = super::numbers::little_16(traffic.heading);
+    let speed = super::numbers::little_16(traffic.speed);
+    let climb = super::numbers::signed_16(traffic.climb);
+    let valid = super::numbers::little_16(traffic.valid);
+    let squawk = super::numbers::little_16(traffic.squawk);
+    let text = traffic.callsign;
+    [
         heading.0,
         heading.1,
         speed.0,

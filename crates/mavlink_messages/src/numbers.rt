@@ -1,7 +1,8 @@
-// A number's octets, least significant octet first.
+// A number's octets, least significant octet first; and octets joined.
 ghost use mathlib.Core.Path.{_≡_};
-ghost use mathlib.Core.List.{[], _∷_};
-ghost use Prim.Native.Nat.{_<_};
+ghost use mathlib.Core.List.{[], _∷_, _++_};
+ghost use Prim.Native.Nat.{_<_, _+_};
+ghost use lib.ListN.{length};
 ghost use Rattle.octet_fields.specs.Layout.{low, runOctets};
 ghost use Rattle.twos_complement.specs.Signed.{complement};
 ghost use Rattle.mavlink_messages.specs.Octets.{two, three, four};
@@ -53,4 +54,14 @@ pub fn signed_32(number: i32) -> Four
     ensures { λ r. ⌜ four r ≡ runOctets (low 4) (complement 2147483648 number ∷ []) ⌝ }
 {
     little_32(twos_complement::bits_32(number))
+}
+
+// Puts octets behind others, into an output that has just the room for both.
+pub fn join(first: &[u8], last: &[u8], output: &mut [u8])
+    requires { ⌜ length (now first) + length (now last) ≡ length (now output) ⌝ }
+    ensures { λ r. ⌜ now (output .exit) ≡ now (first .entry) ++ now (last .entry) ⌝ }
+{
+    let n = first.len();
+    octet_fields::store(first, output);
+    octet_fields::store(last, &mut output[n..]);
 }

@@ -1,7 +1,24 @@
--- `mavlink_messages::message_failures` meets its contract, kind by kind. Assumes nothing.
+-- `mavlink_messages::message_failures` meets its contract: what is no status reports none. Assumes nothing.
+use mathlib.Core.Path.{_≡_, refl, _∙_}
+use mathlib.Core.List.{[], _∷_}
+use denote.Enum.Declared.{tagOf}
+use types.Run.{OneOf, miss}
+use Rattle.mavlink_messages.specs.declared.Message.{Message}
+use Rattle.mavlink_messages.specs.declared.Message.the-variants.{DataStream, Static, Dynamic, Status, Traffic}
+use Rattle.mavlink_messages.specs.Failures.{noFailures}
+use Rattle.mavlink_messages.specs.Messages.{failuresOf}
+use Rattle.mavlink_messages.proofs.Message.{the-type}
 use borrow.Author.Needs.{needs}
 use Rattle.mavlink_messages.proofs.message_failures.Statement.{statement}
 use Rattle.mavlink_messages.proofs.message_failures.Tie as tie
+
+-- the tags of the kinds but the status
+none : (m : Message) → OneOf (0 ∷ 1 ∷ 2 ∷ 4 ∷ []) (tagOf the-type m) → noFailures ≡ failuresOf m
+none (DataStream d) k = refl
+none (Static s) k = refl
+none (Dynamic d) k = refl
+none (Status s) k = absurd (miss (0 ∷ 1 ∷ 2 ∷ 4 ∷ []) 3 tt k)
+none (Traffic t) k = refl
 
 enum-known-message : tie.Need-enum-known-message
 enum-known-message c = search needs
@@ -9,61 +26,16 @@ enum-known-message c = search needs
 failures-of-requires : tie.Need-failures-of-requires
 failures-of-requires c κs = search needs
 
-enum-told : tie.Need-enum-told
-enum-told c = search needs
+returns : tie.Need-returns
+returns c = rw (c .before .before .message .given .1) (c .failures-of .ensures)
 
 no-failures-requires : tie.Need-no-failures-requires
 no-failures-requires c κs = search needs
 
-enum-told-2 : tie.Need-enum-told-2
-enum-told-2 c = search needs
-
-no-failures-requires-2 : tie.Need-no-failures-requires-2
-no-failures-requires-2 c κs = search needs
-
-enum-told-3 : tie.Need-enum-told-3
-enum-told-3 c = search needs
-
-no-failures-requires-3 : tie.Need-no-failures-requires-3
-no-failures-requires-3 c κs = search needs
-
-enum-told-4 : tie.Need-enum-told-4
-enum-told-4 c = search needs
-
-no-failures-requires-4 : tie.Need-no-failures-requires-4
-no-failures-requires-4 c κs = search needs
-
-returns : tie.Need-returns
-returns c = rw (c .before .before .message .given .1) (c .failures-of .ensures)
-
 returns-2 : tie.Need-returns-2
-returns-2 c = search needs
-
-returns-3 : tie.Need-returns-3
-returns-3 c = search needs
-
-returns-4 : tie.Need-returns-4
-returns-4 c = search needs
-
-returns-5 : tie.Need-returns-5
-returns-5 c = search needs
+returns-2 c = c .no-failures .ensures ∙ none (c .before .before .args .message) (c .before .match .keys2)
 
 pub message-failures-spec : {M : Type 1} → statement M
 message-failures-spec =
     tie.close
-    (tie.spec
-    enum-known-message
-    failures-of-requires
-    enum-told
-    no-failures-requires
-    enum-told-2
-    no-failures-requires-2
-    enum-told-3
-    no-failures-requires-3
-    enum-told-4
-    no-failures-requires-4
-    returns
-    returns-2
-    returns-3
-    returns-4
-    returns-5)
+    (tie.spec enum-known-message failures-of-requires returns no-failures-requires returns-2)

@@ -1,80 +1,46 @@
--- `mavlink_messages::message_246::octets` meets its contract, run by run. Assumes nothing.
-use mathlib.Core.List.{[], _∷_, _++_}
-use mir.Syntax.{w16, w32}
-use Rattle.octet_fields.specs.Texts.{textOctets}
+-- `mavlink_messages::message_246::octets` meets its contract: its two parts are the whole. Assumes nothing.
+use mathlib.Core.Path.{ap₂, _∙_}
+use mathlib.Core.List.{_++_}
+use lib.ListN.{take-append-drop}
 use Rattle.mavlink_messages.specs.Traffic.{trafficPayload}
-use Rattle.mavlink_messages.proofs.Signed.{put}
 use borrow.Author.Needs.{needs}
 use Rattle.mavlink_messages.proofs.message_246.octets.Statement.{statement}
 use Rattle.mavlink_messages.proofs.message_246.octets.Tie as tie
 
-little-32-requires : tie.Need-little-32-requires
-little-32-requires c κs = search needs
+first-octets-requires : tie.Need-first-octets-requires
+first-octets-requires c κs = search needs
 
-signed-32-requires : tie.Need-signed-32-requires
-signed-32-requires c κs = search needs
+last-octets-requires : tie.Need-last-octets-requires
+last-octets-requires c κs = search needs
 
-signed-32-requires-2 : tie.Need-signed-32-requires-2
-signed-32-requires-2 c κs = search needs
+slice-aggregate-join : tie.Need-slice-aggregate-join
+slice-aggregate-join c = search needs
 
-signed-32-requires-3 : tie.Need-signed-32-requires-3
-signed-32-requires-3 c κs = search needs
+slice-aggregate-join-2 : tie.Need-slice-aggregate-join-2
+slice-aggregate-join-2 c = search needs
 
-little-16-requires : tie.Need-little-16-requires
-little-16-requires c κs = search needs
+slice-aggregate-join-3 : tie.Need-slice-aggregate-join-3
+slice-aggregate-join-3 c = search needs
 
-little-16-requires-2 : tie.Need-little-16-requires-2
-little-16-requires-2 c κs = search needs
-
-signed-16-requires : tie.Need-signed-16-requires
-signed-16-requires c κs = search needs
-
-little-16-requires-3 : tie.Need-little-16-requires-3
-little-16-requires-3 c κs = search needs
-
-little-16-requires-4 : tie.Need-little-16-requires-4
-little-16-requires-4 c κs = search needs
+join-requires : tie.Need-join-requires
+join-requires c κs = search needs
 
 returns : tie.Need-returns
-unfolding trafficPayload
 returns c =
-    let at-squawk = c .before in
-    let at-valid = at-squawk .before in
-    let at-climb = at-valid .before in
-    let at-speed = at-climb .before .before in
-    let at-heading = at-speed .before in
-    let at-altitude = at-heading .before in
-    let at-longitude = at-altitude .before .before in
-    let at-latitude = at-longitude .before .before in
-    let at-address = at-latitude .before .before in
-    let v = at-address .before .args .traffic in
-    λ i. (at-address .little-32 .ensures i)
-    ++ (put w32 4 2147483648 (v .latitude) (record { sfits = at-latitude .before .struct-told .given .1 .0 .1 }) (at-latitude .signed-32 .ensures) i)
-    ++ (put w32 4 2147483648 (v .longitude) (record { sfits = at-longitude .before .struct-told2 .given .1 .1 .0 .1 }) (at-longitude .signed-322 .ensures) i)
-    ++ (put w32 4 2147483648 (v .altitude) (record { sfits = at-altitude .before .struct-told3 .given .1 .1 .1 .0 .1 }) (at-altitude .signed-323 .ensures) i)
-    ++ (at-heading .little-16 .ensures i)
-    ++ (at-speed .little-162 .ensures i)
-    ++ (put w16 2 32768 (v .climb) (record { sfits = at-climb .before .struct-told4 .given .1 .1 .1 .1 .1 .1 .0 .1 }) (at-climb .signed-16 .ensures) i)
-    ++ (at-valid .little-163 .ensures i)
-    ++ (at-squawk .little-164 .ensures i)
-    ++ v .datum
-    ∷ (textOctets (v .callsign))
-    ++ v .ninth
-    ∷ v .emitter
-    ∷ v .age
-    ∷ []
+    let at-last = c .before .before .before .before .before in
+    let at-first = at-last .before in
+    c .before .join .ensures
+    ∙ ap₂ _++_ (at-first .first-octets .ensures) (at-last .last-octets .ensures)
+    ∙ take-append-drop 16 (trafficPayload (at-first .before .args .traffic))
 
 pub octets-spec : {M : Type 1} → statement M
 octets-spec =
     tie.close
     (tie.spec
-    little-32-requires
-    signed-32-requires
-    signed-32-requires-2
-    signed-32-requires-3
-    little-16-requires
-    little-16-requires-2
-    signed-16-requires
-    little-16-requires-3
-    little-16-requires-4
+    first-octets-requires
+    last-octets-requires
+    slice-aggregate-join
+    slice-aggregate-join-2
+    slice-aggregate-join-3
+    join-requires
     returns)
