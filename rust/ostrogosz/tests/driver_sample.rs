@@ -64,17 +64,20 @@ fn changed_control(place: usize, octet: u8) -> Vec<u8> {
     frame(&body)
 }
 
+fn heartbeat() -> Message<'static> {
+    Message::Heartbeat(Heartbeat {
+        status_1: 0x81,
+        status_2: 0x41,
+        time_stamp: 0xD0DB,
+        counts: 0x0802,
+    })
+}
+
 /// Messages of every kind that the drivers tell apart, refused ones, and an
 /// open stretch at the end.
 fn capture() -> Vec<u8> {
     let mut ownship = TRAFFIC;
     ownship[0] = 10;
-    let heartbeat = Heartbeat {
-        status_1: 0x81,
-        status_2: 0x41,
-        time_stamp: 0xD0DB,
-        counts: 0x0802,
-    };
     let initialization = Initialization {
         callsign: *b"N825V   ",
         ..Initialization::default()
@@ -83,7 +86,7 @@ fn capture() -> Vec<u8> {
         // Before the first flag, skipped.
         vec![0x00, 0x11, 0x22],
         request(45),
-        sent(Message::Heartbeat(heartbeat)),
+        sent(heartbeat()),
         frame(&TRAFFIC),
         frame(&ownship),
         sent(Message::Control(FIRST)),
