@@ -16,7 +16,7 @@ use Rattle.generator_order.specs.Order.{order}
 use Rattle.frame_check.specs.Check.{frameCheck}
 use Rattle.check_strength.specs.BitNumbers.{differAt, differBelow}
 use Rattle.check_strength.specs.Strength.{TwoBodies, AtMostThreeBits, Within16Bits, Strength}
-use Rattle.check_strength.specs.Limits.{Reach}
+use Rattle.check_strength.specs.Reach.{Reach}
 use Rattle.check_strength.proofs.Bits.{length-bits, length-bitsOf, bits-at, getD-sum, length-sum}
 use Rattle.check_strength.proofs.Shape.{weight, zeros-weight, span, two}
 use Rattle.check_strength.proofs.Parity.{even}

@@ -2,4 +2,3 @@ pub mod Bits
 pub mod Shape
 pub mod Parity
 pub mod Caught
-pub mod Limits

@@ -1,3 +1,3 @@
 pub mod BitNumbers
 pub mod Strength
-pub mod Limits
+pub mod Reach

@@ -1,1 +1,1 @@
-// What the frame check sequence always catches, and what not: stated in specs/, proved in proofs/. It holds no code.
+// What the frame check sequence always catches: stated in specs/, proved in proofs/. It holds no code.

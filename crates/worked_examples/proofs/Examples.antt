@@ -10,7 +10,7 @@ use Rattle.frame_format.specs.Stretch.{atFlag, judged, verdict}
 use Rattle.line_history.specs.History.{cut, closing, answer}
 use Rattle.receiver.specs.Step.{storing, stateAfter, answerDue, countsAfter}
 use Rattle.slice_receiver.specs.Run.{run}
-use Rattle.check_strength.proofs.Limits.{four-bits-unseen}
+use Rattle.check_limits.proofs.Limits.{four-bits-unseen}
 use Rattle.worked_examples.specs.Examples.{answersAfter, Examples, DataOctetBecomesFlag}
 
 pub examples : Examples

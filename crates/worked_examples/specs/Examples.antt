@@ -8,7 +8,7 @@ use Rattle.line_history.specs.History.{Call, answer}
 use Rattle.byte_account.specs.Account.{zeroCounts}
 use Rattle.receiver.specs.Step.{fresh}
 use Rattle.slice_receiver.specs.Run.{run}
-use Rattle.check_strength.specs.Limits.{FourBitsUnseen}
+use Rattle.check_limits.specs.Limits.{FourBitsUnseen}
 
 -- the answers of a line, those that are given, with 436 octets of room lent to each call
 abbrev pub given : Verdict → List Verdict

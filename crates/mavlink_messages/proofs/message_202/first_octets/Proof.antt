@@ -1,5 +1,5 @@
 -- `mavlink_messages::message_202::first_octets` meets its contract, run by run. Assumes nothing.
-use mathlib.Core.List.{[], _∷_, _++_}
+use mathlib.Core.List.{_++_}
 use mir.Syntax.{w32}
 use Rattle.mavlink_messages.specs.Dynamic.{dynamicPayload}
 use Rattle.mavlink_messages.proofs.Signed.{put}

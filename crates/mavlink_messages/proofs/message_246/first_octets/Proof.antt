@@ -1,5 +1,5 @@
 -- `mavlink_messages::message_246::first_octets` meets its contract, run by run. Assumes nothing.
-use mathlib.Core.List.{[], _∷_, _++_}
+use mathlib.Core.List.{_++_}
 use mir.Syntax.{w32}
 use Rattle.mavlink_messages.specs.Traffic.{trafficPayload}
 use Rattle.mavlink_messages.proofs.Signed.{put}

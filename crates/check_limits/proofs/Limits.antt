@@ -12,10 +12,10 @@ use Rattle.binary_polynomial.proofs.Xor.{xor-assoc}
 use Rattle.binary_polynomial.proofs.Laws.{sum, divided-append}
 use Rattle.frame_check.specs.Check.{frameCheck, tableEntry}
 use Rattle.frame_check.proofs.Step.{table-step, frame-check-lt}
 use Rattle.check_strength.specs.BitNumbers.{differAt, differBelow}
-use Rattle.check_strength.specs.Limits.{farApart, allZero, TwoBitsUnseen, oneBody, otherBody, FourBitsUnseen, LastBit, LeadingZero}
+use Rattle.check_limits.specs.Limits.{farApart, allZero, TwoBitsUnseen, oneBody, otherBody, FourBitsUnseen, LastBit, LeadingZero}
 use Rattle.check_strength.proofs.Shape.{weight}
 use Rattle.check_strength.proofs.Caught.{difference, difference-at, count}
 
 -- ---- a bit that is 1 stands within the list, behind those that are 0
 at-most : (bs : List Bool) (k : ℕ) → getD bs k false ≡ true → k < length bs

@@ -1,20 +1,12 @@
--- How far the strength really reaches, and what lies just past it (document 01, "Beliefs that the trade holds wrongly" and
--- the pair under "Frames to try"). Assumes nothing.
+-- What lies just past the strength (document 01, "Beliefs that the trade holds wrongly" and the pair under "Frames to try").
+-- Assumes nothing.
 use mathlib.Core.Path.{_≡_}
 use mathlib.Core.List.{List, [], _∷_, _++_}
-use Prim.Native.Nat.{ℕ, _*_, _%_, _≤_, _<_}
+use Prim.Native.Nat.{ℕ, _*_, _<_}
 use lib.ListN.{length, replicate}
 use lib.Bits.{bitXor}
 use Rattle.frame_check.specs.Check.{frameCheck}
 use Rattle.check_strength.specs.BitNumbers.{differBelow, DifferWithin}
-use Rattle.check_strength.specs.Strength.{TwoBodies, AtMostThreeBits, Within16Bits}
-
--- the 16 consecutive bits, and any odd number of bits, are caught in bodies of any length, up to three bits in bodies of up to
--- 4095 octets
-pub record Reach : Type 0 where
-  pub oddBits : (a b : List ℕ) → TwoBodies a b → differBelow a b (8 * length a) % 2 ≡ 1 → frameCheck a ≡ frameCheck b → ⊥
-  pub span : (a b : List ℕ) → TwoBodies a b → Within16Bits a b → frameCheck a ≡ frameCheck b → ⊥
-  pub threeBits : (a b : List ℕ) → TwoBodies a b → length a ≤ 4095 → AtMostThreeBits a b → frameCheck a ≡ frameCheck b → ⊥
 
 -- at 4096 octets the first bit and the last are the order of x apart: these two bodies differ in those two bits alone
 abbrev pub farApart : List ℕ
