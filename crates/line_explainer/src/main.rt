@@ -1,16 +1,18 @@
 // The line explainer: reads standard input to its end, and writes a line for each answer of the receiver that says what it
-// means, and a last line with the counts. `explanation` has the text, `standard_streams` the reading and the writing.
+// means, and a last line with the counts. `explanation` has the text, `standard_streams` the reading and the writing. What a
+// block leaves of the receiver's record is proved (`Leaves`); that the record goes on from block to block is tested.
 //
 // Where a read or a write fails the line lister's rules hold: what was explained has been written out, the failure is said on
 // standard error, and no closing line follows.
 ghost use Rattle.receiver.specs.Step.{stateOf};
 ghost use Rattle.listing.specs.Lists.{behindAll};
-ghost use Rattle.standard_streams.specs.Blocks.{Leaves, Zeroed};
+ghost use Rattle.line_streams.specs.Records.{Leaves};
+ghost use Rattle.standard_streams.specs.Blocks.{Zeroed};
 use byte_account::Counts;
+use line_streams::Progress;
 use receiver::Rest;
 use standard_streams::Got;
 use standard_streams::Input;
-use standard_streams::Progress;
 
 // Explains the octets of a block, and writes each line out.
 fn explain_block(
@@ -91,7 +93,7 @@ fn explain_input(
         let input = progress.input;
         match input {
             Input::More => {}
-            Input::Ended => return standard_streams::write_closing(text, counts),
+            Input::Ended => return line_streams::write_closing(text, counts),
             Input::Failed => return false,
         }
         turns -= 1;
@@ -106,7 +108,7 @@ fn clear_lent(store: &mut [u8; 438], room: &mut [u8; 436], block: &mut [u8], tex
     ensures { λ r. ⌜ Zeroed (now (block .entry)) (now (block .exit)) ⌝ }
     ensures { λ r. ⌜ Zeroed (now (text .entry)) (now (text .exit)) ⌝ }
 {
-    standard_streams::clear_lent(store, room, block, text);
+    line_streams::clear_lent(store, room, block, text);
 }
 
 fn main() {

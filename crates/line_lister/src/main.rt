@@ -1,5 +1,6 @@
 // The line lister: reads standard input to its end, and writes a line for each answer of the receiver and a last line with
-// the counts. `listing` has the text; here are only the reading and the writing.
+// the counts. `listing` has the text; here are only the reading and the writing. What a block leaves of the receiver's record
+// is proved (`Leaves`); that the record goes on from block to block is tested.
 //
 // Where a read fails, what was listed so far has been written out already, the failure is said on standard error, and no
 // closing line follows: one stands only behind an input that was read to its end. Where a write fails the failure is said and
@@ -9,12 +10,12 @@ ghost use lib.ListN.{length};
 ghost use Rattle.listing.specs.Listing.{longestLine};
 ghost use Rattle.receiver.specs.Step.{stateOf};
 ghost use Rattle.listing.specs.Lists.{behindAll};
-ghost use Rattle.standard_streams.specs.Blocks.{Leaves};
+ghost use Rattle.line_streams.specs.Records.{Leaves};
 use byte_account::Counts;
+use line_streams::Progress;
 use receiver::Rest;
 use standard_streams::Got;
 use standard_streams::Input;
-use standard_streams::Progress;
 
 // Lists the octets of a block, and writes the text out each time that it is full, and at the block's end.
 fn list_block(
@@ -99,7 +100,7 @@ fn list_input(
         let input = progress.input;
         match input {
             Input::More => {}
-            Input::Ended => return standard_streams::write_closing(text, counts),
+            Input::Ended => return line_streams::write_closing(text, counts),
             Input::Failed => return false,
         }
         turns -= 1;
@@ -113,7 +114,7 @@ fn main() {
     let mut block = io::large_buffer();
     let mut text = io::large_buffer();
     let whole = list_input(&mut store, &mut room, &mut block, &mut text);
-    standard_streams::clear_lent(&mut store, &mut room, &mut block, &mut text);
+    line_streams::clear_lent(&mut store, &mut room, &mut block, &mut text);
     if whole {
         standard_streams::close_output();
     }

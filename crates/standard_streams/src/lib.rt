@@ -1,24 +1,15 @@
-// What the programs that read a line share: standard input by the block, standard output, and clearing what was lent. What is
-// read and written no contract can say; each is safe, ends, and fixes what it can.
+// What the programs share: standard input by the block, standard output, and clearing what was lent. What is read and written
+// no contract can say; each is safe, ends, and fixes what it can.
 ghost use lib.ListN.{length};
-ghost use Rattle.standard_streams.specs.Blocks.{Closed, Zeroed, Within, WrittenIfEmpty};
-use byte_account::Counts;
+ghost use Rattle.standard_streams.specs.Blocks.{Zeroed, Within, WrittenIfEmpty};
 use libc::STDIN_FILENO;
 use libc::STDOUT_FILENO;
-use receiver::Rest;
 
 // How far the input is told.
 pub enum Input {
     More,
     Ended,
     Failed,
-}
-
-// The receiver's record besides its store, from block to block.
-pub struct Progress {
-    pub rest: Rest,
-    pub counts: Counts,
-    pub input: Input,
 }
 
 // What a read gave: octets at the start of the block; the input's end; a failure, which is said on standard error.
@@ -74,14 +65,6 @@ pub fn write_first(text: &[u8], n: usize) -> bool
     write_out(text)
 }
 
-// The closing line, where text has room for it, and whether what was put there was written.
-pub fn write_closing(text: &mut [u8], counts: Counts) -> bool
-    ensures { λ r. ⌜ Closed counts (now (text .entry)) (now (text .exit)) ⌝ }
-{
-    let n = listing::put_closing(text, 0, counts);
-    write_out(&text[..n])
-}
-
 fn zero(memory: &mut [u8])
     ensures { λ r. ⌜ Zeroed (now (memory .entry)) (now (memory .exit)) ⌝ }
 {
@@ -100,19 +83,6 @@ pub fn clear(memory: &mut [u8])
 {
     zero(memory);
     libc::write(-1, memory);
-}
-
-// Frames passed through all of these.
-pub fn clear_lent(store: &mut [u8; 438], room: &mut [u8; 436], block: &mut [u8], text: &mut [u8])
-    ensures { λ r. ⌜ Zeroed (now (store .entry)) (now (store .exit)) ⌝ }
-    ensures { λ r. ⌜ Zeroed (now (room .entry)) (now (room .exit)) ⌝ }
-    ensures { λ r. ⌜ Zeroed (now (block .entry)) (now (block .exit)) ⌝ }
-    ensures { λ r. ⌜ Zeroed (now (text .entry)) (now (text .exit)) ⌝ }
-{
-    clear(store);
-    clear(room);
-    clear(block);
-    clear(text);
 }
 
 // Some file systems say only here that a write failed.

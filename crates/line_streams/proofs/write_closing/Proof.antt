@@ -1,4 +1,4 @@
--- `standard_streams::write_closing` meets its contract: the closing line ends within the text. Assumes nothing.
+-- `line_streams::write_closing` meets its contract: the closing line ends within the text. Assumes nothing.
 use mathlib.Core.Path.{sym}
 use mathlib.Core.Bool.{Bool, true, false}
 use mathlib.Core.List.{List}
@@ -12,8 +12,8 @@ use Rattle.byte_account.specs.declared.Counts.{Counts}
 use Rattle.listing.specs.Listing.{longestClosing}
 use Rattle.listing.specs.Lists.{ClosesIf, Closes}
 use borrow.Author.Needs.{needs}
-use Rattle.standard_streams.proofs.write_closing.Statement.{statement}
-use Rattle.standard_streams.proofs.write_closing.Tie as tie
+use Rattle.line_streams.proofs.write_closing.Statement.{statement}
+use Rattle.line_streams.proofs.write_closing.Tie as tie
 
 within : (before : List ℕ) (counts : Counts) (next : ℕ) (after : List ℕ) → Closes before 0 counts next after → next ≤ length before
 within before counts next after = go (leb (0 + longestClosing) (length before))

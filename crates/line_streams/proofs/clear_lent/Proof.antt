@@ -1,7 +1,7 @@
--- `standard_streams::clear_lent` meets its contract. Assumes nothing.
+-- `line_streams::clear_lent` meets its contract. Assumes nothing.
 use borrow.Author.Needs.{needs}
-use Rattle.standard_streams.proofs.clear_lent.Statement.{statement}
-use Rattle.standard_streams.proofs.clear_lent.Tie as tie
+use Rattle.line_streams.proofs.clear_lent.Statement.{statement}
+use Rattle.line_streams.proofs.clear_lent.Tie as tie
 
 clear-requires : tie.Need-clear-requires
 clear-requires c κs = search needs

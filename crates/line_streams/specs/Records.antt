@@ -1,0 +1,20 @@
+-- What a block of the input leaves of the receiver's record, and the closing line. Assumes nothing.
+use mathlib.Core.Path.{_≡_}
+use mathlib.Core.List.{List}
+use Prim.Native.Nat.{ℕ}
+use Rattle.byte_account.specs.declared.Counts.{Counts}
+use Rattle.receiver.specs.Step.{State}
+use Rattle.listing.specs.Lists.{Behind, Closes}
+use Rattle.standard_streams.specs.declared.Input.{Input}
+use Rattle.standard_streams.specs.declared.Input.the-variants.{More, Ended, Failed}
+
+-- the input goes on: the record is the one behind the whole block. It does not end in a block; a write may have failed
+abbrev pub Leaves : Input → State → Counts → Behind → Type 0
+Leaves More s c b = (s ≡ b .state) × (c ≡ b .counts)
+Leaves Ended s c b = ⊥
+Leaves Failed s c b = Unit {0}
+
+-- the closing line stands at the start of the text, up to this place, as `listing::put_closing` puts it
+pub record Closed (counts : Counts) (before after : List ℕ) : Type 0 where
+  pub next : ℕ
+  pub line : Closes before 0 counts next after

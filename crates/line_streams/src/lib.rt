@@ -1,0 +1,35 @@
+// What the programs that read the UCP line share, over the standard streams: the receiver's record from block to block, the
+// closing line, and clearing what was lent.
+ghost use Rattle.standard_streams.specs.Blocks.{Zeroed};
+ghost use Rattle.line_streams.specs.Records.{Closed};
+use byte_account::Counts;
+use receiver::Rest;
+use standard_streams::Input;
+
+// The receiver's record besides its store, from block to block.
+pub struct Progress {
+    pub rest: Rest,
+    pub counts: Counts,
+    pub input: Input,
+}
+
+// The closing line, where text has room for it, and whether what was put there was written.
+pub fn write_closing(text: &mut [u8], counts: Counts) -> bool
+    ensures { λ r. ⌜ Closed counts (now (text .entry)) (now (text .exit)) ⌝ }
+{
+    let n = listing::put_closing(text, 0, counts);
+    standard_streams::write_out(&text[..n])
+}
+
+// Frames passed through all of these.
+pub fn clear_lent(store: &mut [u8; 438], room: &mut [u8; 436], block: &mut [u8], text: &mut [u8])
+    ensures { λ r. ⌜ Zeroed (now (store .entry)) (now (store .exit)) ⌝ }
+    ensures { λ r. ⌜ Zeroed (now (room .entry)) (now (room .exit)) ⌝ }
+    ensures { λ r. ⌜ Zeroed (now (block .entry)) (now (block .exit)) ⌝ }
+    ensures { λ r. ⌜ Zeroed (now (text .entry)) (now (text .exit)) ⌝ }
+{
+    standard_streams::clear(store);
+    standard_streams::clear(room);
+    standard_streams::clear(block);
+    standard_streams::clear(text);
+}
