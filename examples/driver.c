@@ -7,7 +7,8 @@
  * heard, and answers a Message Request for the Control message with the last
  * one heard: the answering frames are written to the file ANSWERS. Before it
  * ends it clears the rooms that a private identity passed through, and the
- * stack below main, where calls that take or give a message by value leave it.
+ * stack below main, where calls that take or give a message by value leave it;
+ * its files are not buffered, so that no octet stays in the C library's memory.
  *
  * A firmware driver differs in where the octets come from: an interrupt hands
  * them over, and ostrogosz_line_receive takes them one by one.
@@ -35,12 +36,15 @@ static void clear(void *memory, size_t length)
     }
 }
 
-/* Covers the stack that the calls before it used, and clears that. */
-static void clear_stack(void)
+/* Covers the stack that the calls before it used, and clears that. Called by a
+ * pointer, since inside its caller it would cover nothing. */
+static void cover_stack(void)
 {
-    uint8_t below[4096];
+    uint8_t below[8192];
     clear(below, sizeof below);
 }
+
+static void (*volatile clear_stack)(void) = cover_stack;
 
 static void say_report(const char *kind, const struct ostrogosz_report *report)
 {
@@ -126,7 +130,7 @@ static int take(struct line *line, const uint8_t *octets, size_t length,
 /* The whole capture, however long it is. */
 static int run(struct line *line, FILE *capture, FILE *answers)
 {
-    uint8_t block[4096];
+    static uint8_t block[4096]; /* static: the frame stays small */
     size_t got;
     int failed = 0;
     while (!failed && (got = fread(block, 1, sizeof block, capture)) > 0)
@@ -147,6 +151,8 @@ int main(int argc, char **argv)
         fputs("usage: driver CAPTURE ANSWERS\n", stderr);
         return 2;
     }
+    setvbuf(capture, NULL, _IONBF, 0);
+    setvbuf(answers, NULL, _IONBF, 0);
     ostrogosz_line_start(&line.receiver);
     failed = run(&line, capture, answers);
     clear(&line, sizeof line);

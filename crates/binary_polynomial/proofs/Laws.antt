@@ -236,8 +236,3 @@ pub zeros-nonzero : (n r : ℕ) → r < degree16 → divided r (replicate n fals
 unfolding divided
 zeros-nonzero zero r h e = e
 zeros-nonzero (suc n) r h e = step-nonzero r h (zeros-nonzero n (step r false) (step-lt r false h) e)
-
--- ---- x^16 leaves x^12 + x^5 + 1, which no other generator does
-pub x16 : remainder (true ∷ replicate 16 false) ≡ 0x1021
-unfolding divided step reduced
-x16 = refl

@@ -46,7 +46,7 @@ pub fn read(body: &[u8]) -> InitializationRead
 }
 
 // Whether each field is in its range and has no more bits than the body has for it.
-pub fn fits(initialization: Initialization) -> bool
+fn fits(initialization: Initialization) -> bool
     ensures { λ r. ⌜ r ≡ initializationFits initialization ⌝ }
 {
     let callsign = octet_fields::text_octets(initialization.callsign);

@@ -51,7 +51,7 @@ pub fn read(body: &[u8]) -> ControlRead
 }
 
 // Whether each field is in its range and has no more bits than the body has for it.
-pub fn fits(control: Control) -> bool
+fn fits(control: Control) -> bool
     ensures { λ r. ⌜ r ≡ controlFits control ⌝ }
 {
     let identity = octet_fields::text_octets(control.identity);

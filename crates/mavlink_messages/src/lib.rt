@@ -133,7 +133,7 @@ fn in_range(message: Message) -> bool
 }
 
 // The failure bits of a status, 1 to 4.
-pub fn failures_of(status: u8) -> Failures
+fn failures_of(status: u8) -> Failures
     ensures { λ r. ⌜ r ≡ failuresIn status ⌝ }
 {
     let count = status_failures::count_failures(status);

@@ -1,5 +1,6 @@
 // What the programs share: standard input by the block, standard output, and clearing what was lent. What is read and written
 // no contract can say; each is safe, ends, and fixes what it can.
+ghost use Prim.Native.Nat.{min};
 ghost use lib.ListN.{length};
 ghost use Rattle.standard_streams.specs.Blocks.{Zeroed, Within, WrittenIfEmpty};
 use libc::STDIN_FILENO;
@@ -57,7 +58,7 @@ pub fn write_out(text: &[u8]) -> bool
 
 // Writes the first octets of text, or all of it where there are no more.
 pub fn write_first(text: &[u8], n: usize) -> bool
-    ensures { λ r. ⌜ WrittenIfEmpty (length (now (text .entry))) r ⌝ }
+    ensures { λ r. ⌜ WrittenIfEmpty (min n (length (now (text .entry)))) r ⌝ }
 {
     if n < text.len() {
         return write_out(&text[..n]);

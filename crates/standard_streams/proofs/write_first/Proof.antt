@@ -12,13 +12,13 @@ write-out-requires : tie.Need-write-out-requires
 write-out-requires c κs = search needs
 
 returns : tie.Need-returns
-returns c = λ empty. absurd (omega arith)
+returns c = λ empty. c .write-out .ensures (simp length-take (omega (arith, empty)))
 
 write-out-requires-2 : tie.Need-write-out-requires-2
 write-out-requires-2 c κs = search needs
 
 returns-2 : tie.Need-returns-2
-returns-2 c = search needs
+returns-2 c = λ empty. c .write-out2 .ensures (omega (arith, empty))
 
 pub write-first-spec : {M : Type 1} → statement M
 write-first-spec =
