@@ -1,10 +1,12 @@
 -- What a block of the input leaves of the receiver's record, and the closing line. Assumes nothing.
 use mathlib.Core.Path.{_≡_}
+use mathlib.Core.Bool.{Bool}
 use mathlib.Core.List.{List}
 use Prim.Native.Nat.{ℕ}
 use Rattle.byte_account.specs.declared.Counts.{Counts}
 use Rattle.receiver.specs.Step.{State}
 use Rattle.listing.specs.Lists.{Behind, Closes}
+use Rattle.standard_streams.specs.Blocks.{WrittenIfEmpty}
 use Rattle.standard_streams.specs.declared.Input.{Input}
 use Rattle.standard_streams.specs.declared.Input.the-variants.{More, Ended, Failed}
 
@@ -14,7 +16,9 @@ Leaves More s c b = (s ≡ b .state) × (c ≡ b .counts)
 Leaves Ended s c b = ⊥
 Leaves Failed s c b = Unit {0}
 
--- the closing line stands at the start of the text, up to this place, as `listing::put_closing` puts it
-pub record Closed (counts : Counts) (before after : List ℕ) : Type 0 where
+-- the closing line stands at the start of the text, up to this place, as `listing::put_closing` puts it; it is written where
+-- there was no room for it, and so nothing to write
+pub record Closed (counts : Counts) (before : List ℕ) (written : Bool) (after : List ℕ) : Type 0 where
   pub next : ℕ
   pub line : Closes before 0 counts next after
+  pub tells : WrittenIfEmpty next written

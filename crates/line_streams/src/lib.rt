@@ -15,7 +15,7 @@ pub struct Progress {
 
 // The closing line, where text has room for it, and whether what was put there was written.
 pub fn write_closing(text: &mut [u8], counts: Counts) -> bool
-    ensures { λ r. ⌜ Closed counts (now (text .entry)) (now (text .exit)) ⌝ }
+    ensures { λ r. ⌜ Closed counts (now (text .entry)) r (now (text .exit)) ⌝ }
 {
     let n = listing::put_closing(text, 0, counts);
     standard_streams::write_out(&text[..n])

@@ -1,5 +1,5 @@
 -- `line_streams::write_closing` meets its contract: the closing line ends within the text. Assumes nothing.
-use mathlib.Core.Path.{sym}
+use mathlib.Core.Path.{sym, _∙_}
 use mathlib.Core.Bool.{Bool, true, false}
 use mathlib.Core.List.{List}
 use Prim.Native.Nat.{ℕ, _+_, _≤_}
@@ -43,7 +43,13 @@ same-length : tie.Need-same-length
 same-length c = search needs
 
 returns : tie.Need-returns
-returns c = record { next = c .before .before .before .before .put-closing .result; line = c .before .before .before .before .put-closing .ensures }
+returns c =
+    let p = c .before .before .before .before in
+    record {
+      next = p .put-closing .result;
+      line = p .put-closing .ensures;
+      tells = λ empty. c .write-out .ensures (length-take-le _ _ (closed-within p) ∙ empty);
+    }
 
 pub write-closing-spec : {M : Type 1} → statement M
 write-closing-spec =
