@@ -32,7 +32,7 @@ quotient-linear =
 spread-linear : Linear spread
 spread-linear = both (λ q. bitXor q (q * 32)) (λ q. q * 4096) (both (λ q. q) (λ q. q * 32) (λ a b. refl) (times 5)) (times 12)
 
-left-linear : Linear left
+pub left-linear : Linear left
 left-linear a b =
     ap (λ (q : ℕ). spread q % 65536) (quotient-linear a b)
     ∙ ap (λ (n : ℕ). n % 65536) (spread-linear (quotient a) (quotient b))

@@ -3,14 +3,14 @@ use super::Initialization;
 use super::InitializationRead;
 use writer_answers::Written;
 ghost use mathlib.Core.Path.{_≡_};
-ghost use Prim.Native.Nat.{_<_};
 ghost use lib.ListN.{length};
-ghost use Rattle.control_messages.specs.Initialization.{initializationIn, initializationBody, initializationFits, initializationRead};
+ghost use Rattle.message_formats.specs.Formats.{valueIn, bodyOf, fits, Fitting, reads};
+ghost use Rattle.control_messages.specs.Initialization.{initializationFormat};
 ghost use Rattle.message_answers.specs.Writes.{Writes};
 
 fn fields(body: &[u8]) -> Initialization
     requires { ⌜ length (now body) ≡ 19 ⌝ }
-    ensures { λ r. ⌜ r ≡ initializationIn (now (body .entry)) ⌝ }
+    ensures { λ r. ⌜ r ≡ valueIn initializationFormat (now (body .entry)) ⌝ }
 {
     let offsets = octet_fields::octet(body, 18);
     Initialization {
@@ -27,7 +27,7 @@ fn fields(body: &[u8]) -> Initialization
 
 // What a body that has the kind's ID means.
 pub fn read(body: &[u8]) -> InitializationRead
-    ensures { λ r. ⌜ r ≡ initializationRead (now (body .entry)) ⌝ }
+    ensures { λ r. ⌜ r ≡ reads initializationFormat InitializationRead.Refused InitializationRead.Initialization (now (body .entry)) ⌝ }
 {
     if body.len() != 19 {
         return InitializationRead::Refused(11);
@@ -39,29 +39,35 @@ pub fn read(body: &[u8]) -> InitializationRead
         return InitializationRead::Refused(12);
     }
     let fields = fields(body);
-    if !fits(fields) {
+    if !in_range(fields) {
         return InitializationRead::Refused(13);
     }
     InitializationRead::Initialization(fields)
 }
 
-// Whether each field is in its range and has no more bits than the body has for it.
-fn fits(initialization: Initialization) -> bool
-    ensures { λ r. ⌜ r ≡ initializationFits initialization ⌝ }
+// Whether each field is in its range.
+fn in_range(initialization: Initialization) -> bool
+    ensures { λ r. ⌜ r ≡ initializationFormat .ranges initialization ⌝ }
 {
     let callsign = octet_fields::text_octets(initialization.callsign);
-    let ranges = field_rules::is_emitter(initialization.emitter)
+    field_rules::is_emitter(initialization.emitter)
         & text_rules::is_spaced(&callsign)
-        & field_rules::is_size_code(initialization.size);
-    ranges
+        & field_rules::is_size_code(initialization.size)
+}
+
+// Whether it also has no more bits than the body has for it.
+fn fits(initialization: Initialization) -> bool
+    ensures { λ r. ⌜ r ≡ fits initializationFormat initialization ⌝ }
+{
+    in_range(initialization)
         & (initialization.address < 16777216)
         & (initialization.lateral < 8)
         & (initialization.longitudinal < 32)
 }
 
 fn octets(initialization: Initialization) -> [u8; 19]
-    requires { ⌜ (initialization .address < 16777216) × (initialization .lateral < 8) × (initialization .longitudinal < 32) ⌝ }
-    ensures { λ r. ⌜ r ≡ initializationBody initialization ⌝ }
+    requires { ⌜ Fitting initializationFormat initialization ⌝ }
+    ensures { λ r. ⌜ r ≡ bodyOf initializationFormat initialization ⌝ }
 {
     let address = initialization.address;
     let text = initialization.callsign;
@@ -89,7 +95,7 @@ fn octets(initialization: Initialization) -> [u8; 19]
 }
 
 pub fn write(initialization: Initialization, output: &mut [u8]) -> Written
-    ensures { λ r. ⌜ Writes (initializationFits initialization) (initializationBody initialization) (now (output .entry)) r (now (output .exit)) ⌝ }
+    ensures { λ r. ⌜ Writes (fits initializationFormat initialization) (bodyOf initializationFormat initialization) (now (output .entry)) r (now (output .exit)) ⌝ }
 {
     if !fits(initialization) {
         return Written::Refused(13);

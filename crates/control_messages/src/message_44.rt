@@ -3,14 +3,14 @@ use super::Request;
 use super::RequestRead;
 use writer_answers::Written;
 ghost use mathlib.Core.Path.{_≡_};
-ghost use mathlib.Core.Bool.{true};
 ghost use lib.ListN.{length};
-ghost use Rattle.control_messages.specs.Request.{requestIn, requestBody, requestRead};
+ghost use Rattle.message_formats.specs.Formats.{valueIn, bodyOf, fits, reads};
+ghost use Rattle.control_messages.specs.Request.{requestFormat};
 ghost use Rattle.message_answers.specs.Writes.{Writes};
 
 fn fields(body: &[u8]) -> Request
     requires { ⌜ length (now body) ≡ 3 ⌝ }
-    ensures { λ r. ⌜ r ≡ requestIn (now (body .entry)) ⌝ }
+    ensures { λ r. ⌜ r ≡ valueIn requestFormat (now (body .entry)) ⌝ }
 {
     Request {
         requested_id: octet_fields::octet(body, 2),
@@ -19,7 +19,7 @@ fn fields(body: &[u8]) -> Request
 
 // What a body that has the kind's ID means.
 pub fn read(body: &[u8]) -> RequestRead
-    ensures { λ r. ⌜ r ≡ requestRead (now (body .entry)) ⌝ }
+    ensures { λ r. ⌜ r ≡ reads requestFormat RequestRead.Refused RequestRead.Request (now (body .entry)) ⌝ }
 {
     if body.len() != 3 {
         return RequestRead::Refused(11);
@@ -31,13 +31,13 @@ pub fn read(body: &[u8]) -> RequestRead
 }
 
 fn octets(request: Request) -> [u8; 3]
-    ensures { λ r. ⌜ r ≡ requestBody request ⌝ }
+    ensures { λ r. ⌜ r ≡ bodyOf requestFormat request ⌝ }
 {
     [44, 2, request.requested_id]
 }
 
 pub fn write(request: Request, output: &mut [u8]) -> Written
-    ensures { λ r. ⌜ Writes true (requestBody request) (now (output .entry)) r (now (output .exit)) ⌝ }
+    ensures { λ r. ⌜ Writes (fits requestFormat request) (bodyOf requestFormat request) (now (output .entry)) r (now (output .exit)) ⌝ }
 {
     let body = octets(request);
     message_answers::put(&body, output)

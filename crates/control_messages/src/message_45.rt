@@ -3,14 +3,14 @@ use super::Control;
 use super::ControlRead;
 use writer_answers::Written;
 ghost use mathlib.Core.Path.{_≡_};
-ghost use Prim.Native.Nat.{_<_};
-ghost use lib.ListN.{length};
-ghost use Rattle.control_messages.specs.Control.{controlIn, controlBody, controlFits, stateOf, controlRead};
+ghost use lib.ListN.{length, getD};
+ghost use Rattle.message_formats.specs.Formats.{valueIn, bodyOf, fits, Fitting, reads};
+ghost use Rattle.control_messages.specs.Control.{controlFormat};
 ghost use Rattle.message_answers.specs.Writes.{Writes};
 
 fn fields(body: &[u8]) -> Control
     requires { ⌜ length (now body) ≡ 18 ⌝ }
-    ensures { λ r. ⌜ r ≡ controlIn (now (body .entry)) ⌝ }
+    ensures { λ r. ⌜ r ≡ valueIn controlFormat (now (body .entry)) ⌝ }
 {
     let state = octet_fields::octet(body, 2);
     let from_6 = state % 128;
@@ -35,7 +35,7 @@ fn fields(body: &[u8]) -> Control
 
 // What a body that has the kind's ID means.
 pub fn read(body: &[u8]) -> ControlRead
-    ensures { λ r. ⌜ r ≡ controlRead (now (body .entry)) ⌝ }
+    ensures { λ r. ⌜ r ≡ reads controlFormat ControlRead.Refused ControlRead.Control (now (body .entry)) ⌝ }
 {
     if body.len() != 18 {
         return ControlRead::Refused(11);
@@ -44,26 +44,31 @@ pub fn read(body: &[u8]) -> ControlRead
         return ControlRead::Refused(12);
     }
     let fields = fields(body);
-    if !fits(fields) {
+    if !in_range(fields) {
         return ControlRead::Refused(13);
     }
     ControlRead::Control(fields)
 }
 
-// Whether each field is in its range and has no more bits than the body has for it.
-fn fits(control: Control) -> bool
-    ensures { λ r. ⌜ r ≡ controlFits control ⌝ }
+// Whether each field is in its range.
+fn in_range(control: Control) -> bool
+    ensures { λ r. ⌜ r ≡ controlFormat .ranges control ⌝ }
 {
     let identity = octet_fields::text_octets(control.identity);
-    (control.air_ground < 4)
-        & field_rules::is_squawk(control.squawk)
-        & text_rules::is_padded(&identity)
+    field_rules::is_squawk(control.squawk) & text_rules::is_padded(&identity)
+}
+
+// Whether it also has no more bits than the body has for it.
+fn fits(control: Control) -> bool
+    ensures { λ r. ⌜ r ≡ fits controlFormat control ⌝ }
+{
+    in_range(control) & (control.air_ground < 4)
 }
 
 // Bits 7 to 0 of the octet at 2.
 fn state(control: Control) -> u8
-    requires { ⌜ control .«air_ground» < 4 ⌝ }
-    ensures { λ r. ⌜ r ≡ stateOf control ⌝ }
+    requires { ⌜ Fitting controlFormat control ⌝ }
+    ensures { λ r. ⌜ r ≡ getD (bodyOf controlFormat control) 2 0 ⌝ }
 {
     let es_enabled = octet_fields::bit(control.es_enabled);
     let mode_s = octet_fields::bit(control.mode_s);
@@ -76,8 +81,8 @@ fn state(control: Control) -> u8
 }
 
 fn octets(control: Control) -> [u8; 18]
-    requires { ⌜ control .«air_ground» < 4 ⌝ }
-    ensures { λ r. ⌜ r ≡ controlBody control ⌝ }
+    requires { ⌜ Fitting controlFormat control ⌝ }
+    ensures { λ r. ⌜ r ≡ bodyOf controlFormat control ⌝ }
 {
     let state = state(control);
     let altitude = twos_complement::bits_32(control.altitude);
@@ -107,7 +112,7 @@ fn octets(control: Control) -> [u8; 18]
 }
 
 pub fn write(control: Control, output: &mut [u8]) -> Written
-    ensures { λ r. ⌜ Writes (controlFits control) (controlBody control) (now (output .entry)) r (now (output .exit)) ⌝ }
+    ensures { λ r. ⌜ Writes (fits controlFormat control) (bodyOf controlFormat control) (now (output .entry)) r (now (output .exit)) ⌝ }
 {
     if !fits(control) {
         return Written::Refused(13);

@@ -8,9 +8,10 @@ use native.Mathlib.Omega.{arith}
 use borrow.Author.Tests.{ltb-true, lt-ltb}
 use lib.Dec.{eqb, ltb}
 use lib.ListN.{length, getD}
+use Rattle.message_formats.specs.Formats.{valueIn, refusalOf, reads}
+use Rattle.ucp_messages.specs.Formats.{Reading, format, uplink, unknown, readingOf}
 use Rattle.writer_answers.specs.Answers.{refused, wrote}
 use Rattle.ucp_messages.specs.declared.Kind.{Kind}
-use Rattle.ucp_messages.specs.declared.Kind.the-variants.{Heartbeat, Uplink, Ownship, GeometricAltitude, Traffic, Request, Control, Initialization, Unknown}
 use Rattle.ucp_messages.specs.declared.Message.{Message}
 use Rattle.ucp_messages.specs.Reads as Reads
 use Rattle.message_answers.specs.Refusals.{refusalBy}
@@ -29,11 +30,11 @@ use Rattle.mavlink_messages.specs.declared.Message as mavlink
 use Rattle.mavlink_messages.specs.declared.Message.the-variants as kinds
 use Rattle.mavlink_messages.specs.declared.Read.{Read}
 use Rattle.mavlink_messages.specs.declared.Read.the-variants as read-as
-use Rattle.mavlink_messages.specs.DataStream.{dataStreamIn}
-use Rattle.mavlink_messages.specs.Static.{staticIn}
-use Rattle.mavlink_messages.specs.Dynamic.{dynamicIn}
-use Rattle.mavlink_messages.specs.Status.{statusIn}
-use Rattle.mavlink_messages.specs.Traffic.{trafficIn}
+use Rattle.mavlink_messages.specs.DataStream.{dataStreamFormat}
+use Rattle.mavlink_messages.specs.Static.{staticFormat}
+use Rattle.mavlink_messages.specs.Dynamic.{dynamicFormat}
+use Rattle.mavlink_messages.specs.Status.{statusFormat}
+use Rattle.mavlink_messages.specs.Traffic.{trafficFormat}
 use Rattle.mavlink_messages.specs.Messages.{inRange, failuresOf, judged, payloadRead, readBy, readDue, writeDue, octetsOf}
 
 -- ---- 10 to 13
@@ -48,18 +49,16 @@ by-tests true true false m n = (λ e. let z : n ≡ 13 = cc in (z, omega arith, 
 by-tests true false range m n = (λ e. let z : n ≡ 12 = cc in (z, omega arith, omega arith), λ t. ap Reads.refused (sym (t .0)))
 by-tests false fixed range m n = (λ e. let z : n ≡ 11 = cc in (z, omega arith, omega arith), λ t. ap Reads.refused (sym (t .0)))
 
+by-reading : (r : Reading) (body : List ℕ) (n : ℕ) → (Reads.answerBy r body ≡ Reads.refused n) ↔ ByTable (Reads.refusalBy r body) n
+unfolding reads refusalOf
+by-reading (format f message) body n = by-tests _ _ _ _ n
+by-reading uplink body n = by-tests _ _ _ _ n
+by-reading unknown body n =
+    (λ e. let z : n ≡ 10 = cc in (z, omega arith, omega arith), λ t. ap Reads.refused (sym (t .0)))
+
 pub tabled-message : (k : Kind) (body : List ℕ) (n : ℕ) → (answerAs k body ≡ Reads.refused n) ↔ ByTable (refusalIn k body) n
 unfolding answerAs refusalIn
-tabled-message Heartbeat body n = by-tests _ _ _ _ n
-tabled-message Uplink body n = by-tests _ _ _ _ n
-tabled-message Ownship body n = by-tests _ _ _ _ n
-tabled-message GeometricAltitude body n = by-tests _ _ _ _ n
-tabled-message Traffic body n = by-tests _ _ _ _ n
-tabled-message Request body n = by-tests _ _ _ _ n
-tabled-message Control body n = by-tests _ _ _ _ n
-tabled-message Initialization body n = by-tests _ _ _ _ n
-tabled-message Unknown body n =
-    (λ e. let z : n ≡ 10 = cc in (z, omega arith, omega arith), λ t. ap Reads.refused (sym (t .0)))
+tabled-message k body n = by-reading (readingOf k) body n
 
 -- ---- a range, then room
 abbrev RangeOrRoom : ℕ → Bool → ℕ → ℕ → ℕ → Type 0
@@ -146,11 +145,11 @@ either false x y p q = q
 
 payload-in : (id : ℕ) (h : Header) (used : ℕ) (p : List ℕ) → InTable (payloadRead id h used p)
 payload-in id h used p =
-    either (eqb id 66) _ _ (judged-in h used (kinds.DataStream (dataStreamIn p)))
-    (either (eqb id 201) _ _ (judged-in h used (kinds.Static (staticIn p)))
-    (either (eqb id 202) _ _ (judged-in h used (kinds.Dynamic (dynamicIn p)))
-    (either (eqb id 203) _ _ (judged-in h used (kinds.Status (statusIn p)))
-    (either (eqb id 246) _ _ (judged-in h used (kinds.Traffic (trafficIn p))) (omega arith, omega arith)))))
+    either (eqb id 66) _ _ (judged-in h used (kinds.DataStream (valueIn dataStreamFormat p)))
+    (either (eqb id 201) _ _ (judged-in h used (kinds.Static (valueIn staticFormat p)))
+    (either (eqb id 202) _ _ (judged-in h used (kinds.Dynamic (valueIn dynamicFormat p)))
+    (either (eqb id 203) _ _ (judged-in h used (kinds.Status (valueIn statusFormat p)))
+    (either (eqb id 246) _ _ (judged-in h used (kinds.Traffic (valueIn trafficFormat p))) (omega arith, omega arith)))))
 
 read-in : (f : Found) (s : List ℕ) → Tabled f → InTable (readBy f s)
 read-in (found-as.Refused n) s t = (t .0, omega arith)

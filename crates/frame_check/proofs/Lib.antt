@@ -1,2 +1,5 @@
 pub mod Step
 pub mod Pair
+pub mod Eight
+pub mod Head
+pub mod Steps

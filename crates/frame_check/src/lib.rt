@@ -1,9 +1,11 @@
 // The frame check sequence of GDL90: by a table of 256 entries, and by shifts.
 ghost use mathlib.Core.Path.{_≡_};
-ghost use mathlib.Core.List.{_++_};
-ghost use Prim.Native.Nat.{_-_, _%_, _≤_};
-ghost use lib.ListN.{length, drop};
+ghost use mathlib.Core.List.{[], _++_};
+ghost use Prim.Native.Nat.{_-_, _%_, _<_, _≤_};
+ghost use lib.ListN.{length, take, drop};
+ghost use Rattle.octet_words.specs.Words.{octetsDown};
 ghost use Rattle.frame_check.specs.Check.{frameCheck, IsTable};
+ghost use Rattle.frame_check.specs.Steps.{byTable, byShifts, twoByShifts, eightByShifts};
 ghost use Rattle.binary_polynomial.specs.Bits.{bitsOf, bits};
 ghost use Rattle.binary_polynomial.specs.Division.{divided};
 
@@ -277,7 +279,7 @@ fn table() -> [u16; 256]
 // The running remainder, one octet further, by the table that is lent.
 fn next_check(table: &[u16; 256], check: u16, octet: u8) -> u16
     requires { ⌜ IsTable (now table) ⌝ }
-    ensures { λ r. ⌜ r ≡ divided check (bitsOf 8 octet) ⌝ }
+    ensures { λ r. ⌜ (r ≡ divided check (bitsOf 8 octet)) × (r ≡ byTable (now (table .entry)) check octet) ⌝ }
 {
     table[(check / 256) as usize] ^ ((check % 256) * 256 + octet as u16)
 }
@@ -296,10 +298,19 @@ pub fn frame_check(body: &[u8]) -> u16
     check
 }
 
+// The running remainder, one octet further, by shifts.
+pub fn next_check_octet(check: u16, octet: u8) -> u16
+    ensures { λ r. ⌜ (r ≡ divided check (bitsOf 8 octet)) × (r ≡ byShifts check octet) ⌝ }
+{
+    let high = check >> 8;
+    let fold = high ^ (high >> 4);
+    fold ^ (fold << 5) ^ (fold << 12) ^ (check << 8) ^ octet as u16
+}
+
 // The running remainder, two octets further, by shifts. A caller that has other work at each octet takes this one: it needs
 // no table, which a call would copy to its stack, and two octets at once halve the chain of steps that wait for each other.
 pub fn next_check_pair(check: u16, first: u8, second: u8) -> u16
-    ensures { λ r. ⌜ r ≡ divided check (bitsOf 8 first ++ bitsOf 8 second) ⌝ }
+    ensures { λ r. ⌜ (r ≡ divided check (bitsOf 8 first ++ bitsOf 8 second)) × (r ≡ twoByShifts check first second) ⌝ }
 {
     let r = check as u32;
     let q = r ^ (r / 16) ^ (r / 256) ^ (r / 2048) ^ (r / 4096);
@@ -307,19 +318,68 @@ pub fn next_check_pair(check: u16, first: u8, second: u8) -> u16
     (left ^ ((first as u32) * 256 + second as u32)) as u16
 }
 
+// The running remainder, eight octets further, the most significant first: sixty-four places by shifts of 64 bits.
+pub fn next_check_eight(check: u16, word: u64) -> u16
+    ensures { λ r. ⌜ (r ≡ divided check (bits (octetsDown 8 word []))) × (r ≡ eightByShifts check word) ⌝ }
+{
+    let joined = ((check as u64) << 48) ^ (word >> 16);
+    let a = joined ^ (joined >> 32);
+    let b = a ^ (a >> 16) ^ (a >> 44);
+    let c = b ^ (b >> 8) ^ (b >> 22) ^ (b >> 32);
+    let q = c ^ (c >> 4) ^ (c >> 11) ^ (c >> 16);
+    ((q ^ (q << 5) ^ (q << 12) ^ word) % 65536) as u16
+}
+
 // The frame check sequence by shifts alone, for a receiver that has no room for a table.
 pub fn frame_check_by_shifts(body: &[u8]) -> u16
     ensures { λ r. ⌜ r ≡ frameCheck (now (body .entry)) ⌝ }
 {
-    if body.len() % 2 == 0 {
-        return check_pairs(body, 0, 0);
+    let start = head_length(body.len());
+    check_words(body, start, head_check(body, start))
+}
+
+// How many octets to take first, of so many: one or two, so that an even number is left.
+pub fn head_length(octets: usize) -> usize
+    ensures { λ r. ⌜ (r ≤ 2) × (r ≤ octets) × ((octets - r) % 2 ≡ 0) ⌝ }
+{
+    if octets == 0 { 0 } else { 2 - octets % 2 }
+}
+
+// The check of the first octets, at most two: they are their own check.
+pub fn head_check(body: &[u8], octets: usize) -> u16
+    requires { ⌜ (octets ≤ 2) × (octets ≤ length (now body)) ⌝ }
+    ensures { λ r. ⌜ r ≡ divided 0 (bits (take octets (now (body .entry)))) ⌝ }
+{
+    if octets == 0 {
+        return 0;
     }
-    // One octet is its own check. Behind it the octets are in pairs.
-    let first = body[0];
-    check_pairs(body, 1, first as u16)
+    if octets == 1 {
+        return wide(body[0]);
+    }
+    wide(body[0]) * 256 + wide(body[1])
+}
+
+fn wide(octet: u8) -> u16
+    ensures { λ r. ⌜ (r ≡ octet) × (r < 256) ⌝ }
+{
+    octet as u16
 }
 
 // The check of a body whose octets before start have this check; an even number of octets is left.
+fn check_words(body: &[u8], start: usize, check: u16) -> u16
+    requires { ⌜ (start ≤ length (now body)) × ((length (now body) - start) % 2 ≡ 0) ⌝ }
+    ensures { λ r. ⌜ r ≡ divided check (bits (drop start (now (body .entry)))) ⌝ }
+{
+    let mut check = check;
+    let mut i = start;
+    while body.len() - i > 7 {
+        check = next_check_eight(check, octet_words::big_64(body, i));
+        i += 8;
+    }
+    check_pairs(body, i, check)
+}
+
+// The same, two octets at a time.
 fn check_pairs(body: &[u8], start: usize, check: u16) -> u16
     requires { ⌜ (start ≤ length (now body)) × ((length (now body) - start) % 2 ≡ 0) ⌝ }
     ensures { λ r. ⌜ r ≡ divided check (bits (drop start (now (body .entry)))) ⌝ }

@@ -1,2 +1,3 @@
 pub mod ToPut
 pub mod Rest
+pub mod Head

@@ -2,9 +2,10 @@
 use writer_answers::Written;
 ghost use mathlib.Core.Path.{_≡_};
 ghost use mathlib.Core.List.{_++_};
-ghost use Prim.Native.Nat.{_+_, _-_, _%_, _≤_};
-ghost use lib.ListN.{length, drop};
-ghost use Rattle.frame_format.specs.Stuffing.{escaped};
+ghost use Prim.Native.Nat.{_+_, _-_, _%_, _<_, _≤_};
+ghost use lib.ListN.{length, take, drop};
+ghost use Rattle.octet_words.specs.Words.{octetsUp};
+ghost use Rattle.frame_format.specs.Stuffing.{escaped, stuffed};
 ghost use Rattle.frame_format.specs.Frame.{frame};
 ghost use Rattle.frame_writer.specs.Puts.{Puts, closing, rest};
 ghost use Rattle.frame_writer.specs.Writes.{Writes};
@@ -27,18 +28,80 @@ fn fill(body: &[u8], output: &mut [u8]) -> usize
     ensures { λ r. ⌜ (r ≡ length (frame (now (body .entry)))) × (now (output .exit) ≡ frame (now (body .entry)) ++ drop r (now (output .entry))) ⌝ }
 {
     output[0] = 0x7E;
-    let n = body.len();
-    if n % 2 == 0 {
-        return fill_pairs(body, output, 0, 0, 1);
+    let start = frame_check::head_length(body.len());
+    let at = put_head(body, output, start);
+    fill_words(
+        body,
+        output,
+        start,
+        frame_check::head_check(body, start),
+        at,
+    )
+}
+
+// Puts the first octets, at most two, behind the flag, and gives the next place.
+fn put_head(body: &[u8], output: &mut [u8], octets: usize) -> usize
+    requires { ⌜ (octets ≤ 2) × (octets ≤ length (now body)) × (1 + length (stuffed (take octets (now body))) ≤ length (now output)) ⌝ }
+    ensures { λ r. ⌜ Puts (now (output .entry)) 1 (stuffed (take octets (now (body .entry)))) r (now (output .exit)) ⌝ }
+{
+    if octets == 0 {
+        return 1;
     }
-    // One octet is its own check. Behind it the octets are in pairs.
-    let octet = body[0];
-    let at = put(output, 1, octet);
-    fill_pairs(body, output, 1, octet as u16, at)
+    if octets == 1 {
+        return put(output, 1, body[0]);
+    }
+    put_pair(output, 1, body[0], body[1])
 }
 
 // Puts what is left of a frame at a place of output: the octets of body from start on, an even number of them, and the end.
 // The check is that of the octets before.
+fn fill_words(body: &[u8], output: &mut [u8], start: usize, check: u16, at: usize) -> usize
+    requires { ⌜ (start ≤ length (now body)) × ((length (now body) - start) % 2 ≡ 0) × (at + length (rest check (drop start (now body))) ≤ length (now output)) ⌝ }
+    ensures { λ r. ⌜ Puts (now (output .entry)) at (rest check (drop start (now (body .entry)))) r (now (output .exit)) ⌝ }
+{
+    let mut check = check;
+    let mut at = at;
+    let mut i = start;
+    while body.len() - i > 7 {
+        let word = octet_words::little_64(body, i);
+        check = frame_check::next_check_eight(check, octet_words::turned(word));
+        at = put_eight(output, at, word);
+        i += 8;
+    }
+    fill_pairs(body, output, i, check, at)
+}
+
+// Puts eight octets, stuffed, at a place of output, and gives the next place: at once where none needs an escape.
+fn put_eight(output: &mut [u8], at: usize, word: u64) -> usize
+    requires { ⌜ at + length (stuffed (octetsUp 8 word)) ≤ length (now output) ⌝ }
+    ensures { λ r. ⌜ Puts (now (output .entry)) at (stuffed (octetsUp 8 word)) r (now (output .exit)) ⌝ }
+{
+    if plain_words::is_plain(word) {
+        octet_words::put_64(output, at, word);
+        at + 8
+    } else {
+        let next = put_octets(output, at, word);
+        put_octets(output, next, word >> 32)
+    }
+}
+
+// Puts the four lowest octets of a number, stuffed, at a place of output, and gives the next place.
+fn put_octets(output: &mut [u8], at: usize, word: u64) -> usize
+    requires { ⌜ at + length (stuffed (octetsUp 4 word)) ≤ length (now output) ⌝ }
+    ensures { λ r. ⌜ Puts (now (output .entry)) at (stuffed (octetsUp 4 word)) r (now (output .exit)) ⌝ }
+{
+    let mut at = at;
+    let mut word = word;
+    let mut left: usize = 4;
+    while left > 0 {
+        at = put(output, at, (word % 256) as u8);
+        word = word / 256;
+        left -= 1;
+    }
+    at
+}
+
+// The same, two octets at a time.
 fn fill_pairs(body: &[u8], output: &mut [u8], start: usize, check: u16, at: usize) -> usize
     requires { ⌜ (start ≤ length (now body)) × ((length (now body) - start) % 2 ≡ 0) × (at + length (rest check (drop start (now body))) ≤ length (now output)) ⌝ }
     ensures { λ r. ⌜ Puts (now (output .entry)) at (rest check (drop start (now (body .entry)))) r (now (output .exit)) ⌝ }

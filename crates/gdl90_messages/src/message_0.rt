@@ -3,14 +3,14 @@ use super::Heartbeat;
 use super::HeartbeatRead;
 use writer_answers::Written;
 ghost use mathlib.Core.Path.{_≡_};
-ghost use mathlib.Core.Bool.{true};
 ghost use lib.ListN.{length};
-ghost use Rattle.gdl90_messages.specs.Heartbeat.{heartbeatIn, heartbeatBody, heartbeatRead};
+ghost use Rattle.message_formats.specs.Formats.{valueIn, bodyOf, fits, reads};
+ghost use Rattle.gdl90_messages.specs.Heartbeat.{heartbeatFormat};
 ghost use Rattle.message_answers.specs.Writes.{Writes};
 
 fn fields(body: &[u8]) -> Heartbeat
     requires { ⌜ length (now body) ≡ 7 ⌝ }
-    ensures { λ r. ⌜ r ≡ heartbeatIn (now (body .entry)) ⌝ }
+    ensures { λ r. ⌜ r ≡ valueIn heartbeatFormat (now (body .entry)) ⌝ }
 {
     Heartbeat {
         status_1: octet_fields::octet(body, 1),
@@ -22,7 +22,7 @@ fn fields(body: &[u8]) -> Heartbeat
 
 // What a body that has the kind's ID means.
 pub fn read(body: &[u8]) -> HeartbeatRead
-    ensures { λ r. ⌜ r ≡ heartbeatRead (now (body .entry)) ⌝ }
+    ensures { λ r. ⌜ r ≡ reads heartbeatFormat HeartbeatRead.Refused HeartbeatRead.Heartbeat (now (body .entry)) ⌝ }
 {
     if body.len() != 7 {
         return HeartbeatRead::Refused(11);
@@ -31,7 +31,7 @@ pub fn read(body: &[u8]) -> HeartbeatRead
 }
 
 fn octets(heartbeat: Heartbeat) -> [u8; 7]
-    ensures { λ r. ⌜ r ≡ heartbeatBody heartbeat ⌝ }
+    ensures { λ r. ⌜ r ≡ bodyOf heartbeatFormat heartbeat ⌝ }
 {
     let time_stamp = heartbeat.time_stamp;
     let counts = heartbeat.counts;
@@ -47,7 +47,7 @@ fn octets(heartbeat: Heartbeat) -> [u8; 7]
 }
 
 pub fn write(heartbeat: Heartbeat, output: &mut [u8]) -> Written
-    ensures { λ r. ⌜ Writes true (heartbeatBody heartbeat) (now (output .entry)) r (now (output .exit)) ⌝ }
+    ensures { λ r. ⌜ Writes (fits heartbeatFormat heartbeat) (bodyOf heartbeatFormat heartbeat) (now (output .entry)) r (now (output .exit)) ⌝ }
 {
     let body = octets(heartbeat);
     message_answers::put(&body, output)

@@ -6,12 +6,13 @@ ghost use mathlib.Core.Path.{_≡_};
 ghost use lib.ListN.{length};
 ghost use Rattle.twos_complement.specs.Signed.{complement};
 ghost use Prim.Native.Nat.{_+_, _*_, _<_};
-ghost use Rattle.gdl90_messages.specs.Report.{reportIn, reportBody, reportFits, ReportBounds, heightOf, threeOf, positionOf, motionOf, reportRead};
+ghost use Rattle.message_formats.specs.Formats.{valueIn, bodyOf, fits, Fitting, reads};
+ghost use Rattle.gdl90_messages.specs.Report.{reportFormat, heightOf, threeOf, positionOf, motionOf};
 ghost use Rattle.message_answers.specs.Writes.{Writes};
 
 fn fields(body: &[u8]) -> Report
     requires { ⌜ length (now body) ≡ 28 ⌝ }
-    ensures { λ r. ⌜ r ≡ reportIn (now (body .entry)) ⌝ }
+    ensures { λ r. ⌜ r ≡ valueIn (reportFormat 10) (now (body .entry)) ⌝ }
 {
     let first = octet_fields::octet(body, 1);
     let height = octet_fields::big_16(body, 11);
@@ -41,7 +42,7 @@ fn fields(body: &[u8]) -> Report
 
 // What a body that has the ID of either kind means.
 pub fn read(body: &[u8]) -> ReportRead
-    ensures { λ r. ⌜ r ≡ reportRead (now (body .entry)) ⌝ }
+    ensures { λ r. ⌜ r ≡ reads (reportFormat 10) ReportRead.Refused ReportRead.Report (now (body .entry)) ⌝ }
 {
     if body.len() != 28 {
         return ReportRead::Refused(11);
@@ -51,17 +52,24 @@ pub fn read(body: &[u8]) -> ReportRead
 
 // Whether each field has no more bits than the body has for it.
 fn fits(report: Report) -> bool
-    ensures { λ r. ⌜ r ≡ reportFits report ⌝ }
+    ensures { λ r. ⌜ r ≡ fits (reportFormat 10) report ⌝ }
 {
-    let position = twos_complement::holds_24(report.latitude)
-        & twos_complement::holds_24(report.longitude);
+    let latitude = twos_complement::holds_24(report.latitude);
+    let longitude = twos_complement::holds_24(report.longitude);
     let rate = twos_complement::holds_12(report.vertical_rate);
-    let address = (report.alert < 16) & (report.address_type < 16) & (report.address < 16777216);
-    let height = (report.altitude < 4096) & (report.miscellaneous < 16);
-    let integrity = (report.nic < 16) & (report.nacp < 16);
-    let speed = report.speed < 4096;
-    let last = (report.emergency < 16) & (report.spare < 16);
-    address & position & height & integrity & speed & rate & last
+    (report.alert < 16)
+        & (report.address_type < 16)
+        & (report.address < 16777216)
+        & latitude
+        & longitude
+        & (report.altitude < 4096)
+        & (report.miscellaneous < 16)
+        & (report.nic < 16)
+        & (report.nacp < 16)
+        & (report.speed < 4096)
+        & rate
+        & (report.emergency < 16)
+        & (report.spare < 16)
 }
 
 // ---- runs of fields as octets, most significant first
@@ -144,8 +152,8 @@ fn motion_of(speed: u16, vertical_rate: i16, track: u8) -> Four
 }
 
 fn octets(id: u8, report: Report) -> [u8; 28]
-    requires { ⌜ ReportBounds report ⌝ }
-    ensures { λ r. ⌜ r ≡ reportBody id report ⌝ }
+    requires { ⌜ Fitting (reportFormat id) report ⌝ }
+    ensures { λ r. ⌜ r ≡ bodyOf (reportFormat id) report ⌝ }
 {
     let address = three_of(report.address);
     let position = position_of(report.latitude, report.longitude);
@@ -184,7 +192,7 @@ fn octets(id: u8, report: Report) -> [u8; 28]
 }
 
 fn write(id: u8, report: Report, output: &mut [u8]) -> Written
-    ensures { λ r. ⌜ Writes (reportFits report) (reportBody id report) (now (output .entry)) r (now (output .exit)) ⌝ }
+    ensures { λ r. ⌜ Writes (fits (reportFormat id) report) (bodyOf (reportFormat id) report) (now (output .entry)) r (now (output .exit)) ⌝ }
 {
     if !fits(report) {
         return Written::Refused(13);
@@ -195,13 +203,13 @@ fn write(id: u8, report: Report, output: &mut [u8]) -> Written
 
 // Two writers rather than one that takes the ID: no other can then be written.
 pub fn write_ownship(report: Report, output: &mut [u8]) -> Written
-    ensures { λ r. ⌜ Writes (reportFits report) (reportBody 10 report) (now (output .entry)) r (now (output .exit)) ⌝ }
+    ensures { λ r. ⌜ Writes (fits (reportFormat 10) report) (bodyOf (reportFormat 10) report) (now (output .entry)) r (now (output .exit)) ⌝ }
 {
     write(10, report, output)
 }
 
 pub fn write_traffic(report: Report, output: &mut [u8]) -> Written
-    ensures { λ r. ⌜ Writes (reportFits report) (reportBody 20 report) (now (output .entry)) r (now (output .exit)) ⌝ }
+    ensures { λ r. ⌜ Writes (fits (reportFormat 20) report) (bodyOf (reportFormat 20) report) (now (output .entry)) r (now (output .exit)) ⌝ }
 {
     write(20, report, output)
 }

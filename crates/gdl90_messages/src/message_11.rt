@@ -3,14 +3,14 @@ use super::GeometricAltitude;
 use super::GeometricAltitudeRead;
 use writer_answers::Written;
 ghost use mathlib.Core.Path.{_≡_};
-ghost use mathlib.Core.Bool.{true};
 ghost use lib.ListN.{length};
-ghost use Rattle.gdl90_messages.specs.GeometricAltitude.{geometricIn, geometricBody, geometricRead};
+ghost use Rattle.message_formats.specs.Formats.{valueIn, bodyOf, fits, reads};
+ghost use Rattle.gdl90_messages.specs.GeometricAltitude.{geometricFormat};
 ghost use Rattle.message_answers.specs.Writes.{Writes};
 
 fn fields(body: &[u8]) -> GeometricAltitude
     requires { ⌜ length (now body) ≡ 5 ⌝ }
-    ensures { λ r. ⌜ r ≡ geometricIn (now (body .entry)) ⌝ }
+    ensures { λ r. ⌜ r ≡ valueIn geometricFormat (now (body .entry)) ⌝ }
 {
     GeometricAltitude {
         altitude: twos_complement::signed_16(octet_fields::big_16(body, 1)),
@@ -20,7 +20,7 @@ fn fields(body: &[u8]) -> GeometricAltitude
 
 // What a body that has the kind's ID means.
 pub fn read(body: &[u8]) -> GeometricAltitudeRead
-    ensures { λ r. ⌜ r ≡ geometricRead (now (body .entry)) ⌝ }
+    ensures { λ r. ⌜ r ≡ reads geometricFormat GeometricAltitudeRead.Refused GeometricAltitudeRead.GeometricAltitude (now (body .entry)) ⌝ }
 {
     if body.len() != 5 {
         return GeometricAltitudeRead::Refused(11);
@@ -29,7 +29,7 @@ pub fn read(body: &[u8]) -> GeometricAltitudeRead
 }
 
 fn octets(geometric: GeometricAltitude) -> [u8; 5]
-    ensures { λ r. ⌜ r ≡ geometricBody geometric ⌝ }
+    ensures { λ r. ⌜ r ≡ bodyOf geometricFormat geometric ⌝ }
 {
     let altitude = twos_complement::bits_16(geometric.altitude);
     let metrics = geometric.metrics;
@@ -43,7 +43,7 @@ fn octets(geometric: GeometricAltitude) -> [u8; 5]
 }
 
 pub fn write(geometric: GeometricAltitude, output: &mut [u8]) -> Written
-    ensures { λ r. ⌜ Writes true (geometricBody geometric) (now (output .entry)) r (now (output .exit)) ⌝ }
+    ensures { λ r. ⌜ Writes (fits geometricFormat geometric) (bodyOf geometricFormat geometric) (now (output .entry)) r (now (output .exit)) ⌝ }
 {
     let body = octets(geometric);
     message_answers::put(&body, output)

@@ -6,6 +6,7 @@ use Prim.Native.Nat.{ℕ, _-_, _<_, _≤_}
 use native.Mathlib.Omega.{arith}
 use lib.Dec.{eqb}
 use lib.ListN.{length}
+use Rattle.message_formats.specs.Formats.{valueIn}
 use Rattle.mavlink_frame.specs.declared.Header.{Header}
 use Rattle.mavlink_reader.specs.declared.Found.{Found}
 use Rattle.mavlink_reader.specs.declared.Found.the-variants.{Frame, Refused}
@@ -15,10 +16,9 @@ use Rattle.mavlink_messages.specs.declared.Message.{Message}
 use Rattle.mavlink_messages.specs.declared.Failures.{Failures}
 use Rattle.mavlink_messages.specs.declared.Read.{Read}
 use Rattle.mavlink_messages.specs.declared.Read.the-variants as read-as
-use Rattle.mavlink_messages.specs.Static.{staticIn}
-use Rattle.mavlink_messages.specs.Dynamic.{dynamicIn}
-use Rattle.mavlink_messages.specs.Traffic.{trafficIn}
-use Rattle.mavlink_messages.specs.Ranges.{staticInRange, dynamicInRange, trafficInRange}
+use Rattle.mavlink_messages.specs.Static.{staticFormat}
+use Rattle.mavlink_messages.specs.Dynamic.{dynamicFormat}
+use Rattle.mavlink_messages.specs.Traffic.{trafficFormat}
 use Rattle.mavlink_messages.specs.Messages.{payloadRead, readBy, readDue}
 use Rattle.mavlink_explanation.specs.Explanation.{usedBy, isRefused}
 
@@ -40,10 +40,10 @@ whole = record { most = omega arith; all = λ e. refl }
 payload-uses : (id : ℕ) (h : Header) (n : ℕ) (p : List ℕ) → Uses n (payloadRead id h n p)
 payload-uses id h n p =
     either (eqb id 66) _ _ whole
-    (either (eqb id 201) _ _ (either (staticInRange (staticIn p)) _ _ whole none)
-    (either (eqb id 202) _ _ (either (dynamicInRange (dynamicIn p)) _ _ whole none)
+    (either (eqb id 201) _ _ (either (staticFormat .ranges (valueIn staticFormat p)) _ _ whole none)
+    (either (eqb id 202) _ _ (either (dynamicFormat .ranges (valueIn dynamicFormat p)) _ _ whole none)
     (either (eqb id 203) _ _ whole
-    (either (eqb id 246) _ _ (either (trafficInRange (trafficIn p)) _ _ whole none) none))))
+    (either (eqb id 246) _ _ (either (trafficFormat .ranges (valueIn trafficFormat p)) _ _ whole none) none))))
 
 module _ (s : List ℕ) where
   within : (f : Found) → found s ≡ f → usedBy (readBy f s) ≤ length s

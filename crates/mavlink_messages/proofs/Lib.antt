@@ -1,3 +1,4 @@
 pub mod Signed
 pub mod Written
 pub mod Answers
+pub mod Formats

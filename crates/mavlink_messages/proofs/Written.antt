@@ -5,6 +5,7 @@ use mathlib.Core.List.{List}
 use Prim.Native.Nat.{ℕ, _+_, _<_}
 use borrow.Author.Tests.{ltb-true}
 use lib.ListN.{length}
+use Rattle.message_formats.specs.Formats.{bodyOf}
 use Rattle.writer_answers.specs.declared.Written.{Written}
 use Rattle.writer_answers.specs.declared.Written.the-variants.{Refused}
 use Rattle.writer_answers.specs.Answers.{Writing}
@@ -16,11 +17,11 @@ use Rattle.mavlink_writer.specs.Writes as frame-writes
 use Rattle.mavlink_messages.specs.declared.Static as static-as
 use Rattle.mavlink_messages.specs.declared.Message.{Message}
 use Rattle.mavlink_messages.specs.declared.Message.the-variants.{DataStream, Static, Dynamic, Status, Traffic}
-use Rattle.mavlink_messages.specs.DataStream.{dataStreamPayload}
-use Rattle.mavlink_messages.specs.Static.{staticPayload}
-use Rattle.mavlink_messages.specs.Dynamic.{dynamicPayload}
-use Rattle.mavlink_messages.specs.Status.{statusPayload}
-use Rattle.mavlink_messages.specs.Traffic.{trafficPayload}
+use Rattle.mavlink_messages.specs.DataStream.{dataStreamFormat}
+use Rattle.mavlink_messages.specs.Static.{staticFormat}
+use Rattle.mavlink_messages.specs.Dynamic.{dynamicFormat}
+use Rattle.mavlink_messages.specs.Status.{statusFormat}
+use Rattle.mavlink_messages.specs.Traffic.{trafficFormat}
 use Rattle.mavlink_messages.proofs.Answers.{both}
 use Rattle.mavlink_messages.specs.Messages.{idOf, octetsOf, inRange, writeDue, messageFrame}
 
@@ -30,7 +31,7 @@ refused m h output e = rw e (record { answers = refl; leaves = refl })
 
 -- each kind's octets are as many as the table says
 due : (m : Message) (output : List ℕ) → frame-writes.writeDue (idOf m) (octetsOf m) output ≡ roomFor (length (octetsOf m) + 8) output
-unfolding kindOf writeOf dataStreamPayload staticPayload dynamicPayload statusPayload trafficPayload
+unfolding kindOf writeOf bodyOf
 due (DataStream d) output = refl
 due (Static s) output = refl
 due (Dynamic d) output = refl

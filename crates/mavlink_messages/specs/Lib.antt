@@ -4,6 +4,5 @@ pub mod Static
 pub mod Dynamic
 pub mod Status
 pub mod Traffic
-pub mod Ranges
 pub mod Failures
 pub mod Messages

@@ -5,6 +5,7 @@ use mathlib.Core.List.{List}
 use Prim.Native.Nat.{ℕ, _+_, _-_}
 use lib.Dec.{eqb}
 use lib.ListN.{length}
+use Rattle.message_formats.specs.Formats.{bodyOf, valueIn}
 use Rattle.writer_answers.specs.Answers.{Answer, refused}
 use Rattle.mavlink_frame.specs.declared.Header.{Header}
 use Rattle.mavlink_frame.specs.declared.Lookup.{Lookup}
@@ -19,12 +20,11 @@ use Rattle.mavlink_messages.specs.declared.Message.the-variants.{DataStr
 use Rattle.mavlink_messages.specs.declared.Failures.{Failures}
 use Rattle.mavlink_messages.specs.declared.Read.{Read}
 use Rattle.mavlink_messages.specs.declared.Read.the-variants as read-as
-use Rattle.mavlink_messages.specs.DataStream.{dataStreamIn, dataStreamPayload}
-use Rattle.mavlink_messages.specs.Static.{staticIn, staticPayload}
-use Rattle.mavlink_messages.specs.Dynamic.{dynamicIn, dynamicPayload}
-use Rattle.mavlink_messages.specs.Status.{statusIn, statusPayload}
-use Rattle.mavlink_messages.specs.Traffic.{trafficIn, trafficPayload}
-use Rattle.mavlink_messages.specs.Ranges.{staticInRange, dynamicInRange, trafficInRange}
+use Rattle.mavlink_messages.specs.DataStream.{dataStreamFormat}
+use Rattle.mavlink_messages.specs.Static.{staticFormat}
+use Rattle.mavlink_messages.specs.Dynamic.{dynamicFormat}
+use Rattle.mavlink_messages.specs.Status.{statusFormat}
+use Rattle.mavlink_messages.specs.Traffic.{trafficFormat}
 use Rattle.mavlink_messages.specs.Failures.{failuresIn, noFailures}
 
 abbrev pub idOf : Message → ℕ
@@ -35,18 +35,18 @@ idOf (Status s) = 203
 idOf (Traffic t) = 246
 
 abbrev pub octetsOf : Message → List ℕ
-octetsOf (DataStream d) = dataStreamPayload d
-octetsOf (Static s) = staticPayload s
-octetsOf (Dynamic d) = dynamicPayload d
-octetsOf (Status s) = statusPayload s
-octetsOf (Traffic t) = trafficPayload t
+octetsOf (DataStream d) = bodyOf dataStreamFormat d
+octetsOf (Static s) = bodyOf staticFormat s
+octetsOf (Dynamic d) = bodyOf dynamicFormat d
+octetsOf (Status s) = bodyOf statusFormat s
+octetsOf (Traffic t) = bodyOf trafficFormat t
 
 abbrev pub inRange : Message → Bool
 inRange (DataStream d) = true
-inRange (Static s) = staticInRange s
-inRange (Dynamic d) = dynamicInRange d
+inRange (Static s) = staticFormat .ranges s
+inRange (Dynamic d) = dynamicFormat .ranges d
 inRange (Status s) = true
-inRange (Traffic t) = trafficInRange t
+inRange (Traffic t) = trafficFormat .ranges t
 
 -- the failures that a message reports
 abbrev pub failuresOf : Message → Failures
@@ -66,11 +66,11 @@ judged h used m = judgedBy (inRange m) h used m
 -- a payload by its message ID; the frame has refused an ID that no kind has
 abbrev pub payloadRead : ℕ → Header → ℕ → List ℕ → Read
 payloadRead id h used p =
-    cond (eqb id 66) (judged h used (DataStream (dataStreamIn p)))
-    (cond (eqb id 201) (judged h used (Static (staticIn p)))
-    (cond (eqb id 202) (judged h used (Dynamic (dynamicIn p)))
-    (cond (eqb id 203) (judged h used (Status (statusIn p)))
-    (cond (eqb id 246) (judged h used (Traffic (trafficIn p)))
+    cond (eqb id 66) (judged h used (DataStream (valueIn dataStreamFormat p)))
+    (cond (eqb id 201) (judged h used (Static (valueIn staticFormat p)))
+    (cond (eqb id 202) (judged h used (Dynamic (valueIn dynamicFormat p)))
+    (cond (eqb id 203) (judged h used (Status (valueIn statusFormat p)))
+    (cond (eqb id 246) (judged h used (Traffic (valueIn trafficFormat p)))
     (read-as.Refused 22)))))
 
 abbrev pub readBy : Found → List ℕ → Read

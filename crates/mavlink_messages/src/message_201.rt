@@ -3,12 +3,12 @@ use super::Static;
 ghost use mathlib.Core.Path.{_≡_};
 ghost use Prim.Native.Nat.{_<_};
 ghost use lib.ListN.{length};
-ghost use Rattle.mavlink_messages.specs.Static.{staticIn, staticPayload};
-ghost use Rattle.mavlink_messages.specs.Ranges.{staticInRange};
+ghost use Rattle.message_formats.specs.Formats.{bodyOf, valueIn};
+ghost use Rattle.mavlink_messages.specs.Static.{staticFormat};
 
 pub fn read(payload: &[u8]) -> Static
     requires { ⌜ length (now payload) ≡ 19 ⌝ }
-    ensures { λ r. ⌜ r ≡ staticIn (now (payload .entry)) ⌝ }
+    ensures { λ r. ⌜ r ≡ valueIn staticFormat (now (payload .entry)) ⌝ }
 {
     Static {
         address: octet_fields::little_24(payload, 0),
@@ -24,7 +24,7 @@ pub fn read(payload: &[u8]) -> Static
 }
 
 pub fn in_range(static_data: Static) -> bool
-    ensures { λ r. ⌜ r ≡ staticInRange static_data ⌝ }
+    ensures { λ r. ⌜ r ≡ staticFormat .ranges static_data ⌝ }
 {
     mavlink_ranges::static_fits(
         static_data.address,
@@ -39,7 +39,7 @@ pub fn in_range(static_data: Static) -> bool
 
 pub fn octets(static_data: Static) -> [u8; 19]
     requires { ⌜ static_data .address < 16777216 ⌝ }
-    ensures { λ r. ⌜ r ≡ staticPayload static_data ⌝ }
+    ensures { λ r. ⌜ r ≡ bodyOf staticFormat static_data ⌝ }
 {
     let address = super::numbers::little_24(static_data.address);
     let stall = super::numbers::little_16(static_data.stall);

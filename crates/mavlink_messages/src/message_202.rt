@@ -2,12 +2,12 @@
 use super::Dynamic;
 ghost use mathlib.Core.Path.{_≡_};
 ghost use lib.ListN.{length, take, drop};
-ghost use Rattle.mavlink_messages.specs.Dynamic.{dynamicIn, dynamicPayload};
-ghost use Rattle.mavlink_messages.specs.Ranges.{dynamicInRange};
+ghost use Rattle.message_formats.specs.Formats.{bodyOf, valueIn};
+ghost use Rattle.mavlink_messages.specs.Dynamic.{dynamicFormat};
 
 pub fn read(payload: &[u8]) -> Dynamic
     requires { ⌜ length (now payload) ≡ 42 ⌝ }
-    ensures { λ r. ⌜ r ≡ dynamicIn (now (payload .entry)) ⌝ }
+    ensures { λ r. ⌜ r ≡ valueIn dynamicFormat (now (payload .entry)) ⌝ }
 {
     Dynamic {
         utc: octet_fields::little_32(payload, 0),
@@ -31,13 +31,13 @@ pub fn read(payload: &[u8]) -> Dynamic
 }
 
 pub fn in_range(dynamic: Dynamic) -> bool
-    ensures { λ r. ⌜ r ≡ dynamicInRange dynamic ⌝ }
+    ensures { λ r. ⌜ r ≡ dynamicFormat .ranges dynamic ⌝ }
 {
     mavlink_ranges::dynamic_fits(dynamic.squawk, dynamic.fix)
 }
 
 pub fn octets(dynamic: Dynamic) -> [u8; 42]
-    ensures { λ r. ⌜ r ≡ dynamicPayload dynamic ⌝ }
+    ensures { λ r. ⌜ r ≡ bodyOf dynamicFormat dynamic ⌝ }
 {
     let first = first_octets(dynamic);
     let last = last_octets(dynamic);
@@ -48,7 +48,7 @@ pub fn octets(dynamic: Dynamic) -> [u8; 42]
 
 // The numbers of 32 bits, which come first.
 fn first_octets(dynamic: Dynamic) -> [u8; 24]
-    ensures { λ r. ⌜ r ≡ take 24 (dynamicPayload dynamic) ⌝ }
+    ensures { λ r. ⌜ r ≡ take 24 (bodyOf dynamicFormat dynamic) ⌝ }
 {
     let utc = super::numbers::little_32(dynamic.utc);
     let latitude = super::numbers::signed_32(dynamic.latitude);
@@ -86,7 +86,7 @@ fn first_octets(dynamic: Dynamic) -> [u8; 24]
 
 // The numbers of 16 bits, and the single octets.
 fn last_octets(dynamic: Dynamic) -> [u8; 18]
-    ensures { λ r. ⌜ r ≡ drop 24 (dynamicPayload dynamic) ⌝ }
+    ensures { λ r. ⌜ r ≡ drop 24 (bodyOf dynamicFormat dynamic) ⌝ }
 {
     let vertical = super::numbers::little_16(dynamic.vertical);
     let velocity = super::numbers::little_16(dynamic.velocity);

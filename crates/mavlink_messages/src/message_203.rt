@@ -2,11 +2,12 @@
 use super::Status;
 ghost use mathlib.Core.Path.{_≡_};
 ghost use lib.ListN.{length};
-ghost use Rattle.mavlink_messages.specs.Status.{statusIn, statusPayload};
+ghost use Rattle.message_formats.specs.Formats.{bodyOf, valueIn};
+ghost use Rattle.mavlink_messages.specs.Status.{statusFormat};
 
 pub fn read(payload: &[u8]) -> Status
     requires { ⌜ length (now payload) ≡ 1 ⌝ }
-    ensures { λ r. ⌜ r ≡ statusIn (now (payload .entry)) ⌝ }
+    ensures { λ r. ⌜ r ≡ valueIn statusFormat (now (payload .entry)) ⌝ }
 {
     Status {
         status: octet_fields::octet(payload, 0),
@@ -14,7 +15,7 @@ pub fn read(payload: &[u8]) -> Status
 }
 
 pub fn octets(status: Status) -> [u8; 1]
-    ensures { λ r. ⌜ r ≡ statusPayload status ⌝ }
+    ensures { λ r. ⌜ r ≡ bodyOf statusFormat status ⌝ }
 {
     [status.status]
 }

@@ -2,12 +2,12 @@
 use super::Traffic;
 ghost use mathlib.Core.Path.{_≡_};
 ghost use lib.ListN.{length, take, drop};
-ghost use Rattle.mavlink_messages.specs.Traffic.{trafficIn, trafficPayload};
-ghost use Rattle.mavlink_messages.specs.Ranges.{trafficInRange};
+ghost use Rattle.message_formats.specs.Formats.{bodyOf, valueIn};
+ghost use Rattle.mavlink_messages.specs.Traffic.{trafficFormat};
 
 pub fn read(payload: &[u8]) -> Traffic
     requires { ⌜ length (now payload) ≡ 38 ⌝ }
-    ensures { λ r. ⌜ r ≡ trafficIn (now (payload .entry)) ⌝ }
+    ensures { λ r. ⌜ r ≡ valueIn trafficFormat (now (payload .entry)) ⌝ }
 {
     Traffic {
         address: octet_fields::little_32(payload, 0),
@@ -28,13 +28,13 @@ pub fn read(payload: &[u8]) -> Traffic
 }
 
 pub fn in_range(traffic: Traffic) -> bool
-    ensures { λ r. ⌜ r ≡ trafficInRange traffic ⌝ }
+    ensures { λ r. ⌜ r ≡ trafficFormat .ranges traffic ⌝ }
 {
     mavlink_ranges::traffic_fits(traffic.squawk)
 }
 
 pub fn octets(traffic: Traffic) -> [u8; 38]
-    ensures { λ r. ⌜ r ≡ trafficPayload traffic ⌝ }
+    ensures { λ r. ⌜ r ≡ bodyOf trafficFormat traffic ⌝ }
 {
     let first = first_octets(traffic);
     let last = last_octets(traffic);
@@ -45,7 +45,7 @@ pub fn octets(traffic: Traffic) -> [u8; 38]
 
 // The numbers of 32 bits, which come first.
 fn first_octets(traffic: Traffic) -> [u8; 16]
-    ensures { λ r. ⌜ r ≡ take 16 (trafficPayload traffic) ⌝ }
+    ensures { λ r. ⌜ r ≡ take 16 (bodyOf trafficFormat traffic) ⌝ }
 {
     let address = super::numbers::little_32(traffic.address);
     let latitude = super::numbers::signed_32(traffic.latitude);
@@ -73,7 +73,7 @@ fn first_octets(traffic: Traffic) -> [u8; 16]
 
 // The numbers of 16 bits, and the single octets.
 fn last_octets(traffic: Traffic) -> [u8; 22]
-    ensures { λ r. ⌜ r ≡ drop 16 (trafficPayload traffic) ⌝ }
+    ensures { λ r. ⌜ r ≡ drop 16 (bodyOf trafficFormat traffic) ⌝ }
 {
     let heading = super::numbers::little_16(traffic.heading);
     let speed = super::numbers::little_16(traffic.speed);

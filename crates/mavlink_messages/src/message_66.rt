@@ -2,11 +2,12 @@
 use super::DataStream;
 ghost use mathlib.Core.Path.{_≡_};
 ghost use lib.ListN.{length};
-ghost use Rattle.mavlink_messages.specs.DataStream.{dataStreamIn, dataStreamPayload};
+ghost use Rattle.message_formats.specs.Formats.{bodyOf, valueIn};
+ghost use Rattle.mavlink_messages.specs.DataStream.{dataStreamFormat};
 
 pub fn read(payload: &[u8]) -> DataStream
     requires { ⌜ length (now payload) ≡ 6 ⌝ }
-    ensures { λ r. ⌜ r ≡ dataStreamIn (now (payload .entry)) ⌝ }
+    ensures { λ r. ⌜ r ≡ valueIn dataStreamFormat (now (payload .entry)) ⌝ }
 {
     DataStream {
         rate: octet_fields::little_16(payload, 0),
@@ -18,7 +19,7 @@ pub fn read(payload: &[u8]) -> DataStream
 }
 
 pub fn octets(data_stream: DataStream) -> [u8; 6]
-    ensures { λ r. ⌜ r ≡ dataStreamPayload data_stream ⌝ }
+    ensures { λ r. ⌜ r ≡ bodyOf dataStreamFormat data_stream ⌝ }
 {
     let rate = super::numbers::little_16(data_stream.rate);
     [

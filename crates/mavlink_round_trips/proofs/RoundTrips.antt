@@ -8,6 +8,7 @@ use borrow.Author.Tests.{eqb-true, eq-eqb, le-ltb}
 use lib.Dec.{eqb, ltb}
 use lib.ListN.{length, take, drop}
 use lib.Seq.{take-at, getD-drop}
+use Rattle.message_formats.specs.Formats.{bodyOf, valueIn}
 use Rattle.binary_polynomial.specs.Bits.{Octets}
 use Rattle.writer_answers.specs.declared.Written.{Written}
 use Rattle.writer_answers.specs.declared.Written.the-variants.{Wrote, Refused}
@@ -27,15 +28,16 @@ use Rattle.mavlink_messages.specs.declared.Message.{Message}
 use Rattle.mavlink_messages.specs.declared.Message.the-variants.{DataStream, Static, Dynamic, Status, Traffic}
 use Rattle.mavlink_messages.specs.declared.Read.{Read}
 use Rattle.mavlink_messages.specs.declared.Read.the-variants as read-as
-use Rattle.mavlink_messages.specs.DataStream.{dataStreamIn, dataStreamPayload}
-use Rattle.mavlink_messages.specs.Static.{staticIn, staticPayload}
-use Rattle.mavlink_messages.specs.Dynamic.{dynamicIn, dynamicPayload}
-use Rattle.mavlink_messages.specs.Status.{statusIn, statusPayload}
-use Rattle.mavlink_messages.specs.Traffic.{trafficIn, trafficPayload}
+use Rattle.mavlink_messages.specs.DataStream.{dataStreamFormat}
+use Rattle.mavlink_messages.specs.Static.{staticFormat}
+use Rattle.mavlink_messages.specs.Dynamic.{dynamicFormat}
+use Rattle.mavlink_messages.specs.Status.{statusFormat}
+use Rattle.mavlink_messages.specs.Traffic.{trafficFormat}
 use Rattle.mavlink_messages.specs.Messages.{idOf, octetsOf, inRange, failuresOf, judged, payloadRead, readBy, readDue, ofItsKind, writeDue, messageFrame}
 use Rattle.mavlink_round_trips.specs.RoundTrips.{Typed, WrittenReadsBack, AcceptedWritesBack}
 use Rattle.mavlink_round_trips.proofs.Frames.{whole, whole-is, frame-found, frame-payload, accepted-frame, payload-length, frame-length}
-use Rattle.mavlink_round_trips.proofs.Layouts.{dataStream-back, dataStream-again, static-back, static-again, dynamic-back, dynamic-again, status-back, status-again, traffic-back, traffic-again}
+use Rattle.message_formats.proofs.Formats.{value-back, body-again}
+use Rattle.mavlink_messages.proofs.Formats.{dataStream-right, static-right, dynamic-right, status-right, traffic-right}
 
 -- ---- the kind of a message, as the table has it
 kindFor : Message → Kind
@@ -62,7 +64,7 @@ same-id (Status s) = refl
 same-id (Traffic t) = refl
 
 octets-length : (m : Message) → length (octetsOf m) ≡ kindFor m .length
-unfolding kindFor dataStreamPayload staticPayload dynamicPayload statusPayload trafficPayload
+unfolding kindFor bodyOf
 octets-length (DataStream d) = refl
 octets-length (Static s) = refl
 octets-length (Dynamic d) = refl
@@ -74,11 +76,11 @@ frame-is m h = ap (λ l. frameBy l h (octetsOf m)) (ap kindOf (sym (same-id m)) 
 
 -- ---- a written frame reads back equal
 payload-back : (m : Message) (h : Header) (used : ℕ) → Typed m → payloadRead (idOf m) h used (octetsOf m) ≡ judged h used m
-payload-back (DataStream d) h used t = ap (λ x. judged h used (DataStream x)) (dataStream-back d t)
-payload-back (Static s) h used t = ap (λ x. judged h used (Static x)) (static-back s t)
-payload-back (Dynamic d) h used t = ap (λ x. judged h used (Dynamic x)) (dynamic-back d t)
-payload-back (Status s) h used t = ap (λ x. judged h used (Status x)) (status-back s t)
-payload-back (Traffic t) h used e = ap (λ x. judged h used (Traffic x)) (traffic-back t e)
+payload-back (DataStream d) h used t = ap (λ x. judged h used (DataStream x)) (value-back dataStreamFormat dataStream-right d t refl)
+payload-back (Static s) h used t = ap (λ x. judged h used (Static x)) (value-back staticFormat static-right s t refl)
+payload-back (Dynamic d) h used t = ap (λ x. judged h used (Dynamic x)) (value-back dynamicFormat dynamic-right d t refl)
+payload-back (Status s) h used t = ap (λ x. judged h used (Status x)) (value-back statusFormat status-right s t refl)
+payload-back (Traffic t) h used e = ap (λ x. judged h used (Traffic x)) (value-back trafficFormat traffic-right t e refl)
 
 frame-back : (m : Message) (h : Header) (rest : List ℕ) → Typed m
     → readDue (messageFrame m h ++ rest) ≡ judged h (kindFor m .length + 8) m
@@ -146,11 +148,11 @@ module _ (id : ℕ) (p : List ℕ) (h : Header) (used : ℕ) (h′ : Header) (us
   carried : payloadRead id h used p ≡ read-as.Message h′ used′ m f → Carried id p h used h′ used′ m
   unfolding kindOf
   carried e =
-      branch (eqb id 66) e (λ t. of-message 66 (DataStream (dataStreamIn p)) t refl (dataStream-again p o (eqb-true _ _ (sized 66 t)))) (λ e.
-      branch (eqb id 201) e (λ t. of-message 201 (Static (staticIn p)) t refl (static-again p o (eqb-true _ _ (sized 201 t)))) (λ e.
-      branch (eqb id 202) e (λ t. of-message 202 (Dynamic (dynamicIn p)) t refl (dynamic-again p o (eqb-true _ _ (sized 202 t)))) (λ e.
-      branch (eqb id 203) e (λ t. of-message 203 (Status (statusIn p)) t refl (status-again p o (eqb-true _ _ (sized 203 t)))) (λ e.
-      branch (eqb id 246) e (λ t. of-message 246 (Traffic (trafficIn p)) t refl (traffic-again p o (eqb-true _ _ (sized 246 t)))) (λ e.
+      branch (eqb id 66) e (λ t. of-message 66 (DataStream (valueIn dataStreamFormat p)) t refl (body-again dataStreamFormat dataStream-right p o (eqb-true _ _ (sized 66 t)) tt refl)) (λ e.
+      branch (eqb id 201) e (λ t. of-message 201 (Static (valueIn staticFormat p)) t refl (body-again staticFormat static-right p o (eqb-true _ _ (sized 201 t)) tt refl)) (λ e.
+      branch (eqb id 202) e (λ t. of-message 202 (Dynamic (valueIn dynamicFormat p)) t refl (body-again dynamicFormat dynamic-right p o (eqb-true _ _ (sized 202 t)) tt refl)) (λ e.
+      branch (eqb id 203) e (λ t. of-message 203 (Status (valueIn statusFormat p)) t refl (body-again statusFormat status-right p o (eqb-true _ _ (sized 203 t)) tt refl)) (λ e.
+      branch (eqb id 246) e (λ t. of-message 246 (Traffic (valueIn trafficFormat p)) t refl (body-again trafficFormat traffic-right p o (eqb-true _ _ (sized 246 t)) tt refl)) (λ e.
       let z : _≡_ {A = ℕ} 0 1 = cc in absurd (omega arith))))))
 
 -- a part of octets has octets

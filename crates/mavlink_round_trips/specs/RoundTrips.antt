@@ -3,54 +3,31 @@ use mathlib.Core.Path.{_≡_}
 use mathlib.Core.List.{List, _++_}
 use Prim.Native.Nat.{ℕ, _≤_}
 use lib.ListN.{length, take, drop}
-use mir.Syntax.{w16, w32}
-use mir.Val.{SFits}
 use Rattle.binary_polynomial.specs.Bits.{Octets}
-use Rattle.octet_fields.specs.Digits.{Within}
-use Rattle.octet_fields.specs.Layout.{layoutWidths}
+use Rattle.message_formats.specs.Formats.{TypedAs}
 use Rattle.writer_answers.specs.declared.Written.{Written}
 use Rattle.writer_answers.specs.declared.Written.the-variants.{Wrote}
 use Rattle.writer_answers.specs.Answers.{Writing}
 use Rattle.mavlink_frame.specs.declared.Header.{Header}
-use Rattle.mavlink_messages.specs.declared.Dynamic as dynamic-as
-use Rattle.mavlink_messages.specs.declared.Traffic as traffic-as
 use Rattle.mavlink_messages.specs.declared.Failures.{Failures}
 use Rattle.mavlink_messages.specs.declared.Message.{Message}
 use Rattle.mavlink_messages.specs.declared.Message.the-variants.{DataStream, Static, Dynamic, Status, Traffic}
 use Rattle.mavlink_messages.specs.declared.Read.the-variants as read-as
-use Rattle.mavlink_messages.specs.DataStream.{dataStreamLayout, dataStreamFields}
-use Rattle.mavlink_messages.specs.Static.{staticLayout, staticFields}
-use Rattle.mavlink_messages.specs.Dynamic.{dynamicLayout, dynamicFields}
-use Rattle.mavlink_messages.specs.Status.{statusLayout, statusFields}
-use Rattle.mavlink_messages.specs.Traffic.{trafficLayout, trafficFields}
+use Rattle.mavlink_messages.specs.DataStream.{dataStreamFormat}
+use Rattle.mavlink_messages.specs.Static.{staticFormat}
+use Rattle.mavlink_messages.specs.Dynamic.{dynamicFormat}
+use Rattle.mavlink_messages.specs.Status.{statusFormat}
+use Rattle.mavlink_messages.specs.Traffic.{trafficFormat}
 use Rattle.mavlink_messages.specs.Messages.{failuresOf, readDue, writeDue, messageFrame}
 
--- ---- the fields are values of their types: as a running program's are, and antt's numbers need not be. (That an address of
+-- the fields are values of their types: as a running program's are, and antt's numbers need not be. (That an address of
 -- 201 has 24 bits its type does not say; the writer refuses any other.)
-
-pub record DynamicTyped (d : dynamic-as.Dynamic) : Type 0 where
-  pub within : Within (layoutWidths dynamicLayout) (dynamicFields d)
-  pub latitude : SFits w32 (d .latitude)
-  pub longitude : SFits w32 (d .longitude)
-  pub pressure : SFits w32 (d .pressure)
-  pub gnss : SFits w32 (d .gnss)
-  pub climb : SFits w16 (d .climb)
-  pub north : SFits w16 (d .north)
-  pub east : SFits w16 (d .east)
-
-pub record TrafficTyped (t : traffic-as.Traffic) : Type 0 where
-  pub within : Within (layoutWidths trafficLayout) (trafficFields t)
-  pub latitude : SFits w32 (t .latitude)
-  pub longitude : SFits w32 (t .longitude)
-  pub altitude : SFits w32 (t .altitude)
-  pub climb : SFits w16 (t .climb)
-
 abbrev pub Typed : Message → Type 0
-Typed (DataStream d) = Within (layoutWidths dataStreamLayout) (dataStreamFields d)
-Typed (Static s) = Within (layoutWidths staticLayout) (staticFields s)
-Typed (Dynamic d) = DynamicTyped d
-Typed (Status s) = Within (layoutWidths statusLayout) (statusFields s)
-Typed (Traffic t) = TrafficTyped t
+Typed (DataStream d) = TypedAs dataStreamFormat d
+Typed (Static s) = TypedAs staticFormat s
+Typed (Dynamic d) = TypedAs dynamicFormat d
+Typed (Status s) = TypedAs statusFormat s
+Typed (Traffic t) = TypedAs trafficFormat t
 
 -- ---- a written frame reads back equal, with anything behind it: the same kind, fields and header, and its own length
 abbrev pub WrittenReadsBack : Type 0

@@ -4,7 +4,7 @@ use mathlib.Core.Path.{_≡_, refl, sym, ap, ap₂, _∙_, subst}
 use mathlib.Core.List.{List, [], _∷_, _++_, reverse, reverse-reverse}
 use Prim.Native.Nat.{ℕ, zero, suc, _+_, _*_, _/_, _^_, _<_}
 use native.Mathlib.Omega.{arith}
-use lib.ListN.{length, take, drop, length-drop, length-replicate, take-append-drop}
+use lib.ListN.{length, take, drop, length-drop, length-append, length-replicate, take-append-drop}
 use lib.Seq.{take-at, drop-at, length-take-le, getD-drop}
 use Rattle.binary_polynomial.specs.Bits.{Octets}
 use Rattle.octet_fields.specs.Digits.{total, joined, cut, Within}
@@ -95,6 +95,17 @@ fields-octets (r ∷ rs) vs e h =
     ∙ ap₂ _++_ (run-fields-octets r us (first-whole r rs e) first)
     (fields-octets rs ys (others-whole r rs e) (others-within (widths r) (layoutWidths rs) vs h))
     ∙ take-append-drop (length (widths r)) vs
+
+-- there are as many octets as the layout says
+pub octets-size : (l : List Run) (vs : List ℕ) → Whole l → Within (layoutWidths l) vs → length (octets l vs) ≡ layoutSize l
+octets-size [] vs e h = refl
+octets-size (r ∷ rs) vs e h =
+    let us = take (length (widths r)) vs in
+    let ys = drop (length (widths r)) vs in
+    length-append (runOctets r us) (octets rs ys)
+    ∙ ap₂ _+_ (length-eights (size r) (runOctets r us)
+    (run-octets-within r us (first-whole r rs e) (first-within (widths r) (layoutWidths rs) vs h)))
+    (octets-size rs ys (others-whole r rs e) (others-within (widths r) (layoutWidths rs) vs h))
 
 octet-of-take : (n : ℕ) (xs : List ℕ) → Octets xs → Octets (take n xs)
 octet-of-take zero xs h i = omega arith

@@ -4,7 +4,8 @@ use mathlib.Core.List.{List}
 use Prim.Native.Nat.{ℕ}
 use Rattle.gdl90_messages.specs.declared.ReportRead.{ReportRead}
 use Rattle.gdl90_messages.specs.declared.ReportRead.the-variants as report
-use Rattle.gdl90_messages.specs.Report.{reportRead}
+use Rattle.message_formats.specs.Formats.{reads}
+use Rattle.gdl90_messages.specs.Report.{reportFormat}
 use Rattle.ucp_messages.specs.declared.Kind.the-variants as kind
 use Rattle.ucp_messages.specs.Reads.{answerAs}
 use Rattle.ucp_messages.proofs.Retold.{ownshipAnswer, ownship-told, trafficAnswer, traffic-told}
@@ -20,8 +21,8 @@ unfolding meant
 traffic (report.Report r) = refl
 traffic (report.Refused number) = refl
 
-pub ownship-numbers : (body : List ℕ) → reportNumbers 10 (reportRead body) ≡ messageNumbers (answerAs kind.Ownship body)
-ownship-numbers body = ownship (reportRead body) ∙ ap messageNumbers (ownship-told body refl)
+pub ownship-numbers : (body : List ℕ) → reportNumbers 10 (reads (reportFormat 10) report.Refused report.Report body) ≡ messageNumbers (answerAs kind.Ownship body)
+ownship-numbers body = ownship (reads (reportFormat 10) report.Refused report.Report body) ∙ ap messageNumbers (ownship-told body refl)
 
-pub traffic-numbers : (body : List ℕ) → reportNumbers 20 (reportRead body) ≡ messageNumbers (answerAs kind.Traffic body)
-traffic-numbers body = traffic (reportRead body) ∙ ap messageNumbers (traffic-told body refl)
+pub traffic-numbers : (body : List ℕ) → reportNumbers 20 (reads (reportFormat 10) report.Refused report.Report body) ≡ messageNumbers (answerAs kind.Traffic body)
+traffic-numbers body = traffic (reads (reportFormat 10) report.Refused report.Report body) ∙ ap messageNumbers (traffic-told body refl)

@@ -17,7 +17,8 @@ use ucp_messages::Message;
 use writer_answers::OstrogoszWritten;
 ghost use mathlib.Core.Path.{_≡_};
 ghost use mathlib.Core.List.{[]};
-ghost use Rattle.gdl90_messages.specs.Report.{reportRead};
+ghost use Rattle.message_formats.specs.Formats.{reads};
+ghost use Rattle.gdl90_messages.specs.Report.{reportFormat};
 ghost use Rattle.ucp_messages.specs.Reads.{answerAs, answerDue};
 ghost use Rattle.ostrogosz_messages.specs.Writers.{WritesBody, SendsFrame};
 ghost use Rattle.ostrogosz_messages.specs.Messages.{noHeartbeat, noReport, noGeometric, noRequest, noControl, noInitialization, blank, messageNumbers, reportNumbers};
@@ -182,7 +183,7 @@ fn of_report(id: u8, report: Report) -> OstrogoszMessage
 
 // 10 or 20.
 fn report(id: u8, body: &[u8]) -> OstrogoszMessage
-    ensures { λ r. ⌜ r ≡ reportNumbers id (reportRead (now (body .entry))) ⌝ }
+    ensures { λ r. ⌜ r ≡ reportNumbers id (reads (reportFormat 10) ReportRead.Refused ReportRead.Report (now (body .entry))) ⌝ }
 {
     match gdl90_messages::message_10::read(body) {
         ReportRead::Report(report) => of_report(id, report),

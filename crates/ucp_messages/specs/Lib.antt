@@ -1,3 +1,4 @@
 pub mod Kinds
+pub mod Formats
 pub mod Reads
 pub mod Bodies

@@ -11,20 +11,15 @@ use lib.Seq.{take-at}
 use Rattle.ucp_messages.specs.declared.Message.{Message}
 use Rattle.ucp_messages.specs.declared.Message.the-variants.{Heartbeat, Uplink, Ownship, GeometricAltitude, Traffic, Request, Control, Initialization}
 use Rattle.writer_answers.specs.declared.Written.the-variants.{Wrote, Refused}
-use Rattle.gdl90_messages.specs.Heartbeat.{heartbeatBody}
+use Rattle.message_formats.specs.Formats.{bodyOf}
 use Rattle.gdl90_messages.specs.Uplink.{uplinkFits}
-use Rattle.gdl90_messages.specs.Report.{reportBody}
-use Rattle.gdl90_messages.specs.GeometricAltitude.{geometricBody}
-use Rattle.control_messages.specs.Request.{requestBody}
-use Rattle.control_messages.specs.Control.{controlBody}
-use Rattle.control_messages.specs.Initialization.{initializationBody}
 use Rattle.ucp_messages.specs.Bodies.{messageFits, messageBody}
 use Rattle.writer_answers.specs.Answers.{refused, wrote}
 use Rattle.message_answers.specs.Writes.{answerDue, Writes}
 
 -- no kind makes a body of more than 436 octets
 pub body-length : (m : Message) (payload : List ℕ) → messageFits m payload ≡ true → length (messageBody m payload) ≤ 436
-unfolding messageFits messageBody heartbeatBody uplinkFits reportBody geometricBody requestBody controlBody initializationBody
+unfolding messageFits messageBody bodyOf uplinkFits
 body-length (Heartbeat h) payload f = omega arith
 body-length Uplink payload f = let e = eqb-true (length payload) 435 f in omega arith
 body-length (Ownship r) payload f = omega arith

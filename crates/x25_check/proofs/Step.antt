@@ -2,20 +2,23 @@
 -- Assumes nothing.
 use mathlib.Core.Path.{_≡_, refl, sym, ap, ap₂, _∙_}
 use mathlib.Core.Bool.{Bool, true, false, xor}
-use mathlib.Core.List.{List, [], _∷_, _++_, append-nil}
-use Prim.Native.Nat.{ℕ, zero, suc, _+_, _*_, _/_, _%_, _<_}
+use mathlib.Core.List.{List, [], _∷_, _++_, append-nil, append-assoc}
+use Prim.Native.Nat.{ℕ, zero, suc, _+_, _*_, _/_, _%_, _^_, _<_, _≤_}
 use native.Mathlib.Omega.{arith}
 use native.Mathlib.Numerals.{add-one}
 use lib.Dec.{eqb}
-use lib.ListN.{length, getD, drop, replicate, length-append, List·getD-append}
-use lib.Seq.{drop-cons, drop-at}
+use lib.ListN.{length, getD, take, drop, replicate, length-append, length-drop, List·getD-append, take-append-drop}
+use lib.Seq.{drop-cons, drop-at, drop-drop, take-append-le, drop-append-le}
 use lib.Bits.{bitXor, differ, xor-lt, xor-zero-r}
+use lib.Pow.{shr-shr}
 use Rattle.binary_polynomial.specs.Bits.{odd}
 use Rattle.binary_polynomial.specs.Division.{coefficient, degree16, step, reduced, polynomial}
 use Rattle.binary_polynomial.proofs.Xor.{digit-cases, xor-swap, below-two, half, last}
 use Rattle.binary_polynomial.proofs.Laws.{coefficient-xor, coefficient-lt, step-xor, step-lt, sum, sum-zeros, polynomial-xor, polynomial-lt}
 use Rattle.binary_polynomial.proofs.Linear.{Linear, Linear16, times, agree}
 use Rattle.x25_shifts.proofs.Shifts.{shifted, shifted-linear, paired, paired-linear, paired-twice, paired-above, two-at-once}
+use Rattle.x25_words.proofs.Words.{eight, eight-pairs, pairs}
+use Rattle.octet_words.specs.Words.{octetsUp}
 use Rattle.x25_check.specs.Check.{bitsUp, wireBits, next, register, mirrored, x25, x25From}
 
 -- ---- the definition is linear
@@ -95,22 +98,22 @@ mirrored-back n h =
     16 refl n h h
 
 -- ---- the step by shifts
-eight : List Bool
-eight = replicate 8 false
+places : List Bool
+places = replicate 8 false
 
 -- no bit is taken in, over eight places
 passed : ℕ → ℕ
-passed n = mirrored (register (mirrored n) eight)
+passed n = mirrored (register (mirrored n) places)
 
 passed-linear : Linear16 passed
-unfolding passed eight sum xor
+unfolding passed places sum xor
 passed-linear a b p q =
-    ap (λ (n : ℕ). mirrored (register n eight)) (mirrored-linear a b)
-    ∙ ap mirrored (register-xor (mirrored a) (mirrored b) eight eight (mirrored-lt a) (mirrored-lt b) refl)
-    ∙ mirrored-linear (register (mirrored a) eight) (register (mirrored b) eight)
+    ap (λ (n : ℕ). mirrored (register n places)) (mirrored-linear a b)
+    ∙ ap mirrored (register-xor (mirrored a) (mirrored b) places places (mirrored-lt a) (mirrored-lt b) refl)
+    ∙ mirrored-linear (register (mirrored a) places) (register (mirrored b) places)
 
 passed-shifted : (n : ℕ) → n < degree16 → passed n ≡ shifted n
-unfolding passed eight mirrored bitsUp polynomial register next step reduced shifted
+unfolding passed places mirrored bitsUp polynomial register next step reduced shifted
 passed-shifted n h = agree passed shifted passed-linear (λ a b p q. shifted-linear a b) 16 refl n h h
 
 -- an octet taken in by a register of 0
@@ -128,18 +131,18 @@ taken-shifted : (x : ℕ) → x < 256 → taken x ≡ shifted x
 unfolding taken mirrored bitsUp polynomial register next step reduced shifted
 taken-shifted x h = agree taken shifted taken-linear (λ a b p q. shifted-linear a b) 8 refl x h (omega arith)
 
-sum-eight : (x : ℕ) → sum eight (bitsUp 8 x) ≡ bitsUp 8 x
-unfolding eight
+sum-eight : (x : ℕ) → sum places (bitsUp 8 x) ≡ bitsUp 8 x
+unfolding places
 sum-eight x = rw (bitsUp-length 8 x) at (sum-zeros (bitsUp 8 x))
 
 pub octet-step : (check x : ℕ) → check < degree16 → x < 256 → shifted (bitXor check x) ≡ x25From check (x ∷ [])
-unfolding x25From wireBits eight passed taken
+unfolding x25From wireBits places passed taken
 octet-step check x hc hx =
     shifted-linear check x
     ∙ ap₂ bitXor (sym (passed-shifted check hc)) (sym (taken-shifted x hx))
-    ∙ sym (mirrored-linear (register (mirrored check) eight) (register 0 (bitsUp 8 x)))
+    ∙ sym (mirrored-linear (register (mirrored check) places) (register 0 (bitsUp 8 x)))
     ∙ ap mirrored
-    (sym (register-xor (mirrored check) 0 eight (bitsUp 8 x) (mirrored-lt check) (omega arith) (sym (bitsUp-length 8 x))))
+    (sym (register-xor (mirrored check) 0 places (bitsUp 8 x) (mirrored-lt check) (omega arith) (sym (bitsUp-length 8 x))))
     ∙ ap₂ (λ (r : ℕ) (bs : List Bool). mirrored (register r bs)) (xor-zero-r (mirrored check))
     (sum-eight x ∙ sym (append-nil (bitsUp 8 x)))
 
@@ -202,3 +205,57 @@ pair-last check octets extra i e =
 pub octet-last : (check : ℕ) (octets : List ℕ) (extra i : ℕ) → i ≡ length octets
     → x25From check (drop i (octets ++ extra ∷ [])) ≡ x25From check (extra ∷ [])
 octet-last check octets extra i e = ap (x25From check) (drop-at octets (extra ∷ []) i (sym e))
+
+-- ---- eight octets at once
+wireBits-append : (xs ys : List ℕ) → wireBits (xs ++ ys) ≡ wireBits xs ++ wireBits ys
+unfolding wireBits
+wireBits-append [] ys = refl
+wireBits-append (x ∷ xs) ys =
+    ap (λ (bs : List Bool). bitsUp 8 x ++ bs) (wireBits-append xs ys) ∙ sym (append-assoc (bitsUp 8 x) (wireBits xs) (wireBits ys))
+
+from-append : (check : ℕ) (xs ys : List ℕ) → x25From check (xs ++ ys) ≡ x25From (x25From check xs) ys
+unfolding x25From
+from-append check xs ys =
+    ap (λ (bs : List Bool). mirrored (register (mirrored check) bs)) (wireBits-append xs ys)
+    ∙ ap mirrored (register-append (mirrored check) (wireBits xs) (wireBits ys))
+    ∙ ap (λ (r : ℕ). mirrored (register r (wireBits ys)))
+    (sym (mirrored-back _ (register-lt (mirrored check) (wireBits xs) (mirrored-lt check))))
+
+from-none : (check : ℕ) → check < degree16 → check ≡ x25From check []
+unfolding x25From wireBits register
+from-none check h = sym (mirrored-back check h)
+
+double : ℕ → ℕ
+double zero = zero
+double (suc k) = suc (suc (double k))
+
+two-of : (word : ℕ) → word % 65536 ≡ word / 256 % 256 * 256 + word % 256
+two-of word = omega arith
+
+pairs-step : (k check word : ℕ) → check < degree16 → pairs k check word ≡ x25From check (octetsUp (double k) word)
+unfolding octetsUp double
+pairs-step zero check word h = from-none check h
+pairs-step (suc k) check word h =
+    let x = word % 256 in
+    let y = word / 256 % 256 in
+    ap₂ (pairs k)
+    (ap (λ (n : ℕ). paired (bitXor check n)) (two-of word) ∙ pair-step check x y h (omega arith) (omega arith))
+    (sym (shr-shr word 8 8))
+    ∙ pairs-step k (x25From check (x ∷ y ∷ [])) (word / 256 / 256) (from-lt check (x ∷ y ∷ []))
+    ∙ sym (from-append check (x ∷ y ∷ []) (octetsUp (double k) (word / 256 / 256)))
+
+pub eight-step : (check word : ℕ) → check < degree16 → word < 2 ^ 64 → eight check word ≡ x25From check (octetsUp 8 word)
+unfolding double
+eight-step check word hc hw = eight-pairs check word hc hw ∙ pairs-step 4 check word hc
+
+-- octets and then one more: the eight octets at i, and then the others
+pub eight-next : (check : ℕ) (octets : List ℕ) (extra i : ℕ) (first : List ℕ) → i + 8 ≤ length octets
+    → first ≡ take 8 (drop i octets)
+    → x25From check (drop i (octets ++ extra ∷ [])) ≡ x25From (x25From check first) (drop (i + 8) (octets ++ extra ∷ []))
+eight-next check octets extra i first h e =
+    let all = octets ++ extra ∷ [] in
+    let few : 8 ≤ length (drop i octets) = simp length-drop (omega arith) in
+    let front : take 8 (drop i all) ≡ first =
+    ap (take 8) (drop-append-le i octets (extra ∷ []) (omega arith)) ∙ take-append-le 8 (drop i octets) (extra ∷ []) few ∙ sym e in
+    ap (x25From check) (sym (take-append-drop 8 (drop i all)) ∙ ap₂ (λ (xs ys : List ℕ). xs ++ ys) front (drop-drop 8 i all))
+    ∙ from-append check first (drop (i + 8) all)

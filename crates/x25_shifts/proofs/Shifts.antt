@@ -7,7 +7,8 @@ use native.Mathlib.Nat.{mod-lt}
 use lib.Bits.{bitXor, xor-shr, xor-mod, xor-lt, xor-comm, xor-shifted}
 use Rattle.binary_polynomial.specs.Division.{degree16}
 use Rattle.binary_polynomial.proofs.Xor.{xor-assoc}
-use Rattle.binary_polynomial.proofs.Linear.{upFrom, Linear, both, times, agree}
+use Rattle.binary_polynomial.proofs.Linear.{upFrom, everywhere, Linear, both, times}
+use Rattle.binary_polynomial.proofs.Wide.{behind, forced, forced-is, forced-at, same}
 
 -- ---- the step by shifts
 abbrev pub fold : ℕ → ℕ
@@ -69,27 +70,49 @@ pub paired-linear : Linear paired
 unfolding paired
 paired-linear a b = ap spread (quotient-linear a b) ∙ spread-linear (quotient a) (quotient b)
 
+-- ---- both as they are computed
+shifted-quick : ℕ → ℕ
+shifted-quick n = forced (λ n. forced (λ f. bitXor (bitXor (bitXor (n / 256) (f * 256)) (f * 8)) (f / 16)) (fold (n % 256))) n
+
+shifted-quick-is : (n : ℕ) → shifted-quick n ≡ shifted n
+unfolding shifted-quick shifted
+shifted-quick-is n =
+    forced-is (λ n. forced (λ f. bitXor (bitXor (bitXor (n / 256) (f * 256)) (f * 8)) (f / 16)) (fold (n % 256))) n
+    ∙ forced-is (λ f. bitXor (bitXor (bitXor (n / 256) (f * 256)) (f * 8)) (f / 16)) (fold (n % 256))
+
+unfoldable pub paired-quick : ℕ → ℕ
+paired-quick n = forced spread (forced quotient n)
+
+pub paired-quick-is : (n : ℕ) → paired-quick n ≡ paired n
+unfolding paired-quick paired
+paired-quick-is n = forced-at spread (forced-is quotient n)
+
 -- sixteen places are eight and eight more: computed at each power of x
-twice-computed : upFrom (λ i. paired (2 ^ i)) 16 0 ≡ upFrom (λ i. shifted (shifted (2 ^ i))) 16 0
-unfolding paired shifted
+twice-computed : upFrom (λ i. paired-quick (2 ^ i)) 16 0 ≡ upFrom (λ i. shifted-quick (shifted-quick (2 ^ i))) 16 0
+unfolding paired-quick shifted-quick
 twice-computed = refl
 
 pub paired-twice : (n : ℕ) → n < degree16 → paired n ≡ shifted (shifted n)
-paired-twice n h =
-    agree paired (λ n. shifted (shifted n)) (λ a b p q. paired-linear a b)
-    (λ a b p q. ap shifted (shifted-linear a b) ∙ shifted-linear (shifted a) (shifted b))
-    16 twice-computed n h h
+paired-twice =
+    same paired (λ n. shifted (shifted n)) paired-linear (behind shifted shifted shifted-linear shifted-linear) 16
+    (λ i h.
+    sym (paired-quick-is (2 ^ i))
+    ∙ everywhere (λ i. paired-quick (2 ^ i)) (λ i. shifted-quick (shifted-quick (2 ^ i))) 16 twice-computed i h
+    ∙ shifted-quick-is (shifted-quick (2 ^ i))
+    ∙ ap shifted (shifted-quick-is (2 ^ i)))
 
 -- the octet above meets the register eight places later
-above-computed : upFrom (λ i. paired (2 ^ i * 256)) 8 0 ≡ upFrom (λ i. shifted (2 ^ i)) 8 0
-unfolding paired shifted
+above-computed : upFrom (λ i. paired-quick (2 ^ i * 256)) 8 0 ≡ upFrom (λ i. shifted-quick (2 ^ i)) 8 0
+unfolding paired-quick shifted-quick
 above-computed = refl
 
 pub paired-above : (y : ℕ) → y < 256 → paired (y * 256) ≡ shifted y
-paired-above y h =
-    agree (λ y. paired (y * 256)) shifted
-    (λ a b p q. ap paired (times 8 a b) ∙ paired-linear (a * 256) (b * 256)) (λ a b p q. shifted-linear a b)
-    8 above-computed y h (omega arith)
+paired-above =
+    same (λ y. paired (y * 256)) shifted (behind (λ y. y * 256) paired (times 8) paired-linear) shifted-linear 8
+    (λ i h.
+    sym (paired-quick-is (2 ^ i * 256))
+    ∙ everywhere (λ i. paired-quick (2 ^ i * 256)) (λ i. shifted-quick (2 ^ i)) 8 above-computed i h
+    ∙ shifted-quick-is (2 ^ i))
 
 -- two octets at once, where sixteen places are eight and eight more
 pub two-at-once : (wide narrow : ℕ → ℕ) → Linear wide → Linear narrow

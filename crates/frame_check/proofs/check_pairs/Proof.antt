@@ -47,7 +47,7 @@ loop-again c =
     let second : l .i + 1 < length body = omega arith in (
       omega arith,
       omega arith,
-      ap (λ (r : ℕ). divided r (bits (drop (l .i + 2) body))) (c .next-check-pair .ensures)
+      ap (λ (r : ℕ). divided r (bits (drop (l .i + 2) body))) (c .next-check-pair .ensures .0)
           ∙ sym (pair-first (l .check) body (l .i) second)
           ∙ l .inv .2,
     )

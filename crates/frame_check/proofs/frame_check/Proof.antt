@@ -44,7 +44,7 @@ loop-again c =
     let body = now (c .before .before .before .before .before .before .before .args .body) in (
       search needs,
       search needs,
-      ap (λ (r : ℕ). divided r (bits (drop (l .i + 1) body))) (c .next-check .ensures)
+      ap (λ (r : ℕ). divided r (bits (drop (l .i + 1) body))) (c .next-check .ensures .0)
           ∙ sym (octet-first (l .check) body (l .i) (c .before .before .before .loop-test .taken))
           ∙ l .inv .2,
     )

@@ -1,5 +1,7 @@
 -- `frame_check::next_check_pair` meets its contract, by the law of the two octets. Assumes nothing.
+use mathlib.Core.Path.{refl}
 use native.Mathlib.Omega.{arith}
+use Rattle.frame_check.specs.Steps.{twoByShifts}
 use Rattle.frame_check.proofs.Pair.{pair-step, quotient-lt, pair-lt}
 use borrow.Author.Needs.{needs}
 use Rattle.frame_check.proofs.next_check_pair.Statement.{statement}
@@ -22,8 +24,9 @@ cast-result c =
     record { fits = pair-lt (c .args .check) (c .args .first) (c .args .second) (c .fits .first .fits) (c .fits .second .fits) }
 
 returns : tie.Need-returns
+unfolding twoByShifts
 returns c =
-    pair-step (c .args .check) (c .args .first) (c .args .second) (c .fits .check .fits) (c .fits .first .fits) (c .fits .second .fits)
+    (pair-step (c .args .check) (c .args .first) (c .args .second) (c .fits .check .fits) (c .fits .first .fits) (c .fits .second .fits), refl)
 
 pub next-check-pair-spec : {M : Type 1} → statement M
 next-check-pair-spec =

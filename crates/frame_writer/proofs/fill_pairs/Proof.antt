@@ -70,7 +70,7 @@ loop-again c =
     let turn = c .before .before .before .before .before .before .before in
     let l = turn .before .loop in
     let put = c .before .before .put-pair .ensures in
-    let checked = c .before .before .before .before .next-check-pair .ensures in (
+    let checked = c .before .before .before .before .next-check-pair .ensures .0 in (
       omega (arith, second-within turn),
       omega (arith, second-within turn),
       pair-put (l .check) (body-at (turn .before)) (l .i) (l .inv .2) (second-within turn) put checked,

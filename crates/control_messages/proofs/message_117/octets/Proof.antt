@@ -1,6 +1,6 @@
 -- `message_117::octets` meets its contract. Assumes nothing.
 use mathlib.Core.Path.{refl}
-use Rattle.control_messages.specs.Initialization.{initializationBody}
+use Rattle.message_formats.specs.Formats.{bodyOf}
 use borrow.Author.Needs.{needs}
 use Rattle.control_messages.proofs.message_117.octets.Statement.{statement}
 use Rattle.control_messages.proofs.message_117.octets.Tie as tie
@@ -21,7 +21,7 @@ add-t13 : tie.Need-add-t13
 add-t13 c = search needs
 
 returns : tie.Need-returns
-unfolding initializationBody
+unfolding bodyOf
 returns c = refl
 
 pub octets-spec : {M : Type 1} → statement M

@@ -1,11 +1,11 @@
 -- `message_44::octets` meets its contract. Assumes nothing.
 use mathlib.Core.Path.{refl}
-use Rattle.control_messages.specs.Request.{requestBody}
+use Rattle.message_formats.specs.Formats.{bodyOf}
 use Rattle.control_messages.proofs.message_44.octets.Statement.{statement}
 use Rattle.control_messages.proofs.message_44.octets.Tie as tie
 
 returns : tie.Need-returns
-unfolding requestBody
+unfolding bodyOf
 returns c = refl
 
 pub octets-spec : {M : Type 1} → statement M

@@ -1,5 +1,5 @@
 -- `message_45::octets` meets its contract. Assumes nothing.
-use Rattle.control_messages.specs.Control.{controlBody, stateOf}
+use Rattle.message_formats.specs.Formats.{bodyOf}
 use mir.Syntax.{w32}
 use mir.ValLaws.{toZ-ofZ}
 use borrow.Author.Needs.{needs}
@@ -31,7 +31,7 @@ cast-t19 : tie.Need-cast-t19
 cast-t19 c = search needs
 
 returns : tie.Need-returns
-unfolding controlBody stateOf
+unfolding bodyOf
 returns c =
     rw (
       c .before .before .before .state .ensures,

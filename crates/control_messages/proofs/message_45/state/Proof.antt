@@ -1,5 +1,5 @@
 -- `message_45::state` meets its contract. Assumes nothing.
-use Rattle.control_messages.specs.Control.{stateOf}
+use Rattle.message_formats.specs.Formats.{bodyOf}
 use borrow.Author.Needs.{needs}
 use Rattle.control_messages.proofs.message_45.state.Statement.{statement}
 use Rattle.control_messages.proofs.message_45.state.Tie as tie
@@ -59,7 +59,7 @@ add-result-4 : tie.Need-add-result-4
 add-result-4 c = search needs
 
 returns : tie.Need-returns
-unfolding stateOf
+unfolding bodyOf
 returns c =
     rw (
       c .before .before .before .before .before .before .bit .ensures .0,

@@ -1,8 +1,9 @@
 -- `message_0::fields` meets its contract, field by field. Assumes nothing.
 use mathlib.Core.Path.{_∙_}
 use denote.Ref.{now}
-use Rattle.octet_fields.proofs.Spelled.{field-at}
-use Rattle.gdl90_messages.specs.Heartbeat.{heartbeatLayout, heartbeatIn}
+use Rattle.message_formats.specs.Formats.{valueIn}
+use Rattle.message_formats.proofs.Answers.{by-octets}
+use Rattle.gdl90_messages.specs.Heartbeat.{heartbeatFormat}
 use borrow.Author.Needs.{needs}
 use Rattle.gdl90_messages.proofs.message_0.fields.Statement.{statement}
 use Rattle.gdl90_messages.proofs.message_0.fields.Tie as tie
@@ -20,16 +21,16 @@ big-16-requires : tie.Need-big-16-requires
 big-16-requires c κs = search needs
 
 returns : tie.Need-returns
-unfolding heartbeatIn
+unfolding valueIn
 returns c =
     let s = c .before .before .before .before .before in
-    let body = now (s .args .body) in
-    λ i. record {
-      «status_1» = (c .before .before .before .octet .ensures ∙ field-at heartbeatLayout 7 1 body (s .pre)) i;
-      «status_2» = (c .before .before .octet2 .ensures ∙ field-at heartbeatLayout 7 2 body (s .pre)) i;
-      «time_stamp» = (c .before .little-16 .ensures ∙ field-at heartbeatLayout 7 3 body (s .pre)) i;
-      counts = (c .big-16 .ensures ∙ field-at heartbeatLayout 7 4 body (s .pre)) i;
-    }
+    (λ i. record {
+      «status_1» = (c .before .before .before .octet .ensures) i;
+      «status_2» = (c .before .before .octet2 .ensures) i;
+      «time_stamp» = (c .before .little-16 .ensures) i;
+      counts = (c .big-16 .ensures) i;
+    })
+    ∙ by-octets heartbeatFormat 7 (now (s .args .body)) (s .pre)
 
 pub fields-spec : {M : Type 1} → statement M
 fields-spec =

@@ -1,6 +1,6 @@
 -- `message_0::octets` meets its contract. Assumes nothing.
 use mathlib.Core.Path.{refl}
-use Rattle.gdl90_messages.specs.Heartbeat.{heartbeatBody}
+use Rattle.message_formats.specs.Formats.{bodyOf}
 use borrow.Author.Needs.{needs}
 use Rattle.gdl90_messages.proofs.message_0.octets.Statement.{statement}
 use Rattle.gdl90_messages.proofs.message_0.octets.Tie as tie
@@ -18,7 +18,7 @@ cast-t11 : tie.Need-cast-t11
 cast-t11 c = search needs
 
 returns : tie.Need-returns
-unfolding heartbeatBody
+unfolding bodyOf
 returns c = refl
 
 pub octets-spec : {M : Type 1} → statement M

@@ -1,14 +1,13 @@
 -- `message_10::fields` meets its contract, field by field. Assumes nothing.
-use mathlib.Core.Path.{_≡_, _∙_, ap}
+use mathlib.Core.Path.{_∙_, ap}
 use Prim.Native.Nat.{ℕ, _/_, _%_}
 use denote.Ref.{now}
-use lib.ListN.{getD}
 use mir.Syntax.{w16, w32}
 use mir.ValLaws.{toZ-ofZ}
-use Rattle.octet_fields.specs.Layout.{fields}
 use Rattle.twos_complement.specs.Signed.{signed}
-use Rattle.octet_fields.proofs.Spelled.{elements, field-at, text-at}
-use Rattle.gdl90_messages.specs.Report.{reportLayout, reportIn}
+use Rattle.message_formats.specs.Formats.{valueIn}
+use Rattle.message_formats.proofs.Answers.{by-octets}
+use Rattle.gdl90_messages.specs.Report.{reportFormat}
 use borrow.Author.Needs.{needs}
 use Rattle.gdl90_messages.proofs.message_10.fields.Statement.{statement}
 use Rattle.gdl90_messages.proofs.message_10.fields.Tie as tie
@@ -65,48 +64,45 @@ text-at-requires : tie.Need-text-at-requires
 text-at-requires c κs = search needs
 
 returns : tie.Need-returns
-unfolding reportIn
+unfolding valueIn
 returns c =
     let s = c .before .before .before .before .before .before .before .before .before .before .before .before .before .before in
-    let body = now (s .args .body) in
-    let at : (k : ℕ) → getD (fields reportLayout (elements 28 0 body)) k 0 ≡ getD (fields reportLayout body) k 0 =
-    λ k. field-at reportLayout 28 k body (s .pre)
-    in
     let first = c .before .before .before .before .before .before .before .before .before .before .before .before .octet .ensures in
     let height = c .before .before .before .before .before .before .before .before .before .before .before .big-16 .ensures in
     let integrity = c .before .before .before .before .before .before .before .before .before .before .octet2 .ensures in
     let motion = c .before .before .before .before .before .before .before .before .before .big-32 .ensures in
     let last = c .before .before .before .before .before .before .before .before .octet3 .ensures in
-    λ i. record {
-      alert = (ap (λ (n : ℕ). n / 16) first ∙ at 1) i;
-      «address_type» = (ap (λ (n : ℕ). n % 16) first ∙ at 2) i;
-      address = (c .before .before .before .before .before .before .before .big-24 .ensures ∙ at 3) i;
+    (λ i. record {
+      alert = (ap (λ (n : ℕ). n / 16) first) i;
+      «address_type» = (ap (λ (n : ℕ). n % 16) first) i;
+      address = (c .before .before .before .before .before .before .before .big-24 .ensures) i;
       latitude =
           (toZ-ofZ w32 (c .before .before .before .before .before .signed-24 .result) (record { sfits = c .before .before .before .before .before .signed-24 .ok })
           ∙ c .before .before .before .before .before .signed-24 .ensures
-          ∙ ap (signed 8388608) (c .before .before .before .before .before .before .big-242 .ensures ∙ at 4))
+          ∙ ap (signed 8388608) (c .before .before .before .before .before .before .big-242 .ensures))
           i;
       longitude =
           (toZ-ofZ w32 (c .before .before .before .signed-242 .result) (record { sfits = c .before .before .before .signed-242 .ok })
           ∙ c .before .before .before .signed-242 .ensures
-          ∙ ap (signed 8388608) (c .before .before .before .before .big-243 .ensures ∙ at 5))
+          ∙ ap (signed 8388608) (c .before .before .before .before .big-243 .ensures))
           i;
-      altitude = (ap (λ (n : ℕ). n / 16) height ∙ at 6) i;
-      miscellaneous = (ap (λ (n : ℕ). n % 16) height ∙ at 7) i;
-      nic = (ap (λ (n : ℕ). n / 16) integrity ∙ at 8) i;
-      nacp = (ap (λ (n : ℕ). n % 16) integrity ∙ at 9) i;
-      speed = (ap (λ (n : ℕ). n / 1048576) motion ∙ at 10) i;
+      altitude = (ap (λ (n : ℕ). n / 16) height) i;
+      miscellaneous = (ap (λ (n : ℕ). n % 16) height) i;
+      nic = (ap (λ (n : ℕ). n / 16) integrity) i;
+      nacp = (ap (λ (n : ℕ). n % 16) integrity) i;
+      speed = (ap (λ (n : ℕ). n / 1048576) motion) i;
       «vertical_rate» =
           (toZ-ofZ w16 (c .before .before .signed-12 .result) (record { sfits = c .before .before .signed-12 .ok })
           ∙ c .before .before .signed-12 .ensures
-          ∙ ap (signed 2048) (ap (λ (n : ℕ). n % 1048576 / 256) motion ∙ at 11))
+          ∙ ap (signed 2048) (ap (λ (n : ℕ). n % 1048576 / 256) motion))
           i;
-      track = (ap (λ (n : ℕ). n % 1048576 % 256) motion ∙ at 12) i;
-      emitter = (c .before .octet4 .ensures ∙ at 13) i;
-      callsign = (c .text-at .ensures ∙ text-at reportLayout 28 14 body (s .pre)) i;
-      emergency = (ap (λ (n : ℕ). n / 16) last ∙ at 22) i;
-      spare = (ap (λ (n : ℕ). n % 16) last ∙ at 23) i;
-    }
+      track = (ap (λ (n : ℕ). n % 1048576 % 256) motion) i;
+      emitter = (c .before .octet4 .ensures) i;
+      callsign = (c .text-at .ensures) i;
+      emergency = (ap (λ (n : ℕ). n / 16) last) i;
+      spare = (ap (λ (n : ℕ). n % 16) last) i;
+    })
+    ∙ by-octets (reportFormat 10) 28 (now (s .args .body)) (s .pre)
 
 pub fields-spec : {M : Type 1} → statement M
 fields-spec =

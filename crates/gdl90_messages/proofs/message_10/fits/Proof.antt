@@ -1,7 +1,7 @@
 -- `message_10::fits` meets its contract. Assumes nothing.
 use mir.Syntax.{w16, w32}
 use mir.ValLaws.{toZ-ofZ}
-use Rattle.gdl90_messages.specs.Report.{reportFits}
+use Rattle.message_formats.specs.Formats.{fits}
 use borrow.Author.Needs.{needs}
 use Rattle.gdl90_messages.proofs.message_10.fits.Statement.{statement}
 use Rattle.gdl90_messages.proofs.message_10.fits.Tie as tie
@@ -16,7 +16,7 @@ holds-12-requires : tie.Need-holds-12-requires
 holds-12-requires c κs = search needs
 
 returns : tie.Need-returns
-unfolding reportFits
+unfolding fits
 returns c =
     let s = c .before .before .before .before .before .before .before .before .before .before .before .before .before .before .before .before in
     let told = c .before .before .before .before .before .before .before .before .before .before .before .before .before .before .before .struct-told .given in

@@ -1,7 +1,10 @@
 -- `message_10::octets` meets its contract. Assumes nothing.
 use mir.Syntax.{w16, w32}
 use mir.ValLaws.{toZ-ofZ}
-use Rattle.gdl90_messages.specs.Report.{reportBody}
+use Rattle.message_formats.specs.Formats.{bodyOf}
+use Rattle.message_formats.proofs.Formats.{bound}
+use Rattle.gdl90_messages.specs.Report.{reportFormat}
+use Rattle.gdl90_messages.proofs.Formats.{report-right}
 use borrow.Author.Needs.{needs}
 use Rattle.gdl90_messages.proofs.message_10.octets.Statement.{statement}
 use Rattle.gdl90_messages.proofs.message_10.octets.Tie as tie
@@ -16,19 +19,29 @@ height-of-requires : tie.Need-height-of-requires
 height-of-requires c κs = search needs
 
 motion-of-requires : tie.Need-motion-of-requires
-motion-of-requires c κs = (c .before .before .before .before .before .before .pre .speed, rw (toZ-ofZ w16 (c .before .before .before .before .before .before .args .report .«vertical_rate») (record { sfits = c .struct-told3 .given .1 .1 .1 .1 .1 .1 .1 .1 .1 .1 .0 .1 })) (c .before .before .before .before .before .before .pre .rate))
+motion-of-requires c κs =
+    let s = c .before .before .before .before .before .before in
+    let r = s .args .report in
+    let at = bound (reportFormat (s .args .id)) (report-right (s .args .id)) r (s .pre) in
+    (at 9, rw (toZ-ofZ w16 (r .«vertical_rate») (record { sfits = c .struct-told3 .given .1 .1 .1 .1 .1 .1 .1 .1 .1 .1 .0 .1 })) (at 10))
 
 halves-requires : tie.Need-halves-requires
 halves-requires c κs = search needs
 
 halves-requires-2 : tie.Need-halves-requires-2
-halves-requires-2 c κs = search needs
+halves-requires-2 c κs =
+    let s = c .before .before .before .before .before .before .before .before in
+    let at = bound (reportFormat (s .args .id)) (report-right (s .args .id)) (s .args .report) (s .pre) in
+    (at 7, at 8)
 
 halves-requires-3 : tie.Need-halves-requires-3
-halves-requires-3 c κs = search needs
+halves-requires-3 c κs =
+    let s = c .before .before .before .before .before .before .before .before .before in
+    let at = bound (reportFormat (s .args .id)) (report-right (s .args .id)) (s .args .report) (s .pre) in
+    (at 14, at 15)
 
 returns : tie.Need-returns
-unfolding reportBody
+unfolding bodyOf
 returns c =
     let r = c .before .before .before .before .before .before .before .before .before .before .args .report in
     rw (

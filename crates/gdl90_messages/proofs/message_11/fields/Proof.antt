@@ -4,8 +4,9 @@ use denote.Ref.{now}
 use mir.Syntax.{w16}
 use mir.ValLaws.{toZ-ofZ}
 use Rattle.twos_complement.specs.Signed.{signed}
-use Rattle.octet_fields.proofs.Spelled.{field-at}
-use Rattle.gdl90_messages.specs.GeometricAltitude.{geometricLayout, geometricIn}
+use Rattle.message_formats.specs.Formats.{valueIn}
+use Rattle.message_formats.proofs.Answers.{by-octets}
+use Rattle.gdl90_messages.specs.GeometricAltitude.{geometricFormat}
 use borrow.Author.Needs.{needs}
 use Rattle.gdl90_messages.proofs.message_11.fields.Statement.{statement}
 use Rattle.gdl90_messages.proofs.message_11.fields.Tie as tie
@@ -20,18 +21,18 @@ big-16-requires-2 : tie.Need-big-16-requires-2
 big-16-requires-2 c κs = search needs
 
 returns : tie.Need-returns
-unfolding geometricIn
+unfolding valueIn
 returns c =
     let s = c .before .before .before .before in
-    let body = now (s .args .body) in
-    λ i. record {
+    (λ i. record {
       altitude =
           (toZ-ofZ w16 (c .before .signed-16 .result) (record { sfits = c .before .signed-16 .ok })
           ∙ c .before .signed-16 .ensures
-          ∙ ap (signed 32768) (c .before .before .big-16 .ensures ∙ field-at geometricLayout 5 1 body (s .pre)))
+          ∙ ap (signed 32768) (c .before .before .big-16 .ensures))
           i;
-      metrics = (c .big-162 .ensures ∙ field-at geometricLayout 5 2 body (s .pre)) i;
-    }
+      metrics = (c .big-162 .ensures) i;
+    })
+    ∙ by-octets geometricFormat 5 (now (s .args .body)) (s .pre)
 
 pub fields-spec : {M : Type 1} → statement M
 fields-spec = tie.close (tie.spec big-16-requires signed-16-requires big-16-requires-2 returns)

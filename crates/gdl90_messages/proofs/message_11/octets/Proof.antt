@@ -2,7 +2,7 @@
 use mir.Syntax.{w16}
 use mir.Val.{SFits}
 use mir.ValLaws.{toZ-ofZ}
-use Rattle.gdl90_messages.specs.GeometricAltitude.{geometricBody}
+use Rattle.message_formats.specs.Formats.{bodyOf}
 use borrow.Author.Needs.{needs}
 use Rattle.gdl90_messages.proofs.message_11.octets.Statement.{statement}
 use Rattle.gdl90_messages.proofs.message_11.octets.Tie as tie
@@ -23,7 +23,7 @@ cast-t11 : tie.Need-cast-t11
 cast-t11 c = search needs
 
 returns : tie.Need-returns
-unfolding geometricBody
+unfolding bodyOf
 returns c =
     let z = c .before .before .args .geometric .altitude in
     let f : SFits w16 z = record { sfits = c .before .before .good .0 .1 .1 .0 .1 } in

@@ -1,27 +1,14 @@
 -- `message_11::read` meets its contract, test by test. Assumes nothing.
-use mathlib.Core.Path.{_≡_, refl, ap}
+use mathlib.Core.Path.{refl}
 use native.Mathlib.Omega.{arith}
-use borrow.Author.Tests.{eq-eqb, ne-eqb}
-use denote.Ref.{now}
-use lib.ListN.{length}
 use Rattle.gdl90_messages.specs.declared.GeometricAltitudeRead.the-variants.{GeometricAltitude as GeometricAltitudeIs, Refused}
-use Rattle.gdl90_messages.specs.GeometricAltitude.{geometricRead}
-use Rattle.message_answers.proofs.Tests.{wrong-length, right}
+use Rattle.message_formats.proofs.Answers.{refused-11, accepted}
+use Rattle.gdl90_messages.specs.GeometricAltitude.{geometricFormat}
 use Rattle.gdl90_messages.proofs.message_11.read.Statement.{statement}
 use Rattle.gdl90_messages.proofs.message_11.read.Tie as tie
 
-returns : tie.Need-returns
-unfolding geometricRead
-returns c = wrong-length Refused _ _ _ (ne-eqb _ _ (c .if1 .taken))
-
-fields-requires : tie.Need-fields-requires
-fields-requires c κs = omega arith
-
-returns-2 : tie.Need-returns-2
-unfolding geometricRead
-returns-2 c =
-    let exact : length (now (c .before .before .before .args .body)) ≡ 5 = omega arith in
-    right Refused (eq-eqb _ _ exact) refl refl (ap GeometricAltitudeIs (c .fields .ensures))
-
 pub read-spec : {M : Type 1} → statement M
-read-spec = tie.close (tie.spec returns fields-requires returns-2)
+read-spec =
+    tie.close
+    (tie.spec (λ c. refused-11 geometricFormat Refused GeometricAltitudeIs _ (c .if1 .taken)) (λ c κs. omega arith)
+    (λ c. accepted geometricFormat Refused GeometricAltitudeIs _ (omega arith) refl (c .fields .ensures) refl))

@@ -1,7 +1,8 @@
 -- `mavlink_messages::message_201::octets` meets its contract, run by run. Assumes nothing.
 use mathlib.Core.List.{[], _∷_, _++_}
+use Rattle.message_formats.specs.Formats.{bodyOf}
 use Rattle.octet_fields.specs.Texts.{textOctets}
-use Rattle.mavlink_messages.specs.Static.{staticPayload}
+use Rattle.mavlink_messages.specs.Static.{staticFormat}
 use borrow.Author.Needs.{needs}
 use Rattle.mavlink_messages.proofs.message_201.octets.Statement.{statement}
 use Rattle.mavlink_messages.proofs.message_201.octets.Tie as tie
@@ -13,7 +14,7 @@ little-16-requires : tie.Need-little-16-requires
 little-16-requires c κs = search needs
 
 returns : tie.Need-returns
-unfolding staticPayload
+unfolding bodyOf
 returns c =
     let at-stall = c .before in
     let at-address = at-stall .before in

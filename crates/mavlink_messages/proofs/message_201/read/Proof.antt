@@ -3,9 +3,9 @@ use mathlib.Core.Path.{_≡_, _∙_}
 use Prim.Native.Nat.{ℕ}
 use denote.Ref.{now}
 use lib.ListN.{getD}
-use Rattle.octet_fields.specs.Layout.{fields}
-use Rattle.octet_fields.proofs.Spelled.{elements, field-at, text-at}
-use Rattle.mavlink_messages.specs.Static.{staticLayout, staticIn}
+use Rattle.message_formats.specs.Formats.{valueIn}
+use Rattle.message_formats.proofs.Answers.{by-octets}
+use Rattle.mavlink_messages.specs.Static.{staticFormat}
 use borrow.Author.Needs.{needs}
 use Rattle.mavlink_messages.proofs.message_201.read.Statement.{statement}
 use Rattle.mavlink_messages.proofs.message_201.read.Tie as tie
@@ -38,7 +38,7 @@ octet-requires-6 : tie.Need-octet-requires-6
 octet-requires-6 c κs = search needs
 
 returns : tie.Need-returns
-unfolding staticIn
+unfolding valueIn
 returns c =
     let at-longitudinal = c in
     let at-lateral = at-longitudinal .before in
@@ -50,21 +50,18 @@ returns c =
     let at-integrity = at-stall .before in
     let at-address = at-integrity .before in
     let s = at-address .before .before in
-    let payload = now (s .args .payload) in
-    let at : (k : ℕ) → getD (fields staticLayout (elements 19 0 payload)) k 0 ≡ getD (fields staticLayout payload) k 0 =
-    λ k. field-at staticLayout 19 k payload (s .pre)
-    in
-    λ i. record {
-      address = (at-address .little-24 .ensures ∙ at 0) i;
-      integrity = (at-integrity .octet .ensures ∙ at 1) i;
-      stall = (at-stall .little-16 .ensures ∙ at 2) i;
-      callsign = (at-callsign .text-at .ensures ∙ text-at staticLayout 19 3 payload (s .pre)) i;
-      capability = (at-capability .octet2 .ensures ∙ at 11) i;
-      emitter = (at-emitter .octet3 .ensures ∙ at 12) i;
-      size = (at-size .octet4 .ensures ∙ at 13) i;
-      lateral = (at-lateral .octet5 .ensures ∙ at 14) i;
-      longitudinal = (at-longitudinal .octet6 .ensures ∙ at 15) i;
-    }
+    (λ i. record {
+      address = (at-address .little-24 .ensures) i;
+      integrity = (at-integrity .octet .ensures) i;
+      stall = (at-stall .little-16 .ensures) i;
+      callsign = (at-callsign .text-at .ensures) i;
+      capability = (at-capability .octet2 .ensures) i;
+      emitter = (at-emitter .octet3 .ensures) i;
+      size = (at-size .octet4 .ensures) i;
+      lateral = (at-lateral .octet5 .ensures) i;
+      longitudinal = (at-longitudinal .octet6 .ensures) i;
+    })
+    ∙ by-octets staticFormat 19 (now (s .args .payload)) (s .pre)
 
 pub read-spec : {M : Type 1} → statement M
 read-spec =

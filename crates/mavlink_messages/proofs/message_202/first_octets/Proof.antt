@@ -1,7 +1,8 @@
 -- `mavlink_messages::message_202::first_octets` meets its contract, run by run. Assumes nothing.
 use mathlib.Core.List.{_++_}
 use mir.Syntax.{w32}
-use Rattle.mavlink_messages.specs.Dynamic.{dynamicPayload}
+use Rattle.message_formats.specs.Formats.{bodyOf}
+use Rattle.mavlink_messages.specs.Dynamic.{dynamicFormat}
 use Rattle.mavlink_messages.proofs.Signed.{put}
 use borrow.Author.Needs.{needs}
 use Rattle.mavlink_messages.proofs.message_202.first_octets.Statement.{statement}
@@ -26,7 +27,7 @@ little-32-requires-2 : tie.Need-little-32-requires-2
 little-32-requires-2 c κs = search needs
 
 returns : tie.Need-returns
-unfolding dynamicPayload
+unfolding bodyOf
 returns c =
     let at-horizontal = c in
     let at-gnss = at-horizontal .before in

@@ -1,7 +1,8 @@
 -- `mavlink_messages::message_202::last_octets` meets its contract, run by run. Assumes nothing.
 use mathlib.Core.List.{[], _∷_, _++_}
 use mir.Syntax.{w16}
-use Rattle.mavlink_messages.specs.Dynamic.{dynamicPayload}
+use Rattle.message_formats.specs.Formats.{bodyOf}
+use Rattle.mavlink_messages.specs.Dynamic.{dynamicFormat}
 use Rattle.mavlink_messages.proofs.Signed.{put}
 use borrow.Author.Needs.{needs}
 use Rattle.mavlink_messages.proofs.message_202.last_octets.Statement.{statement}
@@ -29,7 +30,7 @@ little-16-requires-4 : tie.Need-little-16-requires-4
 little-16-requires-4 c κs = search needs
 
 returns : tie.Need-returns
-unfolding dynamicPayload
+unfolding bodyOf
 returns c =
     let at-squawk = c in
     let at-state = at-squawk .before in

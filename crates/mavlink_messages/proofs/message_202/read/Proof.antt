@@ -4,9 +4,9 @@ use Prim.Native.Nat.{ℕ}
 use denote.Ref.{now}
 use lib.ListN.{getD}
 use mir.Syntax.{w16, w32}
-use Rattle.octet_fields.specs.Layout.{fields}
-use Rattle.octet_fields.proofs.Spelled.{elements, field-at}
-use Rattle.mavlink_messages.specs.Dynamic.{dynamicLayout, dynamicIn}
+use Rattle.message_formats.specs.Formats.{valueIn}
+use Rattle.message_formats.proofs.Answers.{by-octets}
+use Rattle.mavlink_messages.specs.Dynamic.{dynamicFormat}
 use Rattle.mavlink_messages.proofs.Signed.{taken}
 use borrow.Author.Needs.{needs}
 use Rattle.mavlink_messages.proofs.message_202.read.Statement.{statement}
@@ -85,7 +85,7 @@ octet-requires-4 : tie.Need-octet-requires-4
 octet-requires-4 c κs = search needs
 
 returns : tie.Need-returns
-unfolding dynamicIn
+unfolding valueIn
 returns c =
     let at-control = c in
     let at-emergency = at-control .before in
@@ -105,29 +105,26 @@ returns c =
     let at-latitude = at-longitude .before .before in
     let at-utc = at-latitude .before .before in
     let s = at-utc .before .before in
-    let payload = now (s .args .payload) in
-    let at : (k : ℕ) → getD (fields dynamicLayout (elements 42 0 payload)) k 0 ≡ getD (fields dynamicLayout payload) k 0 =
-    λ k. field-at dynamicLayout 42 k payload (s .pre)
-    in
-    λ i. record {
-      utc = (at-utc .little-32 .ensures ∙ at 0) i;
-      latitude = taken w32 2147483648 (at-latitude .signed-32 .ensures) (record { sfits = at-latitude .signed-32 .ok }) (at-latitude .before .little-322 .ensures ∙ at 1) i;
-      longitude = taken w32 2147483648 (at-longitude .signed-322 .ensures) (record { sfits = at-longitude .signed-322 .ok }) (at-longitude .before .little-323 .ensures ∙ at 2) i;
-      pressure = taken w32 2147483648 (at-pressure .signed-323 .ensures) (record { sfits = at-pressure .signed-323 .ok }) (at-pressure .before .little-324 .ensures ∙ at 3) i;
-      gnss = taken w32 2147483648 (at-gnss .signed-324 .ensures) (record { sfits = at-gnss .signed-324 .ok }) (at-gnss .before .little-325 .ensures ∙ at 4) i;
-      horizontal = (at-horizontal .little-326 .ensures ∙ at 5) i;
-      vertical = (at-vertical .little-16 .ensures ∙ at 6) i;
-      velocity = (at-velocity .little-162 .ensures ∙ at 7) i;
-      climb = taken w16 32768 (at-climb .signed-16 .ensures) (record { sfits = at-climb .signed-16 .ok }) (at-climb .before .little-163 .ensures ∙ at 8) i;
-      north = taken w16 32768 (at-north .signed-162 .ensures) (record { sfits = at-north .signed-162 .ok }) (at-north .before .little-164 .ensures ∙ at 9) i;
-      east = taken w16 32768 (at-east .signed-163 .ensures) (record { sfits = at-east .signed-163 .ok }) (at-east .before .little-165 .ensures ∙ at 10) i;
-      state = (at-state .little-166 .ensures ∙ at 11) i;
-      squawk = (at-squawk .little-167 .ensures ∙ at 12) i;
-      fix = (at-fix .octet .ensures ∙ at 13) i;
-      satellites = (at-satellites .octet2 .ensures ∙ at 14) i;
-      emergency = (at-emergency .octet3 .ensures ∙ at 15) i;
-      control = (at-control .octet4 .ensures ∙ at 16) i;
-    }
+    (λ i. record {
+      utc = (at-utc .little-32 .ensures) i;
+      latitude = taken w32 2147483648 (at-latitude .signed-32 .ensures) (record { sfits = at-latitude .signed-32 .ok }) (at-latitude .before .little-322 .ensures) i;
+      longitude = taken w32 2147483648 (at-longitude .signed-322 .ensures) (record { sfits = at-longitude .signed-322 .ok }) (at-longitude .before .little-323 .ensures) i;
+      pressure = taken w32 2147483648 (at-pressure .signed-323 .ensures) (record { sfits = at-pressure .signed-323 .ok }) (at-pressure .before .little-324 .ensures) i;
+      gnss = taken w32 2147483648 (at-gnss .signed-324 .ensures) (record { sfits = at-gnss .signed-324 .ok }) (at-gnss .before .little-325 .ensures) i;
+      horizontal = (at-horizontal .little-326 .ensures) i;
+      vertical = (at-vertical .little-16 .ensures) i;
+      velocity = (at-velocity .little-162 .ensures) i;
+      climb = taken w16 32768 (at-climb .signed-16 .ensures) (record { sfits = at-climb .signed-16 .ok }) (at-climb .before .little-163 .ensures) i;
+      north = taken w16 32768 (at-north .signed-162 .ensures) (record { sfits = at-north .signed-162 .ok }) (at-north .before .little-164 .ensures) i;
+      east = taken w16 32768 (at-east .signed-163 .ensures) (record { sfits = at-east .signed-163 .ok }) (at-east .before .little-165 .ensures) i;
+      state = (at-state .little-166 .ensures) i;
+      squawk = (at-squawk .little-167 .ensures) i;
+      fix = (at-fix .octet .ensures) i;
+      satellites = (at-satellites .octet2 .ensures) i;
+      emergency = (at-emergency .octet3 .ensures) i;
+      control = (at-control .octet4 .ensures) i;
+    })
+    ∙ by-octets dynamicFormat 42 (now (s .args .payload)) (s .pre)
 
 pub read-spec : {M : Type 1} → statement M
 read-spec =

@@ -1,11 +1,12 @@
 -- `mavlink_messages::message_203::octets` meets its contract. Assumes nothing.
 use mathlib.Core.Path.{refl}
-use Rattle.mavlink_messages.specs.Status.{statusPayload}
+use Rattle.message_formats.specs.Formats.{bodyOf}
+use Rattle.mavlink_messages.specs.Status.{statusFormat}
 use Rattle.mavlink_messages.proofs.message_203.octets.Statement.{statement}
 use Rattle.mavlink_messages.proofs.message_203.octets.Tie as tie
 
 returns : tie.Need-returns
-unfolding statusPayload
+unfolding bodyOf
 returns c = refl
 
 pub octets-spec : {M : Type 1} → statement M

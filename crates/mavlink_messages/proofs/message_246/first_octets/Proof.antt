@@ -1,7 +1,8 @@
 -- `mavlink_messages::message_246::first_octets` meets its contract, run by run. Assumes nothing.
 use mathlib.Core.List.{_++_}
 use mir.Syntax.{w32}
-use Rattle.mavlink_messages.specs.Traffic.{trafficPayload}
+use Rattle.message_formats.specs.Formats.{bodyOf}
+use Rattle.mavlink_messages.specs.Traffic.{trafficFormat}
 use Rattle.mavlink_messages.proofs.Signed.{put}
 use borrow.Author.Needs.{needs}
 use Rattle.mavlink_messages.proofs.message_246.first_octets.Statement.{statement}
@@ -20,7 +21,7 @@ signed-32-requires-3 : tie.Need-signed-32-requires-3
 signed-32-requires-3 c κs = search needs
 
 returns : tie.Need-returns
-unfolding trafficPayload
+unfolding bodyOf
 returns c =
     let at-altitude = c in
     let at-longitude = at-altitude .before .before in

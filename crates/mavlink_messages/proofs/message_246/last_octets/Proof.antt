@@ -1,8 +1,9 @@
 -- `mavlink_messages::message_246::last_octets` meets its contract, run by run. Assumes nothing.
 use mathlib.Core.List.{[], _∷_, _++_}
 use mir.Syntax.{w16}
+use Rattle.message_formats.specs.Formats.{bodyOf}
 use Rattle.octet_fields.specs.Texts.{textOctets}
-use Rattle.mavlink_messages.specs.Traffic.{trafficPayload}
+use Rattle.mavlink_messages.specs.Traffic.{trafficFormat}
 use Rattle.mavlink_messages.proofs.Signed.{put}
 use borrow.Author.Needs.{needs}
 use Rattle.mavlink_messages.proofs.message_246.last_octets.Statement.{statement}
@@ -24,7 +25,7 @@ little-16-requires-4 : tie.Need-little-16-requires-4
 little-16-requires-4 c κs = search needs
 
 returns : tie.Need-returns
-unfolding trafficPayload
+unfolding bodyOf
 returns c =
     let at-squawk = c .before in
     let at-valid = at-squawk .before in

@@ -4,9 +4,9 @@ use Prim.Native.Nat.{ℕ}
 use denote.Ref.{now}
 use lib.ListN.{getD}
 use mir.Syntax.{w16, w32}
-use Rattle.octet_fields.specs.Layout.{fields}
-use Rattle.octet_fields.proofs.Spelled.{elements, field-at, text-at}
-use Rattle.mavlink_messages.specs.Traffic.{trafficLayout, trafficIn}
+use Rattle.message_formats.specs.Formats.{valueIn}
+use Rattle.message_formats.proofs.Answers.{by-octets}
+use Rattle.mavlink_messages.specs.Traffic.{trafficFormat}
 use Rattle.mavlink_messages.proofs.Signed.{taken}
 use borrow.Author.Needs.{needs}
 use Rattle.mavlink_messages.proofs.message_246.read.Statement.{statement}
@@ -67,7 +67,7 @@ octet-requires-4 : tie.Need-octet-requires-4
 octet-requires-4 c κs = search needs
 
 returns : tie.Need-returns
-unfolding trafficIn
+unfolding valueIn
 returns c =
     let at-age = c in
     let at-emitter = at-age .before in
@@ -84,26 +84,23 @@ returns c =
     let at-latitude = at-longitude .before .before in
     let at-address = at-latitude .before .before in
     let s = at-address .before .before in
-    let payload = now (s .args .payload) in
-    let at : (k : ℕ) → getD (fields trafficLayout (elements 38 0 payload)) k 0 ≡ getD (fields trafficLayout payload) k 0 =
-    λ k. field-at trafficLayout 38 k payload (s .pre)
-    in
-    λ i. record {
-      address = (at-address .little-32 .ensures ∙ at 0) i;
-      latitude = taken w32 2147483648 (at-latitude .signed-32 .ensures) (record { sfits = at-latitude .signed-32 .ok }) (at-latitude .before .little-322 .ensures ∙ at 1) i;
-      longitude = taken w32 2147483648 (at-longitude .signed-322 .ensures) (record { sfits = at-longitude .signed-322 .ok }) (at-longitude .before .little-323 .ensures ∙ at 2) i;
-      altitude = taken w32 2147483648 (at-altitude .signed-323 .ensures) (record { sfits = at-altitude .signed-323 .ok }) (at-altitude .before .little-324 .ensures ∙ at 3) i;
-      heading = (at-heading .little-16 .ensures ∙ at 4) i;
-      speed = (at-speed .little-162 .ensures ∙ at 5) i;
-      climb = taken w16 32768 (at-climb .signed-16 .ensures) (record { sfits = at-climb .signed-16 .ok }) (at-climb .before .little-163 .ensures ∙ at 6) i;
-      valid = (at-valid .little-164 .ensures ∙ at 7) i;
-      squawk = (at-squawk .little-165 .ensures ∙ at 8) i;
-      datum = (at-datum .octet .ensures ∙ at 9) i;
-      callsign = (at-callsign .text-at .ensures ∙ text-at trafficLayout 38 10 payload (s .pre)) i;
-      ninth = (at-ninth .octet2 .ensures ∙ at 18) i;
-      emitter = (at-emitter .octet3 .ensures ∙ at 19) i;
-      age = (at-age .octet4 .ensures ∙ at 20) i;
-    }
+    (λ i. record {
+      address = (at-address .little-32 .ensures) i;
+      latitude = taken w32 2147483648 (at-latitude .signed-32 .ensures) (record { sfits = at-latitude .signed-32 .ok }) (at-latitude .before .little-322 .ensures) i;
+      longitude = taken w32 2147483648 (at-longitude .signed-322 .ensures) (record { sfits = at-longitude .signed-322 .ok }) (at-longitude .before .little-323 .ensures) i;
+      altitude = taken w32 2147483648 (at-altitude .signed-323 .ensures) (record { sfits = at-altitude .signed-323 .ok }) (at-altitude .before .little-324 .ensures) i;
+      heading = (at-heading .little-16 .ensures) i;
+      speed = (at-speed .little-162 .ensures) i;
+      climb = taken w16 32768 (at-climb .signed-16 .ensures) (record { sfits = at-climb .signed-16 .ok }) (at-climb .before .little-163 .ensures) i;
+      valid = (at-valid .little-164 .ensures) i;
+      squawk = (at-squawk .little-165 .ensures) i;
+      datum = (at-datum .octet .ensures) i;
+      callsign = (at-callsign .text-at .ensures) i;
+      ninth = (at-ninth .octet2 .ensures) i;
+      emitter = (at-emitter .octet3 .ensures) i;
+      age = (at-age .octet4 .ensures) i;
+    })
+    ∙ by-octets trafficFormat 38 (now (s .args .payload)) (s .pre)
 
 pub read-spec : {M : Type 1} → statement M
 read-spec =

@@ -1,6 +1,7 @@
 -- `mavlink_messages::message_66::octets` meets its contract, run by run. Assumes nothing.
 use mathlib.Core.List.{[], _∷_, _++_}
-use Rattle.mavlink_messages.specs.DataStream.{dataStreamPayload}
+use Rattle.message_formats.specs.Formats.{bodyOf}
+use Rattle.mavlink_messages.specs.DataStream.{dataStreamFormat}
 use borrow.Author.Needs.{needs}
 use Rattle.mavlink_messages.proofs.message_66.octets.Statement.{statement}
 use Rattle.mavlink_messages.proofs.message_66.octets.Tie as tie
@@ -9,7 +10,7 @@ little-16-requires : tie.Need-little-16-requires
 little-16-requires c κs = search needs
 
 returns : tie.Need-returns
-unfolding dataStreamPayload
+unfolding bodyOf
 returns c =
     let at-rate = c in
     let v = at-rate .before .args .data-stream in

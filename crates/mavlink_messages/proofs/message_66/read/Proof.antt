@@ -3,9 +3,9 @@ use mathlib.Core.Path.{_≡_, _∙_}
 use Prim.Native.Nat.{ℕ}
 use denote.Ref.{now}
 use lib.ListN.{getD}
-use Rattle.octet_fields.specs.Layout.{fields}
-use Rattle.octet_fields.proofs.Spelled.{elements, field-at}
-use Rattle.mavlink_messages.specs.DataStream.{dataStreamLayout, dataStreamIn}
+use Rattle.message_formats.specs.Formats.{valueIn}
+use Rattle.message_formats.proofs.Answers.{by-octets}
+use Rattle.mavlink_messages.specs.DataStream.{dataStreamFormat}
 use borrow.Author.Needs.{needs}
 use Rattle.mavlink_messages.proofs.message_66.read.Statement.{statement}
 use Rattle.mavlink_messages.proofs.message_66.read.Tie as tie
@@ -26,7 +26,7 @@ octet-requires-4 : tie.Need-octet-requires-4
 octet-requires-4 c κs = search needs
 
 returns : tie.Need-returns
-unfolding dataStreamIn
+unfolding valueIn
 returns c =
     let at-start = c in
     let at-stream = at-start .before in
@@ -34,17 +34,14 @@ returns c =
     let at-system = at-component .before in
     let at-rate = at-system .before in
     let s = at-rate .before .before in
-    let payload = now (s .args .payload) in
-    let at : (k : ℕ) → getD (fields dataStreamLayout (elements 6 0 payload)) k 0 ≡ getD (fields dataStreamLayout payload) k 0 =
-    λ k. field-at dataStreamLayout 6 k payload (s .pre)
-    in
-    λ i. record {
-      rate = (at-rate .little-16 .ensures ∙ at 0) i;
-      system = (at-system .octet .ensures ∙ at 1) i;
-      component = (at-component .octet2 .ensures ∙ at 2) i;
-      stream = (at-stream .octet3 .ensures ∙ at 3) i;
-      start = (at-start .octet4 .ensures ∙ at 4) i;
-    }
+    (λ i. record {
+      rate = (at-rate .little-16 .ensures) i;
+      system = (at-system .octet .ensures) i;
+      component = (at-component .octet2 .ensures) i;
+      stream = (at-stream .octet3 .ensures) i;
+      start = (at-start .octet4 .ensures) i;
+    })
+    ∙ by-octets dataStreamFormat 6 (now (s .args .payload)) (s .pre)
 
 pub read-spec : {M : Type 1} → statement M
 read-spec =

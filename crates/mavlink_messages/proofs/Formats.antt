@@ -1,0 +1,24 @@
+-- The formats of these kinds are right. Assumes nothing.
+use mathlib.Core.Path.{refl}
+use native.Mathlib.Omega.{arith}
+use Rattle.message_formats.specs.Formats.{Right}
+use Rattle.mavlink_messages.specs.DataStream.{dataStreamFormat}
+use Rattle.mavlink_messages.specs.Static.{staticFormat}
+use Rattle.mavlink_messages.specs.Dynamic.{dynamicFormat}
+use Rattle.mavlink_messages.specs.Status.{statusFormat}
+use Rattle.mavlink_messages.specs.Traffic.{trafficFormat}
+
+pub dataStream-right : Right dataStreamFormat
+dataStream-right = record { whole = omega arith; sound = omega arith; back = λ a. refl; again = λ r. refl }
+
+pub static-right : Right staticFormat
+static-right = record { whole = omega arith; sound = omega arith; back = λ a. refl; again = λ r. refl }
+
+pub dynamic-right : Right dynamicFormat
+dynamic-right = record { whole = omega arith; sound = omega arith; back = λ a. refl; again = λ r. refl }
+
+pub status-right : Right statusFormat
+status-right = record { whole = omega arith; sound = omega arith; back = λ a. refl; again = λ r. refl }
+
+pub traffic-right : Right trafficFormat
+traffic-right = record { whole = omega arith; sound = omega arith; back = λ a. refl; again = λ r. refl }

@@ -1,0 +1,5 @@
+pub mod Columns
+pub mod Heads
+pub mod Formats
+pub mod Answers
+pub mod Refusals
