@@ -1,6 +1,6 @@
 //! What the explaining programs write, worked out from the second program's
 //! values by Rust's own formatting: the words and units that
-//! docs/SERVICE-DESK.md promises.
+//! docs/users/SERVICE-DESK.md promises.
 
 mod line;
 mod mavlink;
