@@ -3,24 +3,6 @@ use borrow.Author.Needs.{needs}
 use Rattle.byte_account.proofs.count_flag.Statement.{statement}
 use Rattle.byte_account.proofs.count_flag.Tie as tie
 
-wrapping-add-u32-requires : tie.Need-wrapping-add-u32-requires
-wrapping-add-u32-requires c κs = search needs
-
-enum-told : tie.Need-enum-told
-enum-told c = search needs
-
-enum-told-2 : tie.Need-enum-told-2
-enum-told-2 c = search needs
-
-wrapping-add-u32-requires-2 : tie.Need-wrapping-add-u32-requires-2
-wrapping-add-u32-requires-2 c κs = search needs
-
-enum-told-3 : tie.Need-enum-told-3
-enum-told-3 c = search needs
-
-wrapping-add-u32-requires-3 : tie.Need-wrapping-add-u32-requires-3
-wrapping-add-u32-requires-3 c κs = search needs
-
 returns : tie.Need-returns
 returns c = λ store. rw (c .enum-told .given .1, c .before .before .wrapping-add-u32 .ensures)
 
@@ -33,13 +15,5 @@ returns-3 c = λ store. rw (c .before .enum-told3 .given .1, c .before .before .
 pub count-flag-spec : {M : Type 1} → statement M
 count-flag-spec =
     tie.close
-    (tie.spec
-    wrapping-add-u32-requires
-    enum-told
-    enum-told-2
-    wrapping-add-u32-requires-2
-    enum-told-3
-    wrapping-add-u32-requires-3
-    returns
-    returns-2
-    returns-3)
+    (tie.spec (λ c κs. search needs) (λ c. search needs) (λ c. search needs) (λ c κs. search needs) (λ c. search needs)
+    (λ c κs. search needs) returns returns-2 returns-3)

@@ -8,12 +8,6 @@ use borrow.Author.Needs.{needs}
 use Rattle.byte_account.proofs.count_open.Statement.{statement}
 use Rattle.byte_account.proofs.count_open.Tie as tie
 
-rounded-requires : tie.Need-rounded-requires
-rounded-requires c κs = search needs
-
-wrapping-add-u32-requires : tie.Need-wrapping-add-u32-requires
-wrapping-add-u32-requires c κs = search needs
-
 returns : tie.Need-returns
 returns c =
     let a = c .before .before .args in
@@ -21,4 +15,4 @@ returns c =
     many-rounded put countedOpen (λ k. refl) (a .counts .unclosed) (a .n) (c .before .rounded .result) _ (search needs) (c .before .rounded .ensures) (c .wrapping-add-u32 .ensures)
 
 pub count-open-spec : {M : Type 1} → statement M
-count-open-spec = tie.close (tie.spec rounded-requires wrapping-add-u32-requires returns)
+count-open-spec = tie.close (tie.spec (λ c κs. search needs) (λ c κs. search needs) returns)

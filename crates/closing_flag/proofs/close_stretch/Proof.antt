@@ -6,18 +6,6 @@ use borrow.Author.Needs.{needs}
 use Rattle.closing_flag.proofs.close_stretch.Statement.{statement}
 use Rattle.closing_flag.proofs.close_stretch.Tie as tie
 
-judge-stretch-requires : tie.Need-judge-stretch-requires
-judge-stretch-requires c κs = search needs
-
-enum-told : tie.Need-enum-told
-enum-told c = search needs
-
-enum-told-2 : tie.Need-enum-told-2
-enum-told-2 c = search needs
-
-enum-known-answer : tie.Need-enum-known-answer
-enum-known-answer c = search needs
-
 deliver-requires : tie.Need-deliver-requires
 deliver-requires c κs = rw (c .before .before .before .answer .given .1) at (c .before .before .before .before .before .judge-stretch .ensures .hasRoom)
 
@@ -26,9 +14,6 @@ returns c = closes _ _ _ _ _ (c .before .before .judge-stretch .ensures) (rw (c 
 
 returns-2 : tie.Need-returns-2
 returns-2 c = closes _ _ _ _ _ (c .before .before .judge-stretch .ensures) (rw (c .enum-told2 .given .1))
-
-same-length : tie.Need-same-length
-same-length c = search needs
 
 returns-3 : tie.Need-returns-3
 returns-3 c =
@@ -40,13 +25,5 @@ returns-3 c =
 pub close-stretch-spec : {M : Type 1} → statement M
 close-stretch-spec =
     tie.close
-    (tie.spec
-    judge-stretch-requires
-    enum-told
-    enum-told-2
-    enum-known-answer
-    deliver-requires
-    returns
-    returns-2
-    same-length
-    returns-3)
+    (tie.spec (λ c κs. search needs) (λ c. search needs) (λ c. search needs) (λ c. search needs) deliver-requires
+    returns returns-2 (λ c. search needs) returns-3)

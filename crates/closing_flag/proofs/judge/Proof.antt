@@ -13,17 +13,8 @@ returns c =
     let a = c .before .before .args in
     record { means = too-short (now (a .store)) (a .stored) (a .room) (c .before .before .pre) (c .if1 .taken); hasRoom = tt }
 
-sub-n : tie.Need-sub-n
-sub-n c = search needs
-
-check-sent-requires : tie.Need-check-sent-requires
-check-sent-requires c κs = search needs
-
 slice-aggregate-frame-check-by-shifts : tie.Need-slice-aggregate-frame-check-by-shifts
 slice-aggregate-frame-check-by-shifts c = sym (length-take-le _ _ (omega arith))
-
-frame-check-by-shifts-requires : tie.Need-frame-check-by-shifts-requires
-frame-check-by-shifts-requires c κs = search needs
 
 computed : (c : tie.After-frame-check-by-shifts)
     → Computed (now (c .before .before .before .before .before .args .store)) (c .before .before .before .before .before .args .stored)
@@ -48,12 +39,5 @@ returns-4 c = record { means = body-due (computed (c .before .before)) _ (c .bef
 pub judge-spec : {M : Type 1} → statement M
 judge-spec =
     tie.close
-    (tie.spec
-    returns
-    sub-n
-    check-sent-requires
-    slice-aggregate-frame-check-by-shifts
-    frame-check-by-shifts-requires
-    returns-2
-    returns-3
-    returns-4)
+    (tie.spec returns (λ c. search needs) (λ c κs. search needs) slice-aggregate-frame-check-by-shifts
+    (λ c κs. search needs) returns-2 returns-3 returns-4)

@@ -10,11 +10,8 @@ returns c = record { means = rw (eq-eqb _ _ (c .if1 .taken)); hasRoom = tt }
 returns-2 : tie.Need-returns-2
 returns-2 c = record { means = rw (ne-eqb _ _ (c .before .if1 .left), lt-ltb _ _ (c .if2 .taken)); hasRoom = tt }
 
-judge-requires : tie.Need-judge-requires
-judge-requires c κs = search needs
-
 returns-3 : tie.Need-returns-3
 returns-3 c = rw (ne-eqb _ _ (c .before .before .before .if1 .left), le-ltb _ _ (c .before .before .if2 .left)) (c .judge .ensures)
 
 pub judge-stretch-spec : {M : Type 1} → statement M
-judge-stretch-spec = tie.close (tie.spec returns returns-2 judge-requires returns-3)
+judge-stretch-spec = tie.close (tie.spec returns returns-2 (λ c κs. search needs) returns-3)

@@ -6,29 +6,10 @@ use Rattle.text_output.proofs.Clipped.{then}
 use Rattle.dynamic_text.proofs.put_dynamic.Statement.{statement}
 use Rattle.dynamic_text.proofs.put_dynamic.Tie as tie
 
-put-position-requires : tie.Need-put-position-requires
-put-position-requires c κs = tt
-
-put-accuracy-requires : tie.Need-put-accuracy-requires
-put-accuracy-requires c κs = tt
-
-put-velocity-requires : tie.Need-put-velocity-requires
-put-velocity-requires c κs = tt
-
-put-codes-requires : tie.Need-put-codes-requires
-put-codes-requires c κs = tt
-
 returns : tie.Need-returns
 returns c =
     let parts = dynamicParts (c .before .before .before .before .before .before .before .before .args .dynamic) in
     rw (fields-split 5 parts) at (then (c .before .before .before .before .before .before .put-position .ensures) (rw (fields-split 3 (drop 5 parts)) at (then (c .before .before .before .before .put-accuracy .ensures) (rw (fields-split 3 (drop 3 (drop 5 parts))) at (then (c .before .before .put-velocity .ensures) (c .put-codes .ensures))))))
 
 pub put-dynamic-spec : {M : Type 1} → statement M
-put-dynamic-spec =
-    tie.close
-    (tie.spec
-    put-position-requires
-    put-accuracy-requires
-    put-velocity-requires
-    put-codes-requires
-    returns)
+put-dynamic-spec = tie.close (tie.spec (λ c κs. tt) (λ c κs. tt) (λ c κs. tt) (λ c κs. tt) returns)

@@ -12,9 +12,6 @@ use denote.Ref.{now}
 use Rattle.explanation.proofs.explain_next.Statement.{statement}
 use Rattle.explanation.proofs.explain_next.Tie as tie
 
-receive-slice-requires : tie.Need-receive-slice-requires
-receive-slice-requires c κs = tt
-
 put-answer-requires : tie.Need-put-answer-requires
 put-answer-requires c κs =
     let t = c .before .before .before .receive-slice in
@@ -33,4 +30,4 @@ returns c =
     record { long = long; takes = t .ensures; puts = record { ends = ends; leaves = clips .leaves }; within = omega (arith, few, ends) }
 
 pub explain-next-spec : {M : Type 1} → statement M
-explain-next-spec = tie.close (tie.spec receive-slice-requires put-answer-requires returns)
+explain-next-spec = tie.close (tie.spec (λ c κs. tt) put-answer-requires returns)

@@ -8,29 +8,11 @@ use borrow.Author.Needs.{needs}
 use Rattle.explanation.proofs.put_answer.Statement.{statement}
 use Rattle.explanation.proofs.put_answer.Tie as tie
 
-enum-told : tie.Need-enum-told
-enum-told c = search needs
-
-put-nothing-requires : tie.Need-put-nothing-requires
-put-nothing-requires c κs = tt
-
-enum-known-answer : tie.Need-enum-known-answer
-enum-known-answer c = search needs
-
 slice-aggregate-put-body : tie.Need-slice-aggregate-put-body
 slice-aggregate-put-body c =
     let s = c .before .before .before .before .before .before in
     let h : c .before .before .before .answer .given .0 .0 ≤ bodyRoom = rw (c .before .before .before .answer .given .1) at (s .pre .1) in
     sym (length-take-le _ _ (omega (arith, s .pre .0)))
-
-put-body-requires : tie.Need-put-body-requires
-put-body-requires c κs = tt
-
-enum-known-answer-2 : tie.Need-enum-known-answer-2
-enum-known-answer-2 c = search needs
-
-put-refused-requires : tie.Need-put-refused-requires
-put-refused-requires c κs = tt
 
 returns : tie.Need-returns
 returns c = rw (c .before .before .enum-told .given .1) (c .put-nothing .ensures)
@@ -44,14 +26,5 @@ returns-3 c = rw (c .before .before .before .answer2 .given .1) (c .put-refused 
 pub put-answer-spec : {M : Type 1} → statement M
 put-answer-spec =
     tie.close
-    (tie.spec
-    enum-told
-    put-nothing-requires
-    enum-known-answer
-    slice-aggregate-put-body
-    put-body-requires
-    enum-known-answer-2
-    put-refused-requires
-    returns
-    returns-2
-    returns-3)
+    (tie.spec (λ c. search needs) (λ c κs. tt) (λ c. search needs) slice-aggregate-put-body (λ c κs. tt)
+    (λ c. search needs) (λ c κs. tt) returns returns-2 returns-3)

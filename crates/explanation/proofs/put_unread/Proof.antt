@@ -5,23 +5,8 @@ use Rattle.text_output.proofs.Clipped.{then}
 use Rattle.explanation.proofs.put_unread.Statement.{statement}
 use Rattle.explanation.proofs.put_unread.Tie as tie
 
-put-refusal-requires : tie.Need-put-refusal-requires
-put-refusal-requires c κs = tt
-
 slice-aggregate-put-word : tie.Need-slice-aggregate-put-word
 slice-aggregate-put-word c = refl
-
-put-word-requires : tie.Need-put-word-requires
-put-word-requires c κs = tt
-
-put-natural-requires : tie.Need-put-natural-requires
-put-natural-requires c κs = tt
-
-put-spelled-requires : tie.Need-put-spelled-requires
-put-spelled-requires c κs = tt
-
-put-octet-requires : tie.Need-put-octet-requires
-put-octet-requires c κs = tt
 
 returns : tie.Need-returns
 unfolding readLine
@@ -30,11 +15,4 @@ returns c = then (c .before .before .before .before .before .before .before .bef
 pub put-unread-spec : {M : Type 1} → statement M
 put-unread-spec =
     tie.close
-    (tie.spec
-    put-refusal-requires
-    slice-aggregate-put-word
-    put-word-requires
-    put-natural-requires
-    put-spelled-requires
-    put-octet-requires
-    returns)
+    (tie.spec (λ c κs. tt) slice-aggregate-put-word (λ c κs. tt) (λ c κs. tt) (λ c κs. tt) (λ c κs. tt) returns)

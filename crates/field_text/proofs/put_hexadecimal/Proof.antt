@@ -5,16 +5,9 @@ use borrow.Author.Needs.{needs}
 use Rattle.field_text.proofs.put_hexadecimal.Statement.{statement}
 use Rattle.field_text.proofs.put_hexadecimal.Tie as tie
 
-put-label-requires : tie.Need-put-label-requires
-put-label-requires c κs = tt
-
-put-padded-requires : tie.Need-put-padded-requires
-put-padded-requires c κs = search needs
-
 returns : tie.Need-returns
 unfolding shown
 returns c = then (c .before .before .put-label .ensures) (c .put-padded .ensures)
 
 pub put-hexadecimal-spec : {M : Type 1} → statement M
-put-hexadecimal-spec =
-    tie.close (tie.spec put-label-requires put-padded-requires returns)
+put-hexadecimal-spec = tie.close (tie.spec (λ c κs. tt) (λ c κs. search needs) returns)

@@ -6,12 +6,6 @@ use borrow.Author.Needs.{needs}
 use Rattle.field_text.proofs.put_known.Statement.{statement}
 use Rattle.field_text.proofs.put_known.Tie as tie
 
-put-fixed-requires : tie.Need-put-fixed-requires
-put-fixed-requires c κs = search needs
-
-put-unit-requires : tie.Need-put-unit-requires
-put-unit-requires c κs = search needs
-
 returns : tie.Need-returns
 returns c =
     let z = c .before .before .before .before .args .n in
@@ -19,4 +13,4 @@ returns c =
     then (rw (toZ-ofZ w64 z f) at (c .before .before .put-fixed .ensures)) (c .put-unit .ensures)
 
 pub put-known-spec : {M : Type 1} → statement M
-put-known-spec = tie.close (tie.spec put-fixed-requires put-unit-requires returns)
+put-known-spec = tie.close (tie.spec (λ c κs. search needs) (λ c κs. search needs) returns)

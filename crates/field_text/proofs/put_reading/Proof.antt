@@ -8,24 +8,6 @@ use borrow.Author.Needs.{needs}
 use Rattle.field_text.proofs.put_reading.Statement.{statement}
 use Rattle.field_text.proofs.put_reading.Tie as tie
 
-put-label-requires : tie.Need-put-label-requires
-put-label-requires c κs = search needs
-
-enum-told : tie.Need-enum-told
-enum-told c = search needs
-
-slice-aggregate-put-word : tie.Need-slice-aggregate-put-word
-slice-aggregate-put-word c = search needs
-
-put-word-requires : tie.Need-put-word-requires
-put-word-requires c κs = search needs
-
-enum-known-reading : tie.Need-enum-known-reading
-enum-known-reading c = search needs
-
-put-known-requires : tie.Need-put-known-requires
-put-known-requires c κs = search needs
-
 returns : tie.Need-returns
 unfolding shown
 returns c = rw (c .before .before .before .enum-told .given .1) (then (c .before .before .before .before .before .put-label .ensures) (c .put-word .ensures))
@@ -41,12 +23,5 @@ returns-2 c =
 pub put-reading-spec : {M : Type 1} → statement M
 put-reading-spec =
     tie.close
-    (tie.spec
-    put-label-requires
-    enum-told
-    slice-aggregate-put-word
-    put-word-requires
-    enum-known-reading
-    put-known-requires
-    returns
-    returns-2)
+    (tie.spec (λ c κs. search needs) (λ c. search needs) (λ c. search needs) (λ c κs. search needs) (λ c. search needs)
+    (λ c κs. search needs) returns returns-2)

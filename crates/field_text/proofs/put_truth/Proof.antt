@@ -5,14 +5,8 @@ use Rattle.text_output.proofs.Clipped.{then}
 use Rattle.field_text.proofs.put_truth.Statement.{statement}
 use Rattle.field_text.proofs.put_truth.Tie as tie
 
-put-label-requires : tie.Need-put-label-requires
-put-label-requires c κs = tt
-
 slice-aggregate-put-word : tie.Need-slice-aggregate-put-word
 slice-aggregate-put-word c = refl
-
-put-word-requires : tie.Need-put-word-requires
-put-word-requires c κs = tt
 
 returns : tie.Need-returns
 unfolding shown
@@ -21,9 +15,6 @@ returns c = rw (c .before .before .before .if1 .taken) (then (c .before .before 
 slice-aggregate-put-word-2 : tie.Need-slice-aggregate-put-word-2
 slice-aggregate-put-word-2 c = refl
 
-put-word-requires-2 : tie.Need-put-word-requires-2
-put-word-requires-2 c κs = tt
-
 returns-2 : tie.Need-returns-2
 unfolding shown
 returns-2 c = rw (c .before .before .before .if1 .left) (then (c .before .before .before .before .put-label .ensures) (c .put-word2 .ensures))
@@ -31,11 +22,5 @@ returns-2 c = rw (c .before .before .before .if1 .left) (then (c .before .before
 pub put-truth-spec : {M : Type 1} → statement M
 put-truth-spec =
     tie.close
-    (tie.spec
-    put-label-requires
-    slice-aggregate-put-word
-    put-word-requires
-    returns
-    slice-aggregate-put-word-2
-    put-word-requires-2
+    (tie.spec (λ c κs. tt) slice-aggregate-put-word (λ c κs. tt) returns slice-aggregate-put-word-2 (λ c κs. tt)
     returns-2)

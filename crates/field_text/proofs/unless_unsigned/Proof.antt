@@ -10,11 +10,8 @@ use Rattle.field_text.proofs.unless_unsigned.Tie as tie
 returns : tie.Need-returns
 returns c = rw (eq-eqb (c .before .args .n) (c .before .args .mark) (c .if1 .taken))
 
-cast-t4 : tie.Need-cast-t4
-cast-t4 c = search needs
-
 returns-2 : tie.Need-returns-2
 returns-2 c = rw (ne-eqb (c .before .args .n) (c .before .args .mark) (c .if1 .left), toZ-pos w64 (c .before .args .n) (omega arith))
 
 pub unless-unsigned-spec : {M : Type 1} → statement M
-unless-unsigned-spec = tie.close (tie.spec returns cast-t4 returns-2)
+unless-unsigned-spec = tie.close (tie.spec returns (λ c. search needs) returns-2)

@@ -22,24 +22,6 @@ abbrev μ-loop : tie.MeasureT-loop
 loop-holds : tie.Need-loop-holds Inv-loop μ-loop
 loop-holds c = (search needs, search needs, refl)
 
-shared-slice-read-next-check-pair : tie.Need-shared-slice-read-next-check-pair Inv-loop μ-loop
-shared-slice-read-next-check-pair c = search needs
-
-add-next-check-pair : tie.Need-add-next-check-pair Inv-loop μ-loop
-add-next-check-pair c = search needs
-
-shared-slice-read-next-check-pair-2 : tie.Need-shared-slice-read-next-check-pair-2 Inv-loop μ-loop
-shared-slice-read-next-check-pair-2 c = omega arith
-
-next-check-pair-requires : tie.Need-next-check-pair-requires Inv-loop μ-loop
-next-check-pair-requires c κs = search needs
-
-add-i : tie.Need-add-i Inv-loop μ-loop
-add-i c = search needs
-
-loop-less : tie.Need-loop-less Inv-loop μ-loop
-loop-less c = search needs
-
 loop-again : tie.Need-loop-again Inv-loop μ-loop
 loop-again c =
     let l = c .before .before .before .before .loop in
@@ -60,15 +42,5 @@ returns c =
 pub check-pairs-spec : {M : Type 1} → statement M
 check-pairs-spec =
     tie.close
-    (tie.spec
-    Inv-loop
-    μ-loop
-    loop-holds
-    shared-slice-read-next-check-pair
-    add-next-check-pair
-    shared-slice-read-next-check-pair-2
-    next-check-pair-requires
-    add-i
-    loop-less
-    loop-again
-    returns)
+    (tie.spec Inv-loop μ-loop loop-holds (λ c. search needs) (λ c. search needs) (λ c. omega arith)
+    (λ c κs. search needs) (λ c. search needs) (λ c. search needs) loop-again returns)

@@ -19,24 +19,9 @@ Inv-loop body table check₀ i₀ check i =
 abbrev μ-loop : tie.MeasureT-loop
 μ-loop body table check₀ i₀ check i = length body - i
 
-table-requires : tie.Need-table-requires Inv-loop μ-loop
-table-requires c κs = search needs
-
 loop-holds : tie.Need-loop-holds Inv-loop μ-loop
 unfolding frameCheck
 loop-holds c = (search needs, search needs, refl)
-
-shared-slice-read-next-check : tie.Need-shared-slice-read-next-check Inv-loop μ-loop
-shared-slice-read-next-check c = search needs
-
-next-check-requires : tie.Need-next-check-requires Inv-loop μ-loop
-next-check-requires c κs = search needs
-
-add-i : tie.Need-add-i Inv-loop μ-loop
-add-i c = search needs
-
-loop-less : tie.Need-loop-less Inv-loop μ-loop
-loop-less c = search needs
 
 loop-again : tie.Need-loop-again Inv-loop μ-loop
 loop-again c =
@@ -57,14 +42,5 @@ returns c =
 pub frame-check-spec : {M : Type 1} → statement M
 frame-check-spec =
     tie.close
-    (tie.spec
-    Inv-loop
-    μ-loop
-    table-requires
-    loop-holds
-    shared-slice-read-next-check
-    next-check-requires
-    add-i
-    loop-less
-    loop-again
-    returns)
+    (tie.spec Inv-loop μ-loop (λ c κs. search needs) loop-holds (λ c. search needs) (λ c κs. search needs)
+    (λ c. search needs) (λ c. search needs) loop-again returns)

@@ -9,21 +9,6 @@ use Rattle.frame_check.proofs.Step.{table-step}
 use Rattle.frame_check.proofs.next_check.Statement.{statement}
 use Rattle.frame_check.proofs.next_check.Tie as tie
 
-cast-result : tie.Need-cast-result
-cast-result c = search needs
-
-mul-result : tie.Need-mul-result
-mul-result c = search needs
-
-element-copy-out-result : tie.Need-element-copy-out-result
-element-copy-out-result c = search needs
-
-mul-result-2 : tie.Need-mul-result-2
-mul-result-2 c = search needs
-
-add-result : tie.Need-add-result
-add-result c = search needs
-
 returns : tie.Need-returns
 unfolding byTable
 returns c =
@@ -37,4 +22,5 @@ returns c =
 pub next-check-spec : {M : Type 1} → statement M
 next-check-spec =
     tie.close
-    (tie.spec cast-result mul-result element-copy-out-result mul-result-2 add-result returns)
+    (tie.spec (λ c. search needs) (λ c. search needs) (λ c. search needs) (λ c. search needs) (λ c. search needs)
+    returns)

@@ -13,12 +13,6 @@ mul-left c = omega (arith, quotient-lt (c .args .check) (c .fits .check .fits))
 mul-left-2 : tie.Need-mul-left-2
 mul-left-2 c = omega (arith, quotient-lt (c .args .check) (c .fits .check .fits))
 
-mul-result : tie.Need-mul-result
-mul-result c = search needs
-
-add-result : tie.Need-add-result
-add-result c = search needs
-
 cast-result : tie.Need-cast-result
 cast-result c =
     record { fits = pair-lt (c .args .check) (c .args .first) (c .args .second) (c .fits .first .fits) (c .fits .second .fits) }
@@ -30,4 +24,4 @@ returns c =
 
 pub next-check-pair-spec : {M : Type 1} → statement M
 next-check-pair-spec =
-    tie.close (tie.spec mul-left mul-left-2 mul-result add-result cast-result returns)
+    tie.close (tie.spec mul-left mul-left-2 (λ c. search needs) (λ c. search needs) cast-result returns)

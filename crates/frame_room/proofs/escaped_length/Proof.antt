@@ -6,9 +6,6 @@ use Rattle.frame_format.proofs.Stuffing.{escaped-two, escaped-one}
 use Rattle.frame_room.proofs.escaped_length.Statement.{statement}
 use Rattle.frame_room.proofs.escaped_length.Tie as tie
 
-is-escaped-requires : tie.Need-is-escaped-requires
-is-escaped-requires c κs = search needs
-
 returns : tie.Need-returns
 returns c = sym (ap length (escaped-two _ (sym (c .before .is-escaped .ensures) ∙ c .if1 .taken)))
 
@@ -16,4 +13,4 @@ returns-2 : tie.Need-returns-2
 returns-2 c = sym (ap length (escaped-one _ (sym (c .before .is-escaped .ensures) ∙ c .if1 .left)))
 
 pub escaped-length-spec : {M : Type 1} → statement M
-escaped-length-spec = tie.close (tie.spec is-escaped-requires returns returns-2)
+escaped-length-spec = tie.close (tie.spec (λ c κs. search needs) returns returns-2)

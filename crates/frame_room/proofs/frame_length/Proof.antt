@@ -25,23 +25,8 @@ abbrev μ-loop : tie.MeasureT-loop
 abbrev body-at : tie.At-loop Inv-loop μ-loop → List ℕ
 body-at c = now (c .before .before .before .before .before .args .body)
 
-frame-check-requires : tie.Need-frame-check-requires Inv-loop μ-loop
-frame-check-requires c κs = search needs
-
-cast-escaped-length : tie.Need-cast-escaped-length Inv-loop μ-loop
-cast-escaped-length c = search needs
-
-escaped-length-requires : tie.Need-escaped-length-requires Inv-loop μ-loop
-escaped-length-requires c κs = search needs
-
 add-count : tie.Need-add-count Inv-loop μ-loop
 add-count c = omega (arith, escaped-length (c .before .frame-check .result % 256))
-
-cast-escaped-length-2 : tie.Need-cast-escaped-length-2 Inv-loop μ-loop
-cast-escaped-length-2 c = search needs
-
-escaped-length-requires-2 : tie.Need-escaped-length-requires-2 Inv-loop μ-loop
-escaped-length-requires-2 c κs = search needs
 
 add-count-2 : tie.Need-add-count-2 Inv-loop μ-loop
 add-count-2 c =
@@ -53,12 +38,6 @@ loop-holds c =
     let k = c .before .before .frame-check in
     let body = now (c .before .before .before .before .args .body) in
     (search needs, omega (arith, frame-length body (k .result) (k .ensures)))
-
-shared-slice-read-escaped-length : tie.Need-shared-slice-read-escaped-length Inv-loop μ-loop
-shared-slice-read-escaped-length c = search needs
-
-escaped-length-requires-3 : tie.Need-escaped-length-requires-3 Inv-loop μ-loop
-escaped-length-requires-3 c κs = search needs
 
 -- the invariant after a turn
 turned : (c : tie.After-escaped-length3 Inv-loop μ-loop)
@@ -73,12 +52,6 @@ add-count-3 c =
     let s = c .before .before .before in
     omega (arith, turned c .1, frame-length-longest (body-at s) (s .before .before .before .before .before .pre))
 
-add-i : tie.Need-add-i Inv-loop μ-loop
-add-i c = search needs
-
-loop-less : tie.Need-loop-less Inv-loop μ-loop
-loop-less c = search needs
-
 loop-again : tie.Need-loop-again Inv-loop μ-loop
 loop-again c = turned c
 
@@ -90,21 +63,6 @@ returns c =
 pub frame-length-spec : {M : Type 1} → statement M
 frame-length-spec =
     tie.close
-    (tie.spec
-    Inv-loop
-    μ-loop
-    frame-check-requires
-    cast-escaped-length
-    escaped-length-requires
-    add-count
-    cast-escaped-length-2
-    escaped-length-requires-2
-    add-count-2
-    loop-holds
-    shared-slice-read-escaped-length
-    escaped-length-requires-3
-    add-count-3
-    add-i
-    loop-less
-    loop-again
-    returns)
+    (tie.spec Inv-loop μ-loop (λ c κs. search needs) (λ c. search needs) (λ c κs. search needs) add-count
+    (λ c. search needs) (λ c κs. search needs) add-count-2 loop-holds (λ c. search needs) (λ c κs. search needs)
+    add-count-3 (λ c. search needs) (λ c. search needs) loop-again returns)

@@ -18,15 +18,6 @@ returns-2 c =
     let a = c .before .before .before .before .args in
     sym (ap refusalIn (refused-7 (now (a .body)) (now (a .output)) .1 (inr (c .if2 .taken))))
 
-mul-most : tie.Need-mul-most
-mul-most c = search needs
-
-add-most : tie.Need-add-most
-add-most c = search needs
-
-frame-length-requires : tie.Need-frame-length-requires
-frame-length-requires c κs = search needs
-
 returns-3 : tie.Need-returns-3
 returns-3 c =
     let a = c .before .before .before .before .before .before .before .args in
@@ -47,12 +38,5 @@ returns-5 c =
 pub refusal-spec : {M : Type 1} → statement M
 refusal-spec =
     tie.close
-    (tie.spec
-    returns
-    returns-2
-    mul-most
-    add-most
-    frame-length-requires
-    returns-3
-    returns-4
+    (tie.spec returns returns-2 (λ c. search needs) (λ c. search needs) (λ c κs. search needs) returns-3 returns-4
     returns-5)

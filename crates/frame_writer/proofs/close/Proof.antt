@@ -40,16 +40,10 @@ flag-left c =
     let p = c .before .before .before .before in
     first-put (high (p .before .before .before)) (flag ∷ []) (high-left p) (c .put2 .ensures)
 
-cast-put : tie.Need-cast-put
-cast-put c = search needs
-
 put-requires : tie.Need-put-requires
 put-requires c κs =
     let s = c .before .before in
     first-room (low s) (high s ++ flag ∷ []) (all-left s)
-
-cast-put-2 : tie.Need-cast-put-2
-cast-put-2 c = search needs
 
 put-requires-2 : tie.Need-put-requires-2
 put-requires-2 c κs =
@@ -71,12 +65,5 @@ returns c = record { ends = omega (arith, flag-left (c .before .before)); leaves
 pub close-spec : {M : Type 1} → statement M
 close-spec =
     tie.close
-    (tie.spec
-    cast-put
-    put-requires
-    cast-put-2
-    put-requires-2
-    slice-write-output
-    add-result
-    same-length
-    returns)
+    (tie.spec (λ c. search needs) put-requires (λ c. search needs) put-requires-2 slice-write-output add-result
+    same-length returns)

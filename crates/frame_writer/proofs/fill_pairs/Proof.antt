@@ -41,29 +41,14 @@ loop-holds c =
     let s = c .before .before in
     (s .pre .0, s .pre .1, all-to-put (now (s .args .output)) (s .args .at) refl (s .pre .2))
 
-shared-slice-read-first : tie.Need-shared-slice-read-first Inv-loop μ-loop
-shared-slice-read-first c = search needs
-
-add-second : tie.Need-add-second Inv-loop μ-loop
-add-second c = search needs
-
 shared-slice-read-second : tie.Need-shared-slice-read-second Inv-loop μ-loop
 shared-slice-read-second c = second-within (c .before .before)
-
-next-check-pair-requires : tie.Need-next-check-pair-requires Inv-loop μ-loop
-next-check-pair-requires c κs = search needs
 
 put-pair-requires : tie.Need-put-pair-requires Inv-loop μ-loop
 put-pair-requires c κs =
     let turn = c .before .before .before .before in
     let l = turn .before .loop in
     pair-room (l .check) (body-at (turn .before)) (l .i) (l .inv .2) (second-within turn)
-
-add-i : tie.Need-add-i Inv-loop μ-loop
-add-i c = search needs
-
-loop-less : tie.Need-loop-less Inv-loop μ-loop
-loop-less c = search needs
 
 loop-again : tie.Need-loop-again Inv-loop μ-loop
 loop-again c =
@@ -100,18 +85,6 @@ returns c =
 pub fill-pairs-spec : {M : Type 1} → statement M
 fill-pairs-spec =
     tie.close
-    (tie.spec
-    Inv-loop
-    μ-loop
-    loop-holds
-    shared-slice-read-first
-    add-second
-    shared-slice-read-second
-    next-check-pair-requires
-    put-pair-requires
-    add-i
-    loop-less
-    loop-again
-    close-requires
-    same-length
-    returns)
+    (tie.spec Inv-loop μ-loop loop-holds (λ c. search needs) (λ c. search needs) shared-slice-read-second
+    (λ c κs. search needs) put-pair-requires (λ c. search needs) (λ c. search needs) loop-again close-requires
+    same-length returns)

@@ -18,9 +18,6 @@ two c = escaped-two _ (sym (c .before .is-escaped .ensures) ∙ c .if1 .taken)
 one : (c : tie.Else1) → escaped (c .before .before .before .args .octet) ≡ c .before .before .before .args .octet ∷ []
 one c = escaped-one _ (sym (c .before .is-escaped .ensures) ∙ c .if1 .left)
 
-is-escaped-requires : tie.Need-is-escaped-requires
-is-escaped-requires c κs = search needs
-
 slice-write-output : tie.Need-slice-write-output
 slice-write-output c = omega (arith, ap length (two c))
 
@@ -54,15 +51,5 @@ returns-2 c = rw (one c) (record { ends = refl; leaves = refl })
 pub put-spec : {M : Type 1} → statement M
 put-spec =
     tie.close
-    (tie.spec
-    is-escaped-requires
-    slice-write-output
-    add-output
-    slice-write-output-2
-    add-result
-    slice-write-output-3
-    add-result-2
-    same-length
-    returns
-    same-length-2
-    returns-2)
+    (tie.spec (λ c κs. search needs) slice-write-output add-output slice-write-output-2 add-result slice-write-output-3
+    add-result-2 same-length returns same-length-2 returns-2)

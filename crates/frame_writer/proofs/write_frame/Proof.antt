@@ -7,12 +7,6 @@ use Rattle.frame_room.proofs.Due.{refused-by, accepted-by, accepted-so}
 use Rattle.frame_writer.proofs.write_frame.Statement.{statement}
 use Rattle.frame_writer.proofs.write_frame.Tie as tie
 
-refusal-requires : tie.Need-refusal-requires
-refusal-requires c κs = search needs
-
-same-length : tie.Need-same-length
-same-length c = search needs
-
 returns : tie.Need-returns
 returns c =
     let a = c .before .before .before .before .before .args in
@@ -23,9 +17,6 @@ fill-requires c κs =
     let a = c .before .before .before .before .before .before .args in
     accepted-so (now (a .body)) (now (a .output)) _
     (accepted-by (now (a .body)) (now (a .output)) (c .before .before .refusal .ensures) (c .before .if1 .left)) .room
-
-same-length-2 : tie.Need-same-length-2
-same-length-2 c = search needs
 
 returns-2 : tie.Need-returns-2
 returns-2 c =
@@ -41,5 +32,4 @@ returns-2 c =
 
 pub write-frame-spec : {M : Type 1} → statement M
 write-frame-spec =
-    tie.close
-    (tie.spec refusal-requires same-length returns fill-requires same-length-2 returns-2)
+    tie.close (tie.spec (λ c κs. search needs) (λ c. search needs) returns fill-requires (λ c. search needs) returns-2)

@@ -48,26 +48,8 @@ turn-within c =
 loop-holds : tie.Need-loop-holds Inv-loop μ-loop
 loop-holds c = (omega arith, refl)
 
-sub-explain-next : tie.Need-sub-explain-next Inv-loop μ-loop
-sub-explain-next c = search needs
-
-part-explain-next-start : tie.Need-part-explain-next-start Inv-loop μ-loop
-part-explain-next-start c = search needs
-
-part-explain-next-end : tie.Need-part-explain-next-end Inv-loop μ-loop
-part-explain-next-end c = search needs
-
-explain-next-requires : tie.Need-explain-next-requires Inv-loop μ-loop
-explain-next-requires c κs = search needs
-
 add-taken : tie.Need-add-taken Inv-loop μ-loop
 add-taken c = omega (arith, turn-within (c .before .before .before .before), c .before .before .before .before .before .before .before .before .before .before .before .before .good)
-
-write-first-requires : tie.Need-write-first-requires Inv-loop μ-loop
-write-first-requires c κs = search needs
-
-returns : tie.Need-returns Inv-loop μ-loop
-returns c = tt
 
 loop-less : tie.Need-loop-less Inv-loop μ-loop
 loop-less c = omega (arith, turn-within (c .before .before .before .before .before .before .before .before))
@@ -96,17 +78,5 @@ returns-2 c =
 pub explain-block-spec : {M : Type 1} → statement M
 explain-block-spec =
     tie.close
-    (tie.spec
-    Inv-loop
-    μ-loop
-    loop-holds
-    sub-explain-next
-    part-explain-next-start
-    part-explain-next-end
-    explain-next-requires
-    add-taken
-    write-first-requires
-    returns
-    loop-less
-    loop-again
-    returns-2)
+    (tie.spec Inv-loop μ-loop loop-holds (λ c. search needs) (λ c. search needs) (λ c. search needs)
+    (λ c κs. search needs) add-taken (λ c κs. search needs) (λ c. tt) loop-less loop-again returns-2)

@@ -64,18 +64,6 @@ behind-all c =
 loop-holds : tie.Need-loop-holds Inv-loop μ-loop
 loop-holds c = (omega arith, refl, refl)
 
-sub-list-some : tie.Need-sub-list-some Inv-loop μ-loop
-sub-list-some c = search needs
-
-part-list-some-start : tie.Need-part-list-some-start Inv-loop μ-loop
-part-list-some-start c = search needs
-
-part-list-some-end : tie.Need-part-list-some-end Inv-loop μ-loop
-part-list-some-end c = search needs
-
-list-some-requires : tie.Need-list-some-requires Inv-loop μ-loop
-list-some-requires c κs = search needs
-
 add-taken : tie.Need-add-taken Inv-loop μ-loop
 add-taken c = omega (arith, turn-within (c .before .before .before .before .before), c .before .before .before .before .before .before .before .before .before .before .before .before .before .before .good)
 
@@ -85,14 +73,8 @@ slice-reshare-prefix-write-out c = text-within (c .before .before .before .befor
 slice-aggregate-write-out : tie.Need-slice-aggregate-write-out Inv-loop μ-loop
 slice-aggregate-write-out c = sym (length-take-le _ _ (text-within (c .before .before .before .before .before .before)))
 
-write-out-requires : tie.Need-write-out-requires Inv-loop μ-loop
-write-out-requires c κs = search needs
-
 same-length : tie.Need-same-length Inv-loop μ-loop
 same-length c = text-long (c .before .before .before .before .before .before .before .before)
-
-returns : tie.Need-returns Inv-loop μ-loop
-returns c = tt
 
 loop-less : tie.Need-loop-less Inv-loop μ-loop
 loop-less c = omega (arith, turn-within (c .before .before .before .before .before .before .before .before))
@@ -121,21 +103,6 @@ returns-2 c =
 pub list-block-spec : {M : Type 1} → statement M
 list-block-spec =
     tie.close
-    (tie.spec
-    Inv-loop
-    μ-loop
-    loop-holds
-    sub-list-some
-    part-list-some-start
-    part-list-some-end
-    list-some-requires
-    add-taken
-    slice-reshare-prefix-write-out
-    slice-aggregate-write-out
-    write-out-requires
-    same-length
-    returns
-    loop-less
-    loop-again
-    same-length-2
-    returns-2)
+    (tie.spec Inv-loop μ-loop loop-holds (λ c. search needs) (λ c. search needs) (λ c. search needs)
+    (λ c κs. search needs) add-taken slice-reshare-prefix-write-out slice-aggregate-write-out (λ c κs. search needs)
+    same-length (λ c. tt) loop-less loop-again same-length-2 returns-2)

@@ -3,24 +3,6 @@ use borrow.Author.Needs.{needs}
 use Rattle.line_streams.proofs.clear_lent.Statement.{statement}
 use Rattle.line_streams.proofs.clear_lent.Tie as tie
 
-clear-requires : tie.Need-clear-requires
-clear-requires c κs = search needs
-
-clear-requires-2 : tie.Need-clear-requires-2
-clear-requires-2 c κs = search needs
-
-clear-requires-3 : tie.Need-clear-requires-3
-clear-requires-3 c κs = search needs
-
-clear-requires-4 : tie.Need-clear-requires-4
-clear-requires-4 c κs = search needs
-
-same-length : tie.Need-same-length
-same-length c = search needs
-
-same-length-2 : tie.Need-same-length-2
-same-length-2 c = search needs
-
 returns : tie.Need-returns
 returns c =
     (c .before .before .before .before .before .before .before .before .before .before .clear .ensures, (c .before .before .before .before .before .before .before .before .clear2 .ensures, (c .before .before .before .before .before .before .clear3 .ensures, c .before .before .clear4 .ensures)))
@@ -28,11 +10,5 @@ returns c =
 pub clear-lent-spec : {M : Type 1} → statement M
 clear-lent-spec =
     tie.close
-    (tie.spec
-    clear-requires
-    clear-requires-2
-    clear-requires-3
-    clear-requires-4
-    same-length
-    same-length-2
-    returns)
+    (tie.spec (λ c κs. search needs) (λ c κs. search needs) (λ c κs. search needs) (λ c κs. search needs)
+    (λ c. search needs) (λ c. search needs) returns)

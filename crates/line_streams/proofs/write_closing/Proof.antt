@@ -27,20 +27,11 @@ closed-within c =
     let s = c .before .before .before in
     omega (arith, within (now (s .args .text)) (s .args .counts) (c .put-closing .result) (c .put-closing .last .0) (c .put-closing .ensures), c .put-closing .kept .0)
 
-put-closing-requires : tie.Need-put-closing-requires
-put-closing-requires c κs = search needs
-
 slice-reshare-prefix-write-out : tie.Need-slice-reshare-prefix-write-out
 slice-reshare-prefix-write-out c = closed-within (c .before .before)
 
 slice-aggregate-write-out : tie.Need-slice-aggregate-write-out
 slice-aggregate-write-out c = sym (length-take-le _ _ (closed-within (c .before .before .before)))
-
-write-out-requires : tie.Need-write-out-requires
-write-out-requires c κs = search needs
-
-same-length : tie.Need-same-length
-same-length c = search needs
 
 returns : tie.Need-returns
 returns c =
@@ -54,10 +45,5 @@ returns c =
 pub write-closing-spec : {M : Type 1} → statement M
 write-closing-spec =
     tie.close
-    (tie.spec
-    put-closing-requires
-    slice-reshare-prefix-write-out
-    slice-aggregate-write-out
-    write-out-requires
-    same-length
-    returns)
+    (tie.spec (λ c κs. search needs) slice-reshare-prefix-write-out slice-aggregate-write-out (λ c κs. search needs)
+    (λ c. search needs) returns)

@@ -29,18 +29,6 @@ abbrev put-decimal-below : ℕ → In 1 put-decimal-kinds.ps
 put-decimal-below t =
     and 1 put-decimal-kinds.ps (falls 1 put-decimal-kinds.ps _<_ μ-put-decimal t) put-decimal.Pre
 
-put-decimal-cast-text : (t : ℕ) → put-decimal-lts.Need-cast-text (
-  put-decimal-below t,
-  put-decimal.Post,
-) (put-decimal-at t) put-decimal.Post
-put-decimal-cast-text t c = search needs
-
-put-decimal-add-text : (t : ℕ) → put-decimal-lts.Need-add-text (
-  put-decimal-below t,
-  put-decimal.Post,
-) (put-decimal-at t) put-decimal.Post
-put-decimal-add-text t c = search needs
-
 put-decimal-slice-write-text : (t : ℕ) → put-decimal-lts.Need-slice-write-text (
   put-decimal-below t,
   put-decimal.Post,
@@ -57,12 +45,6 @@ put-decimal-add-result t c =
     let s = c .before .before in
     omega (arith, digit-room (now (s .args .text)) (s .args .at) (s .args .n) (s .pre .1) (c .if1 .taken))
 
-put-decimal-same-length : (t : ℕ) → put-decimal-lts.Need-same-length (
-  put-decimal-below t,
-  put-decimal.Post,
-) (put-decimal-at t) put-decimal.Post
-put-decimal-same-length t c = search needs
-
 put-decimal-returns : (t : ℕ) → put-decimal-lts.Need-returns (
   put-decimal-below t,
   put-decimal.Post,
@@ -78,18 +60,6 @@ put-decimal-put-decimal-requires : (t : ℕ) → put-decimal-lts.Need-put-decima
 put-decimal-put-decimal-requires t c κs =
     let s = c .before .before .before in
     (omega (arith, s .pre .0), first-room (decimal (s .args .n / 10)) _ (digits-left (now (s .args .text)) (s .args .at) (s .args .n) (s .pre .1) (c .before .if1 .left)))
-
-put-decimal-cast-text-2 : (t : ℕ) → put-decimal-lts.Need-cast-text-2 (
-  put-decimal-below t,
-  put-decimal.Post,
-) (put-decimal-at t) put-decimal.Post
-put-decimal-cast-text-2 t c = search needs
-
-put-decimal-add-text-2 : (t : ℕ) → put-decimal-lts.Need-add-text-2 (
-  put-decimal-below t,
-  put-decimal.Post,
-) (put-decimal-at t) put-decimal.Post
-put-decimal-add-text-2 t c = search needs
 
 -- the last digit is left to put
 last-left : (t : ℕ) (c : put-decimal-lts.After-put-decimal (put-decimal-below t, put-decimal.Post) (put-decimal-at t) put-decimal.Post)
@@ -137,15 +107,15 @@ pub +put-decimal-spec : {M : Type 1} → statement M
 )
     (put-decimal-at t)
     put-decimal.Post
-    (put-decimal-cast-text t)
-    (put-decimal-add-text t)
+    (λ c. search needs)
+    (λ c. search needs)
     (put-decimal-slice-write-text t)
     (put-decimal-add-result t)
-    (put-decimal-same-length t)
+    (λ c. search needs)
     (put-decimal-returns t)
     (put-decimal-put-decimal-requires t)
-    (put-decimal-cast-text-2 t)
-    (put-decimal-add-text-2 t)
+    (λ c. search needs)
+    (λ c. search needs)
     (put-decimal-slice-write-text-2 t)
     (put-decimal-add-result-2 t)
     (put-decimal-same-length-2 t)

@@ -4,20 +4,9 @@ use Rattle.text_output.proofs.Spelled.{hex-digit}
 use Rattle.listing.proofs.hex_digit.Statement.{statement}
 use Rattle.listing.proofs.hex_digit.Tie as tie
 
-add-result : tie.Need-add-result
-add-result c = search needs
-
-add-result-2 : tie.Need-add-result-2
-add-result-2 c = search needs
-
-mul-result : tie.Need-mul-result
-mul-result c = search needs
-
-add-result-3 : tie.Need-add-result-3
-add-result-3 c = search needs
-
 returns : tie.Need-returns
 returns c = hex-digit (c .args .d) (c .pre)
 
 pub hex-digit-spec : {M : Type 1} → statement M
-hex-digit-spec = tie.close (tie.spec add-result add-result-2 mul-result add-result-3 returns)
+hex-digit-spec =
+    tie.close (tie.spec (λ c. search needs) (λ c. search needs) (λ c. search needs) (λ c. search needs) returns)

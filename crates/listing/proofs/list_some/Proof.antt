@@ -57,18 +57,6 @@ loop-holds c =
 sub-if1 : tie.Need-sub-if1 Inv-loop μ-loop
 sub-if1 c = omega (arith, c .before .loop .inv .ends, same-long (c .before .loop .inv .puts))
 
-sub-receive-slice : tie.Need-sub-receive-slice Inv-loop μ-loop
-sub-receive-slice c = search needs
-
-part-receive-slice-start : tie.Need-part-receive-slice-start Inv-loop μ-loop
-part-receive-slice-start c = search needs
-
-part-receive-slice-end : tie.Need-part-receive-slice-end Inv-loop μ-loop
-part-receive-slice-end c = search needs
-
-receive-slice-requires : tie.Need-receive-slice-requires Inv-loop μ-loop
-receive-slice-requires c κs = tt
-
 add-taken : tie.Need-add-taken Inv-loop μ-loop
 add-taken c = omega (arith, taken-within (c .before .before .before), c .before .before .before .before .before .before .before .before .before .before .before .before .good)
 
@@ -110,20 +98,5 @@ returns-2 c =
 pub list-some-spec : {M : Type 1} → statement M
 list-some-spec =
     tie.close
-    (tie.spec
-    Inv-loop
-    μ-loop
-    loop-holds
-    sub-if1
-    sub-receive-slice
-    part-receive-slice-start
-    part-receive-slice-end
-    receive-slice-requires
-    add-taken
-    put-answer-requires
-    loop-less
-    loop-again
-    same-length
-    returns
-    same-length-2
-    returns-2)
+    (tie.spec Inv-loop μ-loop loop-holds sub-if1 (λ c. search needs) (λ c. search needs) (λ c. search needs)
+    (λ c κs. tt) add-taken put-answer-requires loop-less loop-again same-length returns same-length-2 returns-2)

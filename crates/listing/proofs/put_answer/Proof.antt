@@ -34,20 +34,11 @@ no-room c =
     let s = c .before .before .before .before .before in
     omega (arith, no-most (c .before .answer2 .given .0 .0) (omega (arith, c .known-told2 .given)), s .pre .0)
 
-enum-told : tie.Need-enum-told
-enum-told c = search needs
-
-enum-known-answer : tie.Need-enum-known-answer
-enum-known-answer c = search needs
-
 slice-aggregate-put-ok : tie.Need-slice-aggregate-put-ok
 slice-aggregate-put-ok c = sym (length-take-le _ _ (fits (c .before .before .before)))
 
 put-ok-requires : tie.Need-put-ok-requires
 put-ok-requires c κs = ok-room (c .before .before .before)
-
-enum-known-answer-2 : tie.Need-enum-known-answer-2
-enum-known-answer-2 c = search needs
 
 put-no-requires : tie.Need-put-no-requires
 put-no-requires c κs = no-room (c .before)
@@ -57,16 +48,10 @@ returns c =
     rw (c .enum-told .given .1)
     (record { puts = record { ends = sym (add-zero _); leaves = refl }; within = omega (arith, c .before .before .before .before .pre .0) })
 
-same-length : tie.Need-same-length
-same-length c = search needs
-
 returns-2 : tie.Need-returns-2
 returns-2 c =
     let put = c .before .before .put-ok .ensures in
     rw (c .before .before .before .before .before .before .answer .given .1) (record { puts = put; within = omega (arith, put .ends, ok-room (c .before .before .before .before .before .before)) })
-
-same-length-2 : tie.Need-same-length-2
-same-length-2 c = search needs
 
 returns-3 : tie.Need-returns-3
 returns-3 c =
@@ -76,15 +61,5 @@ returns-3 c =
 pub put-answer-spec : {M : Type 1} → statement M
 put-answer-spec =
     tie.close
-    (tie.spec
-    enum-told
-    enum-known-answer
-    slice-aggregate-put-ok
-    put-ok-requires
-    enum-known-answer-2
-    put-no-requires
-    returns
-    same-length
-    returns-2
-    same-length-2
-    returns-3)
+    (tie.spec (λ c. search needs) (λ c. search needs) slice-aggregate-put-ok put-ok-requires (λ c. search needs)
+    put-no-requires returns (λ c. search needs) returns-2 (λ c. search needs) returns-3)

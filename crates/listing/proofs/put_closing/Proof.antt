@@ -31,17 +31,11 @@ line-room c =
 returns : tie.Need-returns
 returns c = rw (lt-leb _ _ (too-short c)) (refl, refl)
 
-sub-if2 : tie.Need-sub-if2
-sub-if2 c = search needs
-
 returns-2 : tie.Need-returns-2
 returns-2 c = rw (lt-leb _ _ (too-far c)) (refl, refl)
 
 put-counts-requires : tie.Need-put-counts-requires
 put-counts-requires c κs = line-room (c .before)
-
-same-length : tie.Need-same-length
-same-length c = search needs
 
 returns-3 : tie.Need-returns-3
 returns-3 c =
@@ -50,4 +44,4 @@ returns-3 c =
 
 pub put-closing-spec : {M : Type 1} → statement M
 put-closing-spec =
-    tie.close (tie.spec returns sub-if2 returns-2 put-counts-requires same-length returns-3)
+    tie.close (tie.spec returns (λ c. search needs) returns-2 put-counts-requires (λ c. search needs) returns-3)

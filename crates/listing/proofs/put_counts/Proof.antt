@@ -75,41 +75,20 @@ after-skipped c = first-put (counted skippedWord (start-skipped c .args .counts 
 after-open : (c : tie.After-put-count6) → Due (start-open c) (c .put-count6 .last .0) (c .put-count6 .result) (behind-open (start-open c))
 after-open c = first-put (counted openWord (start-open c .args .counts .unclosed)) _ (after-skipped (c .before .before .before .before .before)) (c .put-count6 .ensures)
 
-slice-aggregate-put-count : tie.Need-slice-aggregate-put-count
-slice-aggregate-put-count c = search needs
-
-received-requires : tie.Need-received-requires
-received-requires c κs = search needs
-
 put-count-requires : tie.Need-put-count-requires
 put-count-requires c κs = rw (c .received .ensures) (first-room (counted bytesWord (bytesReceived (c .before .before .before .before .args .counts))) _ (at-start (c .before .before .before .before)))
-
-slice-aggregate-put-count-2 : tie.Need-slice-aggregate-put-count-2
-slice-aggregate-put-count-2 c = search needs
 
 put-count-requires-2 : tie.Need-put-count-requires-2
 put-count-requires-2 c κs = first-room (counted flagsWord (start-bytes (c .before .before .before .before) .args .counts .flags)) _ (after-bytes (c .before .before .before .before))
 
-slice-aggregate-put-count-3 : tie.Need-slice-aggregate-put-count-3
-slice-aggregate-put-count-3 c = search needs
-
 put-count-requires-3 : tie.Need-put-count-requires-3
 put-count-requires-3 c κs = first-room (counted deliveredWord (start-flags (c .before .before .before .before) .args .counts .delivered)) _ (after-flags (c .before .before .before .before))
-
-slice-aggregate-put-count-4 : tie.Need-slice-aggregate-put-count-4
-slice-aggregate-put-count-4 c = search needs
 
 put-count-requires-4 : tie.Need-put-count-requires-4
 put-count-requires-4 c κs = first-room (counted refusedWord (start-delivered (c .before .before .before .before) .args .counts .refused)) _ (after-delivered (c .before .before .before .before))
 
-slice-aggregate-put-count-5 : tie.Need-slice-aggregate-put-count-5
-slice-aggregate-put-count-5 c = search needs
-
 put-count-requires-5 : tie.Need-put-count-requires-5
 put-count-requires-5 c κs = first-room (counted skippedWord (start-refused (c .before .before .before .before) .args .counts .skipped)) _ (after-refused (c .before .before .before .before))
-
-slice-aggregate-put-count-6 : tie.Need-slice-aggregate-put-count-6
-slice-aggregate-put-count-6 c = search needs
 
 put-count-requires-6 : tie.Need-put-count-requires-6
 put-count-requires-6 c κs = first-room (counted openWord (start-skipped (c .before .before .before .before) .args .counts .unclosed)) _ (after-skipped (c .before .before .before .before))
@@ -126,20 +105,6 @@ same-length c = same-long (returns c)
 pub put-counts-spec : {M : Type 1} → statement M
 put-counts-spec =
     tie.close
-    (tie.spec
-    slice-aggregate-put-count
-    received-requires
-    put-count-requires
-    slice-aggregate-put-count-2
-    put-count-requires-2
-    slice-aggregate-put-count-3
-    put-count-requires-3
-    slice-aggregate-put-count-4
-    put-count-requires-4
-    slice-aggregate-put-count-5
-    put-count-requires-5
-    slice-aggregate-put-count-6
-    put-count-requires-6
-    put-newline-requires
-    same-length
-    returns)
+    (tie.spec (λ c. search needs) (λ c κs. search needs) put-count-requires (λ c. search needs) put-count-requires-2
+    (λ c. search needs) put-count-requires-3 (λ c. search needs) put-count-requires-4 (λ c. search needs)
+    put-count-requires-5 (λ c. search needs) put-count-requires-6 put-newline-requires same-length returns)

@@ -42,9 +42,6 @@ loop-holds c =
     let s = c .before .before in
     (omega arith, all-to-put (now (s .args .text)) (s .args .at) refl (s .pre))
 
-shared-slice-read-octet : tie.Need-shared-slice-read-octet Inv-loop μ-loop
-shared-slice-read-octet c = search needs
-
 hex-digit-requires : tie.Need-hex-digit-requires Inv-loop μ-loop
 hex-digit-requires c κs = omega (arith, c .before .shared-slice-known2 .given (c .before .before .before .loop .i))
 
@@ -56,12 +53,6 @@ put-three-requires : tie.Need-put-three-requires Inv-loop μ-loop
 put-three-requires c κs =
     let turn = c .before .before .before .before in
     first-room (hexOctet (octet-at turn)) _ (left-at turn)
-
-add-i : tie.Need-add-i Inv-loop μ-loop
-add-i c = search needs
-
-loop-less : tie.Need-loop-less Inv-loop μ-loop
-loop-less c = search needs
 
 loop-again : tie.Need-loop-again Inv-loop μ-loop
 loop-again c =
@@ -81,16 +72,5 @@ same-length c = same-long (returns c)
 pub put-octets-spec : {M : Type 1} → statement M
 put-octets-spec =
     tie.close
-    (tie.spec
-    Inv-loop
-    μ-loop
-    loop-holds
-    shared-slice-read-octet
-    hex-digit-requires
-    hex-digit-requires-2
-    put-three-requires
-    add-i
-    loop-less
-    loop-again
-    same-length
-    returns)
+    (tie.spec Inv-loop μ-loop loop-holds (λ c. search needs) hex-digit-requires hex-digit-requires-2 put-three-requires
+    (λ c. search needs) (λ c. search needs) loop-again same-length returns)

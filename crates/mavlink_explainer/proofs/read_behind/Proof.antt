@@ -7,21 +7,6 @@ use borrow.Author.Needs.{needs}
 use Rattle.mavlink_explainer.proofs.read_behind.Statement.{statement}
 use Rattle.mavlink_explainer.proofs.read_behind.Tie as tie
 
-sub-read-block : tie.Need-sub-read-block
-sub-read-block c = search needs
-
-part-read-block-start : tie.Need-part-read-block-start
-part-read-block-start c = search needs
-
-part-read-block-end : tie.Need-part-read-block-end
-part-read-block-end c = search needs
-
-read-block-requires : tie.Need-read-block-requires
-read-block-requires c κs = search needs
-
-same-length : tie.Need-same-length
-same-length c = search needs
-
 returns : tie.Need-returns
 returns c =
     let part = c .before .before .read-block .last .0 in
@@ -32,10 +17,5 @@ returns c =
 pub read-behind-spec : {M : Type 1} → statement M
 read-behind-spec =
     tie.close
-    (tie.spec
-    sub-read-block
-    part-read-block-start
-    part-read-block-end
-    read-block-requires
-    same-length
+    (tie.spec (λ c. search needs) (λ c. search needs) (λ c. search needs) (λ c κs. search needs) (λ c. search needs)
     returns)

@@ -4,11 +4,8 @@ use borrow.Author.Needs.{needs}
 use Rattle.mavlink_explanation.proofs.put_closing.Statement.{statement}
 use Rattle.mavlink_explanation.proofs.put_closing.Tie as tie
 
-put-closing-line-requires : tie.Need-put-closing-line-requires
-put-closing-line-requires c κs = search needs
-
 returns : tie.Need-returns
 returns c = whole (c .put-closing-line .ensures) (closing-most _ _)
 
 pub put-closing-spec : {M : Type 1} → statement M
-put-closing-spec = tie.close (tie.spec put-closing-line-requires returns)
+put-closing-spec = tie.close (tie.spec (λ c κs. search needs) returns)

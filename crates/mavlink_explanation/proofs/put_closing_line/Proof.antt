@@ -8,23 +8,8 @@ use Rattle.mavlink_explanation.proofs.put_closing_line.Tie as tie
 slice-aggregate-put-word : tie.Need-slice-aggregate-put-word
 slice-aggregate-put-word c = refl
 
-put-word-requires : tie.Need-put-word-requires
-put-word-requires c κs = tt
-
-put-natural-requires : tie.Need-put-natural-requires
-put-natural-requires c κs = tt
-
 slice-aggregate-put-word-2 : tie.Need-slice-aggregate-put-word-2
 slice-aggregate-put-word-2 c = refl
-
-put-word-requires-2 : tie.Need-put-word-requires-2
-put-word-requires-2 c κs = tt
-
-put-natural-requires-2 : tie.Need-put-natural-requires-2
-put-natural-requires-2 c κs = tt
-
-put-octet-requires : tie.Need-put-octet-requires
-put-octet-requires c κs = tt
 
 returns : tie.Need-returns
 unfolding closingLine
@@ -33,12 +18,5 @@ returns c = then (c .before .before .before .before .before .before .before .bef
 pub put-closing-line-spec : {M : Type 1} → statement M
 put-closing-line-spec =
     tie.close
-    (tie.spec
-    slice-aggregate-put-word
-    put-word-requires
-    put-natural-requires
-    slice-aggregate-put-word-2
-    put-word-requires-2
-    put-natural-requires-2
-    put-octet-requires
-    returns)
+    (tie.spec slice-aggregate-put-word (λ c κs. tt) (λ c κs. tt) slice-aggregate-put-word-2 (λ c κs. tt) (λ c κs. tt)
+    (λ c κs. tt) returns)

@@ -8,29 +8,10 @@ use Rattle.mavlink_explanation.proofs.put_frame.Tie as tie
 slice-aggregate-put-word : tie.Need-slice-aggregate-put-word
 slice-aggregate-put-word c = refl
 
-put-word-requires : tie.Need-put-word-requires
-put-word-requires c κs = tt
-
-put-natural-requires : tie.Need-put-natural-requires
-put-natural-requires c κs = tt
-
-put-message-requires : tie.Need-put-message-requires
-put-message-requires c κs = tt
-
-put-octet-requires : tie.Need-put-octet-requires
-put-octet-requires c κs = tt
-
 returns : tie.Need-returns
 unfolding frameLine
 returns c = then (c .before .before .before .before .before .before .put-word .ensures) (then (c .before .before .before .before .put-natural .ensures) (then (c .before .before .put-message .ensures) (c .put-octet .ensures)))
 
 pub put-frame-spec : {M : Type 1} → statement M
 put-frame-spec =
-    tie.close
-    (tie.spec
-    slice-aggregate-put-word
-    put-word-requires
-    put-natural-requires
-    put-message-requires
-    put-octet-requires
-    returns)
+    tie.close (tie.spec slice-aggregate-put-word (λ c κs. tt) (λ c κs. tt) (λ c κs. tt) (λ c κs. tt) returns)

@@ -25,20 +25,11 @@ some : (bs : List ℕ) {count lowest : ℕ} → count ≡ length bs → (count �
 some [] e ne l = absurd (ne e)
 some (b ∷ bs) e ne l = λ i. record { count = e i; lowest = Bit (l i) }
 
-count-failures-requires : tie.Need-count-failures-requires
-count-failures-requires c κs = search needs
-
-no-failures-requires : tie.Need-no-failures-requires
-no-failures-requires c κs = search needs
-
 returns : tie.Need-returns
 unfolding failuresIn
 returns c =
     c .no-failures .ensures
     ∙ sym (none (failureBits (c .before .before .before .args .status)) (sym (c .before .before .count-failures .ensures) ∙ c .before .if1 .taken))
-
-lowest-failure-requires : tie.Need-lowest-failure-requires
-lowest-failure-requires c κs = search needs
 
 returns-2 : tie.Need-returns-2
 unfolding failuresIn
@@ -48,10 +39,4 @@ returns-2 c =
 
 pub failures-of-spec : {M : Type 1} → statement M
 failures-of-spec =
-    tie.close
-    (tie.spec
-    count-failures-requires
-    no-failures-requires
-    returns
-    lowest-failure-requires
-    returns-2)
+    tie.close (tie.spec (λ c κs. search needs) (λ c κs. search needs) returns (λ c κs. search needs) returns-2)

@@ -9,13 +9,10 @@ use Rattle.mavlink_messages.proofs.judge.Tie as tie
 returns : tie.Need-returns
 returns c = rw (not-true (c .before .args .fits) (c .if1 .taken))
 
-message-failures-requires : tie.Need-message-failures-requires
-message-failures-requires c κs = search needs
-
 returns-2 : tie.Need-returns-2
 returns-2 c =
     let a = c .before .before .args in
     rw (not-false (a .fits) (c .before .if1 .left)) (ap (Message (a .header) (a .used) (a .message)) (c .message-failures .ensures))
 
 pub judge-spec : {M : Type 1} → statement M
-judge-spec = tie.close (tie.spec returns message-failures-requires returns-2)
+judge-spec = tie.close (tie.spec returns (λ c κs. search needs) returns-2)

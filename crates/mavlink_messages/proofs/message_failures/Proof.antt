@@ -20,22 +20,12 @@ none (Dynamic d) k = refl
 none (Status s) k = absurd (miss (0 ∷ 1 ∷ 2 ∷ 4 ∷ []) 3 tt k)
 none (Traffic t) k = refl
 
-enum-known-message : tie.Need-enum-known-message
-enum-known-message c = search needs
-
-failures-of-requires : tie.Need-failures-of-requires
-failures-of-requires c κs = search needs
-
 returns : tie.Need-returns
 returns c = rw (c .before .before .message .given .1) (c .failures-of .ensures)
-
-no-failures-requires : tie.Need-no-failures-requires
-no-failures-requires c κs = search needs
 
 returns-2 : tie.Need-returns-2
 returns-2 c = c .no-failures .ensures ∙ none (c .before .before .args .message) (c .before .match .keys2)
 
 pub message-failures-spec : {M : Type 1} → statement M
 message-failures-spec =
-    tie.close
-    (tie.spec enum-known-message failures-of-requires returns no-failures-requires returns-2)
+    tie.close (tie.spec (λ c. search needs) (λ c κs. search needs) returns (λ c κs. search needs) returns-2)

@@ -8,12 +8,6 @@ use borrow.Author.Needs.{needs}
 use Rattle.mavlink_messages.proofs.read_message.Statement.{statement}
 use Rattle.mavlink_messages.proofs.read_message.Tie as tie
 
-read-frame-requires : tie.Need-read-frame-requires
-read-frame-requires c κs = search needs
-
-enum-known-id : tie.Need-enum-known-id
-enum-known-id c = search needs
-
 sub-end : tie.Need-sub-end
 sub-end c = omega (arith, payload-ends (now (c .before .before .before .before .before .args .input)) _ _ _ (sym (c .before .before .before .read-frame .ensures) ∙ c .before .id .given .1))
 
@@ -29,9 +23,6 @@ part-read-payload-end c = omega (arith, payload-ends (now (c .before .before .be
 read-payload-requires : tie.Need-read-payload-requires
 read-payload-requires c κs = payload-of-its-kind (now (c .before .before .before .before .before .before .args .input)) _ _ _ (sym (c .before .before .before .before .read-frame .ensures) ∙ c .before .before .id .given .1)
 
-enum-known-number : tie.Need-enum-known-number
-enum-known-number c = search needs
-
 returns : tie.Need-returns
 returns c = c .read-payload .ensures ∙ payload-read (now (c .before .before .before .before .before .before .before .args .input)) _ _ _ (sym (c .before .before .before .before .before .read-frame .ensures) ∙ c .before .before .before .id .given .1)
 
@@ -42,14 +33,5 @@ returns-2 c =
 pub read-message-spec : {M : Type 1} → statement M
 read-message-spec =
     tie.close
-    (tie.spec
-    read-frame-requires
-    enum-known-id
-    sub-end
-    sub-read-payload
-    part-read-payload-start
-    part-read-payload-end
-    read-payload-requires
-    enum-known-number
-    returns
-    returns-2)
+    (tie.spec (λ c κs. search needs) (λ c. search needs) sub-end sub-read-payload part-read-payload-start
+    part-read-payload-end read-payload-requires (λ c. search needs) returns returns-2)

@@ -13,9 +13,6 @@ use Rattle.mavlink_messages.proofs.read_payload.Tie as tie
 read-requires : tie.Need-read-requires
 read-requires c κs = let a = c .before .before .args in tested (a .id) 66 (length (now (a .payload))) 6 (c .if1 .taken) .1
 
-judge-requires : tie.Need-judge-requires
-judge-requires c κs = search needs
-
 returns : tie.Need-returns
 returns c =
     let a = c .before .before .before .before .args in
@@ -25,12 +22,6 @@ returns c =
 
 read-requires-2 : tie.Need-read-requires-2
 read-requires-2 c κs = let a = c .before .before .before .args in tested (a .id) 201 (length (now (a .payload))) 19 (c .if2 .taken) .1
-
-in-range-requires : tie.Need-in-range-requires
-in-range-requires c κs = search needs
-
-judge-requires-2 : tie.Need-judge-requires-2
-judge-requires-2 c κs = search needs
 
 returns-2 : tie.Need-returns-2
 returns-2 c =
@@ -43,12 +34,6 @@ returns-2 c =
 read-requires-3 : tie.Need-read-requires-3
 read-requires-3 c κs = let a = c .before .before .before .before .args in tested (a .id) 202 (length (now (a .payload))) 42 (c .if3 .taken) .1
 
-in-range-requires-2 : tie.Need-in-range-requires-2
-in-range-requires-2 c κs = search needs
-
-judge-requires-3 : tie.Need-judge-requires-3
-judge-requires-3 c κs = search needs
-
 returns-3 : tie.Need-returns-3
 returns-3 c =
     let a = c .before .before .before .before .before .before .before .args in
@@ -60,9 +45,6 @@ returns-3 c =
 read-requires-4 : tie.Need-read-requires-4
 read-requires-4 c κs = let a = c .before .before .before .before .before .args in tested (a .id) 203 (length (now (a .payload))) 1 (c .if4 .taken) .1
 
-judge-requires-4 : tie.Need-judge-requires-4
-judge-requires-4 c κs = search needs
-
 returns-4 : tie.Need-returns-4
 returns-4 c =
     let a = c .before .before .before .before .before .before .before .args in
@@ -72,12 +54,6 @@ returns-4 c =
 
 read-requires-5 : tie.Need-read-requires-5
 read-requires-5 c κs = let a = c .before .before .before .before .before .before .args in tested (a .id) 246 (length (now (a .payload))) 38 (c .if5 .taken) .1
-
-in-range-requires-3 : tie.Need-in-range-requires-3
-in-range-requires-3 c κs = search needs
-
-judge-requires-5 : tie.Need-judge-requires-5
-judge-requires-5 c κs = search needs
 
 returns-5 : tie.Need-returns-5
 returns-5 c =
@@ -97,23 +73,6 @@ returns-6 c =
 pub read-payload-spec : {M : Type 1} → statement M
 read-payload-spec =
     tie.close
-    (tie.spec
-    read-requires
-    judge-requires
-    returns
-    read-requires-2
-    in-range-requires
-    judge-requires-2
-    returns-2
-    read-requires-3
-    in-range-requires-2
-    judge-requires-3
-    returns-3
-    read-requires-4
-    judge-requires-4
-    returns-4
-    read-requires-5
-    in-range-requires-3
-    judge-requires-5
-    returns-5
-    returns-6)
+    (tie.spec read-requires (λ c κs. search needs) returns read-requires-2 (λ c κs. search needs) (λ c κs. search needs)
+    returns-2 read-requires-3 (λ c κs. search needs) (λ c κs. search needs) returns-3 read-requires-4
+    (λ c κs. search needs) returns-4 read-requires-5 (λ c κs. search needs) (λ c κs. search needs) returns-5 returns-6)

@@ -4,12 +4,9 @@ use borrow.Author.Needs.{needs}
 use Rattle.mavlink_ranges.proofs.dynamic_fits.Statement.{statement}
 use Rattle.mavlink_ranges.proofs.dynamic_fits.Tie as tie
 
-is-squawk-requires : tie.Need-is-squawk-requires
-is-squawk-requires c κs = search needs
-
 returns : tie.Need-returns
 unfolding dynamicFits
 returns c = rw (c .is-squawk .ensures)
 
 pub dynamic-fits-spec : {M : Type 1} → statement M
-dynamic-fits-spec = tie.close (tie.spec is-squawk-requires returns)
+dynamic-fits-spec = tie.close (tie.spec (λ c κs. search needs) returns)

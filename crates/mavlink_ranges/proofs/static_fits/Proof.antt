@@ -4,21 +4,6 @@ use borrow.Author.Needs.{needs}
 use Rattle.mavlink_ranges.proofs.static_fits.Statement.{statement}
 use Rattle.mavlink_ranges.proofs.static_fits.Tie as tie
 
-text-octets-requires : tie.Need-text-octets-requires
-text-octets-requires c κs = search needs
-
-slice-aggregate-is-spaced : tie.Need-slice-aggregate-is-spaced
-slice-aggregate-is-spaced c = search needs
-
-is-spaced-requires : tie.Need-is-spaced-requires
-is-spaced-requires c κs = search needs
-
-is-emitter-requires : tie.Need-is-emitter-requires
-is-emitter-requires c κs = search needs
-
-is-size-code-requires : tie.Need-is-size-code-requires
-is-size-code-requires c κs = search needs
-
 returns : tie.Need-returns
 unfolding staticFits
 returns c =
@@ -27,10 +12,5 @@ returns c =
 pub static-fits-spec : {M : Type 1} → statement M
 static-fits-spec =
     tie.close
-    (tie.spec
-    text-octets-requires
-    slice-aggregate-is-spaced
-    is-spaced-requires
-    is-emitter-requires
-    is-size-code-requires
-    returns)
+    (tie.spec (λ c κs. search needs) (λ c. search needs) (λ c κs. search needs) (λ c κs. search needs)
+    (λ c κs. search needs) returns)

@@ -4,12 +4,9 @@ use borrow.Author.Needs.{needs}
 use Rattle.mavlink_ranges.proofs.traffic_fits.Statement.{statement}
 use Rattle.mavlink_ranges.proofs.traffic_fits.Tie as tie
 
-is-squawk-requires : tie.Need-is-squawk-requires
-is-squawk-requires c κs = search needs
-
 returns : tie.Need-returns
 unfolding trafficFits
 returns c = rw (c .is-squawk .ensures)
 
 pub traffic-fits-spec : {M : Type 1} → statement M
-traffic-fits-spec = tie.close (tie.spec is-squawk-requires returns)
+traffic-fits-spec = tie.close (tie.spec (λ c κs. search needs) returns)

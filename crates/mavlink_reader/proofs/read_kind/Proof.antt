@@ -13,9 +13,6 @@ use borrow.Author.Needs.{needs}
 use Rattle.mavlink_reader.proofs.read_kind.Statement.{statement}
 use Rattle.mavlink_reader.proofs.read_kind.Tie as tie
 
-shared-slice-read-length : tie.Need-shared-slice-read-length
-shared-slice-read-length c = search needs
-
 -- the check that was sent, and the one that is due
 sent : (c : tie.After-little) → c .little .result ≡ checkAt (c .before .before .before .before .before .before .before .before .before .before .before .args .kind .length) (now (c .before .before .before .before .before .before .before .before .before .before .before .args .input))
 sent c = c .little .ensures
@@ -30,61 +27,16 @@ due c =
 returns : tie.Need-returns
 returns c = sym (other-length (c .before .before .before .before .args .kind) (now (c .before .before .before .before .args .input)) (c .if1 .taken))
 
-cast-end : tie.Need-cast-end
-cast-end c = search needs
-
-add-end : tie.Need-add-end
-add-end c = search needs
-
-add-if2 : tie.Need-add-if2
-add-if2 c = search needs
-
 returns-2 : tie.Need-returns-2
 returns-2 c =
     let a = c .before .before .before .before .before .before .args in
     sym (short (a .kind) (now (a .input)) (c .before .before .if1 .left) (omega arith))
-
-sub-x25-check : tie.Need-sub-x25-check
-sub-x25-check c = search needs
-
-part-x25-check-start : tie.Need-part-x25-check-start
-part-x25-check-start c = search needs
-
-part-x25-check-end : tie.Need-part-x25-check-end
-part-x25-check-end c = search needs
-
-x25-check-requires : tie.Need-x25-check-requires
-x25-check-requires c κs = search needs
-
-shared-slice-read-little : tie.Need-shared-slice-read-little
-shared-slice-read-little c = search needs
-
-add-little : tie.Need-add-little
-add-little c = search needs
-
-shared-slice-read-little-2 : tie.Need-shared-slice-read-little-2
-shared-slice-read-little-2 c = search needs
-
-little-requires : tie.Need-little-requires
-little-requires c κs = search needs
 
 returns-3 : tie.Need-returns-3
 returns-3 c =
     let a = c .before .before .before .before .before .before .before .before .before .before .before .before .args in
     sym (wrong (a .kind) (now (a .input)) (c .before .before .before .before .before .before .before .before .if1 .left) (omega (arith, c .before .before .before .before .before .before .if2 .left))
     (λ e. c .if3 .taken (sent (c .before) ∙ e ∙ sym (due (c .before .before .before .before)))))
-
-shared-slice-read-t18 : tie.Need-shared-slice-read-t18
-shared-slice-read-t18 c = search needs
-
-shared-slice-read-t9 : tie.Need-shared-slice-read-t9
-shared-slice-read-t9 c = search needs
-
-shared-slice-read-t22 : tie.Need-shared-slice-read-t22
-shared-slice-read-t22 c = search needs
-
-add-t12 : tie.Need-add-t12
-add-t12 c = search needs
 
 returns-4 : tie.Need-returns-4
 returns-4 c =
@@ -97,24 +49,7 @@ returns-4 c =
 pub read-kind-spec : {M : Type 1} → statement M
 read-kind-spec =
     tie.close
-    (tie.spec
-    shared-slice-read-length
-    returns
-    cast-end
-    add-end
-    add-if2
-    returns-2
-    sub-x25-check
-    part-x25-check-start
-    part-x25-check-end
-    x25-check-requires
-    shared-slice-read-little
-    add-little
-    shared-slice-read-little-2
-    little-requires
-    returns-3
-    shared-slice-read-t18
-    shared-slice-read-t9
-    shared-slice-read-t22
-    add-t12
-    returns-4)
+    (tie.spec (λ c. search needs) returns (λ c. search needs) (λ c. search needs) (λ c. search needs) returns-2
+    (λ c. search needs) (λ c. search needs) (λ c. search needs) (λ c κs. search needs) (λ c. search needs)
+    (λ c. search needs) (λ c. search needs) (λ c κs. search needs) returns-3 (λ c. search needs) (λ c. search needs)
+    (λ c. search needs) (λ c. search needs) returns-4)

@@ -6,41 +6,20 @@ use borrow.Author.Needs.{needs}
 use Rattle.mavlink_text.proofs.put_data_stream.Statement.{statement}
 use Rattle.mavlink_text.proofs.put_data_stream.Tie as tie
 
-cast-unsigned : tie.Need-cast-unsigned
-cast-unsigned c = search needs
-
-unsigned-requires : tie.Need-unsigned-requires
-unsigned-requires c κs = tt
-
 slice-aggregate-put-reading : tie.Need-slice-aggregate-put-reading
 slice-aggregate-put-reading c = refl
-
-put-reading-requires : tie.Need-put-reading-requires
-put-reading-requires c κs = tt
 
 slice-aggregate-put-number : tie.Need-slice-aggregate-put-number
 slice-aggregate-put-number c = refl
 
-put-number-requires : tie.Need-put-number-requires
-put-number-requires c κs = tt
-
 slice-aggregate-put-number-2 : tie.Need-slice-aggregate-put-number-2
 slice-aggregate-put-number-2 c = refl
-
-put-number-requires-2 : tie.Need-put-number-requires-2
-put-number-requires-2 c κs = tt
 
 slice-aggregate-put-number-3 : tie.Need-slice-aggregate-put-number-3
 slice-aggregate-put-number-3 c = refl
 
-put-number-requires-3 : tie.Need-put-number-requires-3
-put-number-requires-3 c κs = tt
-
 slice-aggregate-put-number-4 : tie.Need-slice-aggregate-put-number-4
 slice-aggregate-put-number-4 c = refl
-
-put-number-requires-4 : tie.Need-put-number-requires-4
-put-number-requires-4 c κs = tt
 
 returns : tie.Need-returns
 unfolding fields
@@ -53,17 +32,6 @@ returns c = then (rw (c .before .before .before .before .before .before .before 
 pub put-data-stream-spec : {M : Type 1} → statement M
 put-data-stream-spec =
     tie.close
-    (tie.spec
-    cast-unsigned
-    unsigned-requires
-    slice-aggregate-put-reading
-    put-reading-requires
-    slice-aggregate-put-number
-    put-number-requires
-    slice-aggregate-put-number-2
-    put-number-requires-2
-    slice-aggregate-put-number-3
-    put-number-requires-3
-    slice-aggregate-put-number-4
-    put-number-requires-4
-    returns)
+    (tie.spec (λ c. search needs) (λ c κs. tt) slice-aggregate-put-reading (λ c κs. tt) slice-aggregate-put-number
+    (λ c κs. tt) slice-aggregate-put-number-2 (λ c κs. tt) slice-aggregate-put-number-3 (λ c κs. tt)
+    slice-aggregate-put-number-4 (λ c κs. tt) returns)

@@ -5,26 +5,14 @@ use Rattle.field_text.specs.Fields.{fields}
 use Rattle.mavlink_text.proofs.put_heading.Statement.{statement}
 use Rattle.mavlink_text.proofs.put_heading.Tie as tie
 
-put-word-requires : tie.Need-put-word-requires
-put-word-requires c κs = tt
-
 slice-aggregate-put-number : tie.Need-slice-aggregate-put-number
 slice-aggregate-put-number c = refl
-
-put-number-requires : tie.Need-put-number-requires
-put-number-requires c κs = tt
 
 slice-aggregate-put-number-2 : tie.Need-slice-aggregate-put-number-2
 slice-aggregate-put-number-2 c = refl
 
-put-number-requires-2 : tie.Need-put-number-requires-2
-put-number-requires-2 c κs = tt
-
 slice-aggregate-put-number-3 : tie.Need-slice-aggregate-put-number-3
 slice-aggregate-put-number-3 c = refl
-
-put-number-requires-3 : tie.Need-put-number-requires-3
-put-number-requires-3 c κs = tt
 
 returns : tie.Need-returns
 unfolding fields
@@ -36,12 +24,5 @@ returns c = then (c .before .before .before .before .before .before .before .bef
 pub put-heading-spec : {M : Type 1} → statement M
 put-heading-spec =
     tie.close
-    (tie.spec
-    put-word-requires
-    slice-aggregate-put-number
-    put-number-requires
-    slice-aggregate-put-number-2
-    put-number-requires-2
-    slice-aggregate-put-number-3
-    put-number-requires-3
-    returns)
+    (tie.spec (λ c κs. tt) slice-aggregate-put-number (λ c κs. tt) slice-aggregate-put-number-2 (λ c κs. tt)
+    slice-aggregate-put-number-3 (λ c κs. tt) returns)

@@ -4,26 +4,11 @@ use borrow.Author.Needs.{needs}
 use Rattle.mavlink_text.proofs.put_lowest.Statement.{statement}
 use Rattle.mavlink_text.proofs.put_lowest.Tie as tie
 
-enum-known-lowest : tie.Need-enum-known-lowest
-enum-known-lowest c = search needs
-
-unsigned-requires : tie.Need-unsigned-requires
-unsigned-requires c κs = tt
-
 slice-aggregate-put-reading : tie.Need-slice-aggregate-put-reading
 slice-aggregate-put-reading c = refl
 
-put-reading-requires : tie.Need-put-reading-requires
-put-reading-requires c κs = tt
-
-enum-told : tie.Need-enum-told
-enum-told c = search needs
-
 slice-aggregate-put-none : tie.Need-slice-aggregate-put-none
 slice-aggregate-put-none c = refl
-
-put-none-requires : tie.Need-put-none-requires
-put-none-requires c κs = tt
 
 returns : tie.Need-returns
 returns c = rw (c .before .before .before .before .before .lowest .given .1) (rw (c .before .before .before .unsigned .ensures) at (c .put-reading .ensures))
@@ -34,13 +19,5 @@ returns-2 c = rw (c .before .before .before .enum-told .given .1) (c .put-none .
 pub put-lowest-spec : {M : Type 1} → statement M
 put-lowest-spec =
     tie.close
-    (tie.spec
-    enum-known-lowest
-    unsigned-requires
-    slice-aggregate-put-reading
-    put-reading-requires
-    enum-told
-    slice-aggregate-put-none
-    put-none-requires
-    returns
-    returns-2)
+    (tie.spec (λ c. search needs) (λ c κs. tt) slice-aggregate-put-reading (λ c κs. tt) (λ c. search needs)
+    slice-aggregate-put-none (λ c κs. tt) returns returns-2)

@@ -6,65 +6,20 @@ use borrow.Author.Needs.{needs}
 use Rattle.mavlink_text.proofs.put_message.Statement.{statement}
 use Rattle.mavlink_text.proofs.put_message.Tie as tie
 
-enum-known-message : tie.Need-enum-known-message
-enum-known-message c = search needs
-
 slice-aggregate-put-heading : tie.Need-slice-aggregate-put-heading
 slice-aggregate-put-heading c = refl
-
-put-heading-requires : tie.Need-put-heading-requires
-put-heading-requires c κs = tt
-
-put-data-stream-requires : tie.Need-put-data-stream-requires
-put-data-stream-requires c κs = tt
-
-enum-known-message-2 : tie.Need-enum-known-message-2
-enum-known-message-2 c = search needs
 
 slice-aggregate-put-heading-2 : tie.Need-slice-aggregate-put-heading-2
 slice-aggregate-put-heading-2 c = refl
 
-put-heading-requires-2 : tie.Need-put-heading-requires-2
-put-heading-requires-2 c κs = tt
-
-put-static-requires : tie.Need-put-static-requires
-put-static-requires c κs = tt
-
-enum-known-message-3 : tie.Need-enum-known-message-3
-enum-known-message-3 c = search needs
-
 slice-aggregate-put-heading-3 : tie.Need-slice-aggregate-put-heading-3
 slice-aggregate-put-heading-3 c = refl
-
-put-heading-requires-3 : tie.Need-put-heading-requires-3
-put-heading-requires-3 c κs = tt
-
-put-dynamic-requires : tie.Need-put-dynamic-requires
-put-dynamic-requires c κs = tt
-
-enum-known-message-4 : tie.Need-enum-known-message-4
-enum-known-message-4 c = search needs
 
 slice-aggregate-put-heading-4 : tie.Need-slice-aggregate-put-heading-4
 slice-aggregate-put-heading-4 c = refl
 
-put-heading-requires-4 : tie.Need-put-heading-requires-4
-put-heading-requires-4 c κs = tt
-
-put-status-requires : tie.Need-put-status-requires
-put-status-requires c κs = tt
-
-enum-known-message-5 : tie.Need-enum-known-message-5
-enum-known-message-5 c = search needs
-
 slice-aggregate-put-heading-5 : tie.Need-slice-aggregate-put-heading-5
 slice-aggregate-put-heading-5 c = refl
-
-put-heading-requires-5 : tie.Need-put-heading-requires-5
-put-heading-requires-5 c κs = tt
-
-put-traffic-requires : tie.Need-put-traffic-requires
-put-traffic-requires c κs = tt
 
 returns : tie.Need-returns
 unfolding messageShown
@@ -89,29 +44,8 @@ returns-5 c = rw (c .before .before .before .before .before .before .message5 .g
 pub put-message-spec : {M : Type 1} → statement M
 put-message-spec =
     tie.close
-    (tie.spec
-    enum-known-message
-    slice-aggregate-put-heading
-    put-heading-requires
-    put-data-stream-requires
-    enum-known-message-2
-    slice-aggregate-put-heading-2
-    put-heading-requires-2
-    put-static-requires
-    enum-known-message-3
-    slice-aggregate-put-heading-3
-    put-heading-requires-3
-    put-dynamic-requires
-    enum-known-message-4
-    slice-aggregate-put-heading-4
-    put-heading-requires-4
-    put-status-requires
-    enum-known-message-5
-    slice-aggregate-put-heading-5
-    put-heading-requires-5
-    put-traffic-requires
-    returns
-    returns-2
-    returns-3
-    returns-4
+    (tie.spec (λ c. search needs) slice-aggregate-put-heading (λ c κs. tt) (λ c κs. tt) (λ c. search needs)
+    slice-aggregate-put-heading-2 (λ c κs. tt) (λ c κs. tt) (λ c. search needs) slice-aggregate-put-heading-3
+    (λ c κs. tt) (λ c κs. tt) (λ c. search needs) slice-aggregate-put-heading-4 (λ c κs. tt) (λ c κs. tt)
+    (λ c. search needs) slice-aggregate-put-heading-5 (λ c κs. tt) (λ c κs. tt) returns returns-2 returns-3 returns-4
     returns-5)

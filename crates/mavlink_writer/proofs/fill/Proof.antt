@@ -8,21 +8,6 @@ use borrow.Author.Needs.{needs}
 use Rattle.mavlink_writer.proofs.fill.Statement.{statement}
 use Rattle.mavlink_writer.proofs.fill.Tie as tie
 
-put-header-requires : tie.Need-put-header-requires
-put-header-requires c κs = search needs
-
-put-payload-requires : tie.Need-put-payload-requires
-put-payload-requires c κs = search needs
-
-add-put-check : tie.Need-add-put-check
-add-put-check c = search needs
-
-put-check-requires : tie.Need-put-check-requires
-put-check-requires c κs = search needs
-
-same-length : tie.Need-same-length
-same-length c = search needs
-
 returns : tie.Need-returns
 returns c =
     let a = c .before .before .before .before .before .before .before .before .before .before .before .before .before .before .args in
@@ -36,10 +21,5 @@ returns c =
 pub fill-spec : {M : Type 1} → statement M
 fill-spec =
     tie.close
-    (tie.spec
-    put-header-requires
-    put-payload-requires
-    add-put-check
-    put-check-requires
-    same-length
-    returns)
+    (tie.spec (λ c κs. search needs) (λ c κs. search needs) (λ c. search needs) (λ c κs. search needs)
+    (λ c. search needs) returns)

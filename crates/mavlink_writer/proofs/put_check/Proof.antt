@@ -11,30 +11,6 @@ use borrow.Author.Needs.{needs}
 use Rattle.mavlink_writer.proofs.put_check.Statement.{statement}
 use Rattle.mavlink_writer.proofs.put_check.Tie as tie
 
-sub-x25-check : tie.Need-sub-x25-check
-sub-x25-check c = search needs
-
-part-x25-check-start : tie.Need-part-x25-check-start
-part-x25-check-start c = search needs
-
-part-x25-check-end : tie.Need-part-x25-check-end
-part-x25-check-end c = search needs
-
-x25-check-requires : tie.Need-x25-check-requires
-x25-check-requires c κs = search needs
-
-cast-output : tie.Need-cast-output
-cast-output c = search needs
-
-slice-write-output : tie.Need-slice-write-output
-slice-write-output c = search needs
-
-cast-output-2 : tie.Need-cast-output-2
-cast-output-2 c = search needs
-
-add-output : tie.Need-add-output
-add-output c = search needs
-
 slice-write-output-2 : tie.Need-slice-write-output-2
 slice-write-output-2 c = simp length-set (omega arith)
 
@@ -50,15 +26,5 @@ returns c =
 pub put-check-spec : {M : Type 1} → statement M
 put-check-spec =
     tie.close
-    (tie.spec
-    sub-x25-check
-    part-x25-check-start
-    part-x25-check-end
-    x25-check-requires
-    cast-output
-    slice-write-output
-    cast-output-2
-    add-output
-    slice-write-output-2
-    same-length
-    returns)
+    (tie.spec (λ c. search needs) (λ c. search needs) (λ c. search needs) (λ c κs. search needs) (λ c. search needs)
+    (λ c. search needs) (λ c. search needs) (λ c. search needs) slice-write-output-2 same-length returns)

@@ -6,9 +6,6 @@ use borrow.Author.Needs.{needs}
 use Rattle.mavlink_writer.proofs.put_header.Statement.{statement}
 use Rattle.mavlink_writer.proofs.put_header.Tie as tie
 
-slice-write-output : tie.Need-slice-write-output
-slice-write-output c = search needs
-
 slice-write-output-2 : tie.Need-slice-write-output-2
 slice-write-output-2 c = simp length-set (omega arith)
 
@@ -33,12 +30,5 @@ returns c = refl
 pub put-header-spec : {M : Type 1} → statement M
 put-header-spec =
     tie.close
-    (tie.spec
-    slice-write-output
-    slice-write-output-2
-    slice-write-output-3
-    slice-write-output-4
-    slice-write-output-5
-    slice-write-output-6
-    same-length
-    returns)
+    (tie.spec (λ c. search needs) slice-write-output-2 slice-write-output-3 slice-write-output-4 slice-write-output-5
+    slice-write-output-6 same-length returns)

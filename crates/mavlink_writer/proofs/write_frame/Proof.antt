@@ -6,21 +6,6 @@ use borrow.Author.Needs.{needs}
 use Rattle.mavlink_writer.proofs.write_frame.Statement.{statement}
 use Rattle.mavlink_writer.proofs.write_frame.Tie as tie
 
-kind-of-requires : tie.Need-kind-of-requires
-kind-of-requires c κs = search needs
-
-enum-known-kind : tie.Need-enum-known-kind
-enum-known-kind c = search needs
-
-write-kind-requires : tie.Need-write-kind-requires
-write-kind-requires c κs = search needs
-
-enum-told : tie.Need-enum-told
-enum-told c = search needs
-
-same-length : tie.Need-same-length
-same-length c = search needs
-
 returns : tie.Need-returns
 returns c =
     let e : kindOf (c .before .before .before .before .before .before .before .before .before .before .args .id) ≡ Known _ = sym (c .before .before .before .before .before .before .before .kind-of .ensures) ∙ c .before .before .before .before .before .kind .given .1 in
@@ -34,11 +19,5 @@ returns-2 c =
 pub write-frame-spec : {M : Type 1} → statement M
 write-frame-spec =
     tie.close
-    (tie.spec
-    kind-of-requires
-    enum-known-kind
-    write-kind-requires
-    enum-told
-    same-length
-    returns
-    returns-2)
+    (tie.spec (λ c κs. search needs) (λ c. search needs) (λ c κs. search needs) (λ c. search needs) (λ c. search needs)
+    returns returns-2)

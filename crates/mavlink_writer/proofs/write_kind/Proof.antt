@@ -6,29 +6,14 @@ use borrow.Author.Needs.{needs}
 use Rattle.mavlink_writer.proofs.write_kind.Statement.{statement}
 use Rattle.mavlink_writer.proofs.write_kind.Tie as tie
 
-cast-if1 : tie.Need-cast-if1
-cast-if1 c = search needs
-
 returns : tie.Need-returns
 unfolding writeOf
 returns c = record { answers = rw (ne-eqb _ _ (c .if1 .taken)); leaves = refl }
-
-add-if2 : tie.Need-add-if2
-add-if2 c = search needs
 
 returns-2 : tie.Need-returns-2
 unfolding writeOf
 returns-2 c =
     record { answers = rw (eq-eqb _ _ (c .before .if1 .left), lt-ltb _ _ (c .if2 .taken)); leaves = refl }
-
-fill-requires : tie.Need-fill-requires
-fill-requires c κs = search needs
-
-add-t6 : tie.Need-add-t6
-add-t6 c = search needs
-
-same-length : tie.Need-same-length
-same-length c = search needs
 
 returns-3 : tie.Need-returns-3
 unfolding writeOf
@@ -41,4 +26,5 @@ returns-3 c =
 pub write-kind-spec : {M : Type 1} → statement M
 write-kind-spec =
     tie.close
-    (tie.spec cast-if1 returns add-if2 returns-2 fill-requires add-t6 same-length returns-3)
+    (tie.spec (λ c. search needs) returns (λ c. search needs) returns-2 (λ c κs. search needs) (λ c. search needs)
+    (λ c. search needs) returns-3)

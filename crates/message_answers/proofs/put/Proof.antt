@@ -8,12 +8,6 @@ use borrow.Author.Needs.{needs}
 use Rattle.message_answers.proofs.put.Statement.{statement}
 use Rattle.message_answers.proofs.put.Tie as tie
 
-store-requires : tie.Need-store-requires
-store-requires c κs = search needs
-
-same-length : tie.Need-same-length
-same-length c = search needs
-
 returns : tie.Need-returns
 unfolding answerDue
 returns c =
@@ -21,9 +15,6 @@ returns c =
     let a = c .before .before .before .before .before .before .before .args in
     let room = leb-true (length (now (a .body))) (length (now (a .output))) (sym (e .0) ∙ c .if1 .taken) in
     record { answers = rw (le-ltb _ _ room); leaves = rw (c .if1 .taken) at (e .1) }
-
-same-length-2 : tie.Need-same-length-2
-same-length-2 c = search needs
 
 returns-2 : tie.Need-returns-2
 unfolding answerDue
@@ -34,4 +25,4 @@ returns-2 c =
     record { answers = rw (lt-ltb _ _ short); leaves = rw (c .if1 .left) at (e .1) }
 
 pub put-spec : {M : Type 1} → statement M
-put-spec = tie.close (tie.spec store-requires same-length returns same-length-2 returns-2)
+put-spec = tie.close (tie.spec (λ c κs. search needs) (λ c. search needs) returns (λ c. search needs) returns-2)

@@ -16,9 +16,6 @@ returns : tie.Need-returns
 unfolding altitudeMeans
 returns c = rw (eq-eqb (c .before .args .number) 4095 (c .if1 .taken))
 
-mul-scaled : tie.Need-mul-scaled
-mul-scaled c = omega arith
-
 cast-t5 : tie.Need-cast-t5
 cast-t5 c = record { sfits = omega arith }
 
@@ -35,4 +32,4 @@ returns-2 c =
     (ap Feet (toZ-ofZ w32 (pos n -ℤ pos 1000) (less-fits n (omega arith))))
 
 pub altitude-in-feet-spec : {M : Type 1} → statement M
-altitude-in-feet-spec = tie.close (tie.spec returns mul-scaled cast-t5 sub-t6 returns-2)
+altitude-in-feet-spec = tie.close (tie.spec returns (λ c. omega arith) cast-t5 sub-t6 returns-2)

@@ -9,29 +9,14 @@ use Rattle.message_text.proofs.put_airframe.Tie as tie
 slice-aggregate-put-knots : tie.Need-slice-aggregate-put-knots
 slice-aggregate-put-knots c = refl
 
-cast-put-knots : tie.Need-cast-put-knots
-cast-put-knots c = search needs
-
-put-knots-requires : tie.Need-put-knots-requires
-put-knots-requires c κs = tt
-
 slice-aggregate-put-number : tie.Need-slice-aggregate-put-number
 slice-aggregate-put-number c = refl
-
-put-number-requires : tie.Need-put-number-requires
-put-number-requires c κs = tt
 
 slice-aggregate-put-number-2 : tie.Need-slice-aggregate-put-number-2
 slice-aggregate-put-number-2 c = refl
 
-put-number-requires-2 : tie.Need-put-number-requires-2
-put-number-requires-2 c κs = tt
-
 slice-aggregate-put-number-3 : tie.Need-slice-aggregate-put-number-3
 slice-aggregate-put-number-3 c = refl
-
-put-number-requires-3 : tie.Need-put-number-requires-3
-put-number-requires-3 c κs = tt
 
 returns : tie.Need-returns
 unfolding fields
@@ -40,14 +25,5 @@ returns c = then (c .before .before .before .before .before .before .before .bef
 pub put-airframe-spec : {M : Type 1} → statement M
 put-airframe-spec =
     tie.close
-    (tie.spec
-    slice-aggregate-put-knots
-    cast-put-knots
-    put-knots-requires
-    slice-aggregate-put-number
-    put-number-requires
-    slice-aggregate-put-number-2
-    put-number-requires-2
-    slice-aggregate-put-number-3
-    put-number-requires-3
-    returns)
+    (tie.spec slice-aggregate-put-knots (λ c. search needs) (λ c κs. tt) slice-aggregate-put-number (λ c κs. tt)
+    slice-aggregate-put-number-2 (λ c κs. tt) slice-aggregate-put-number-3 (λ c κs. tt) returns)

@@ -9,25 +9,9 @@ use Rattle.message_text.proofs.put_control.Tie as tie
 slice-aggregate-put-word : tie.Need-slice-aggregate-put-word
 slice-aggregate-put-word c = refl
 
-put-word-requires : tie.Need-put-word-requires
-put-word-requires c κs = tt
-
-put-modes-requires : tie.Need-put-modes-requires
-put-modes-requires c κs = tt
-
-put-flight-requires : tie.Need-put-flight-requires
-put-flight-requires c κs = tt
-
 returns : tie.Need-returns
 unfolding messageShown
 returns c = then (c .before .before .before .before .put-word .ensures) (rw (fields-split 5 (controlParts (c .before .before .before .before .before .before .before .args .control))) at (then (c .before .before .put-modes .ensures) (c .put-flight .ensures)))
 
 pub put-control-spec : {M : Type 1} → statement M
-put-control-spec =
-    tie.close
-    (tie.spec
-    slice-aggregate-put-word
-    put-word-requires
-    put-modes-requires
-    put-flight-requires
-    returns)
+put-control-spec = tie.close (tie.spec slice-aggregate-put-word (λ c κs. tt) (λ c κs. tt) (λ c κs. tt) returns)

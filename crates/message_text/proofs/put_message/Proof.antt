@@ -5,59 +5,11 @@ use borrow.Author.Needs.{needs}
 use Rattle.message_text.proofs.put_message.Statement.{statement}
 use Rattle.message_text.proofs.put_message.Tie as tie
 
-enum-known-message : tie.Need-enum-known-message
-enum-known-message c = search needs
-
-put-heartbeat-requires : tie.Need-put-heartbeat-requires
-put-heartbeat-requires c κs = tt
-
-enum-told : tie.Need-enum-told
-enum-told c = search needs
-
-put-uplink-requires : tie.Need-put-uplink-requires
-put-uplink-requires c κs = tt
-
-enum-known-message-2 : tie.Need-enum-known-message-2
-enum-known-message-2 c = search needs
-
 slice-aggregate-put-report : tie.Need-slice-aggregate-put-report
 slice-aggregate-put-report c = refl
 
-put-report-requires : tie.Need-put-report-requires
-put-report-requires c κs = tt
-
-enum-known-message-3 : tie.Need-enum-known-message-3
-enum-known-message-3 c = search needs
-
-put-geometric-requires : tie.Need-put-geometric-requires
-put-geometric-requires c κs = tt
-
-enum-known-message-4 : tie.Need-enum-known-message-4
-enum-known-message-4 c = search needs
-
 slice-aggregate-put-report-2 : tie.Need-slice-aggregate-put-report-2
 slice-aggregate-put-report-2 c = refl
-
-put-report-requires-2 : tie.Need-put-report-requires-2
-put-report-requires-2 c κs = tt
-
-enum-known-message-5 : tie.Need-enum-known-message-5
-enum-known-message-5 c = search needs
-
-put-request-requires : tie.Need-put-request-requires
-put-request-requires c κs = tt
-
-enum-known-message-6 : tie.Need-enum-known-message-6
-enum-known-message-6 c = search needs
-
-put-control-requires : tie.Need-put-control-requires
-put-control-requires c κs = tt
-
-enum-known-message-7 : tie.Need-enum-known-message-7
-enum-known-message-7 c = search needs
-
-put-initialization-requires : tie.Need-put-initialization-requires
-put-initialization-requires c κs = tt
 
 returns : tie.Need-returns
 unfolding messageShown
@@ -94,30 +46,7 @@ returns-8 c = rw (c .before .before .before .message7 .given .1) (c .put-initial
 pub put-message-spec : {M : Type 1} → statement M
 put-message-spec =
     tie.close
-    (tie.spec
-    enum-known-message
-    put-heartbeat-requires
-    enum-told
-    put-uplink-requires
-    enum-known-message-2
-    slice-aggregate-put-report
-    put-report-requires
-    enum-known-message-3
-    put-geometric-requires
-    enum-known-message-4
-    slice-aggregate-put-report-2
-    put-report-requires-2
-    enum-known-message-5
-    put-request-requires
-    enum-known-message-6
-    put-control-requires
-    enum-known-message-7
-    put-initialization-requires
-    returns
-    returns-2
-    returns-3
-    returns-4
-    returns-5
-    returns-6
-    returns-7
-    returns-8)
+    (tie.spec (λ c. search needs) (λ c κs. tt) (λ c. search needs) (λ c κs. tt) (λ c. search needs)
+    slice-aggregate-put-report (λ c κs. tt) (λ c. search needs) (λ c κs. tt) (λ c. search needs)
+    slice-aggregate-put-report-2 (λ c κs. tt) (λ c. search needs) (λ c κs. tt) (λ c. search needs) (λ c κs. tt)
+    (λ c. search needs) (λ c κs. tt) returns returns-2 returns-3 returns-4 returns-5 returns-6 returns-7 returns-8)

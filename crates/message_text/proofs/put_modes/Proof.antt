@@ -8,32 +8,17 @@ use Rattle.message_text.proofs.put_modes.Tie as tie
 slice-aggregate-put-truth : tie.Need-slice-aggregate-put-truth
 slice-aggregate-put-truth c = refl
 
-put-truth-requires : tie.Need-put-truth-requires
-put-truth-requires c κs = tt
-
 slice-aggregate-put-truth-2 : tie.Need-slice-aggregate-put-truth-2
 slice-aggregate-put-truth-2 c = refl
-
-put-truth-requires-2 : tie.Need-put-truth-requires-2
-put-truth-requires-2 c κs = tt
 
 slice-aggregate-put-truth-3 : tie.Need-slice-aggregate-put-truth-3
 slice-aggregate-put-truth-3 c = refl
 
-put-truth-requires-3 : tie.Need-put-truth-requires-3
-put-truth-requires-3 c κs = tt
-
 slice-aggregate-put-truth-4 : tie.Need-slice-aggregate-put-truth-4
 slice-aggregate-put-truth-4 c = refl
 
-put-truth-requires-4 : tie.Need-put-truth-requires-4
-put-truth-requires-4 c κs = tt
-
 slice-aggregate-put-truth-5 : tie.Need-slice-aggregate-put-truth-5
 slice-aggregate-put-truth-5 c = refl
-
-put-truth-requires-5 : tie.Need-put-truth-requires-5
-put-truth-requires-5 c κs = tt
 
 returns : tie.Need-returns
 unfolding fields
@@ -42,15 +27,6 @@ returns c = then (c .before .before .before .before .before .before .before .bef
 pub put-modes-spec : {M : Type 1} → statement M
 put-modes-spec =
     tie.close
-    (tie.spec
-    slice-aggregate-put-truth
-    put-truth-requires
-    slice-aggregate-put-truth-2
-    put-truth-requires-2
-    slice-aggregate-put-truth-3
-    put-truth-requires-3
-    slice-aggregate-put-truth-4
-    put-truth-requires-4
-    slice-aggregate-put-truth-5
-    put-truth-requires-5
-    returns)
+    (tie.spec slice-aggregate-put-truth (λ c κs. tt) slice-aggregate-put-truth-2 (λ c κs. tt)
+    slice-aggregate-put-truth-3 (λ c κs. tt) slice-aggregate-put-truth-4 (λ c κs. tt) slice-aggregate-put-truth-5
+    (λ c κs. tt) returns)

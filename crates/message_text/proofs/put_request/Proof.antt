@@ -9,14 +9,8 @@ use Rattle.message_text.proofs.put_request.Tie as tie
 slice-aggregate-put-word : tie.Need-slice-aggregate-put-word
 slice-aggregate-put-word c = refl
 
-put-word-requires : tie.Need-put-word-requires
-put-word-requires c κs = tt
-
 slice-aggregate-put-number : tie.Need-slice-aggregate-put-number
 slice-aggregate-put-number c = refl
-
-put-number-requires : tie.Need-put-number-requires
-put-number-requires c κs = tt
 
 returns : tie.Need-returns
 unfolding messageShown fields
@@ -24,10 +18,4 @@ returns c = then (c .before .before .before .put-word .ensures) (last-piece (c .
 
 pub put-request-spec : {M : Type 1} → statement M
 put-request-spec =
-    tie.close
-    (tie.spec
-    slice-aggregate-put-word
-    put-word-requires
-    slice-aggregate-put-number
-    put-number-requires
-    returns)
+    tie.close (tie.spec slice-aggregate-put-word (λ c κs. tt) slice-aggregate-put-number (λ c κs. tt) returns)

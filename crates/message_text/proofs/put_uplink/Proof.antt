@@ -8,17 +8,9 @@ use Rattle.message_text.proofs.put_uplink.Tie as tie
 slice-aggregate-put-word : tie.Need-slice-aggregate-put-word
 slice-aggregate-put-word c = refl
 
-put-word-requires : tie.Need-put-word-requires
-put-word-requires c κs = tt
-
-put-spelled-requires : tie.Need-put-spelled-requires
-put-spelled-requires c κs = tt
-
 returns : tie.Need-returns
 unfolding messageShown
 returns c = then (c .before .before .put-word .ensures) (c .put-spelled .ensures)
 
 pub put-uplink-spec : {M : Type 1} → statement M
-put-uplink-spec =
-    tie.close
-    (tie.spec slice-aggregate-put-word put-word-requires put-spelled-requires returns)
+put-uplink-spec = tie.close (tie.spec slice-aggregate-put-word (λ c κs. tt) (λ c κs. tt) returns)

@@ -34,24 +34,12 @@ abbrev μ-loop : tie.MeasureT-loop
 returns : tie.Need-returns Inv-loop μ-loop
 returns c = (sym (lt-leb _ _ (c .if1 .taken)), refl)
 
-loop-holds : tie.Need-loop-holds Inv-loop μ-loop
-loop-holds c = search needs
-
-shared-slice-read-output : tie.Need-shared-slice-read-output Inv-loop μ-loop
-shared-slice-read-output c = search needs
-
 slice-write-output : tie.Need-slice-write-output Inv-loop μ-loop
 slice-write-output c =
     let l = c .before .before .loop in
     let a = c .before .before .before .before .args in
     let n = ap length (l .inv .2) ∙ length-paste (now (a .output)) 0 (now (a .octets)) (l .i) (omega arith) (omega arith) in
     omega arith
-
-add-i : tie.Need-add-i Inv-loop μ-loop
-add-i c = search needs
-
-loop-less : tie.Need-loop-less Inv-loop μ-loop
-loop-less c = search needs
 
 loop-again : tie.Need-loop-again Inv-loop μ-loop
 loop-again c =
@@ -75,15 +63,5 @@ returns-2 c =
 pub store-spec : {M : Type 1} → statement M
 store-spec =
     tie.close
-    (tie.spec
-    Inv-loop
-    μ-loop
-    returns
-    loop-holds
-    shared-slice-read-output
-    slice-write-output
-    add-i
-    loop-less
-    loop-again
-    same-length
-    returns-2)
+    (tie.spec Inv-loop μ-loop returns (λ c. search needs) (λ c. search needs) slice-write-output (λ c. search needs)
+    (λ c. search needs) loop-again same-length returns-2)

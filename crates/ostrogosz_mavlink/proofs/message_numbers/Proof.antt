@@ -3,24 +3,6 @@ use borrow.Author.Needs.{needs}
 use Rattle.ostrogosz_mavlink.proofs.message_numbers.Statement.{statement}
 use Rattle.ostrogosz_mavlink.proofs.message_numbers.Tie as tie
 
-framed-requires : tie.Need-framed-requires
-framed-requires c κs = search needs
-
-enum-known-message : tie.Need-enum-known-message
-enum-known-message c = search needs
-
-enum-known-message-2 : tie.Need-enum-known-message-2
-enum-known-message-2 c = search needs
-
-enum-known-message-3 : tie.Need-enum-known-message-3
-enum-known-message-3 c = search needs
-
-enum-known-message-4 : tie.Need-enum-known-message-4
-enum-known-message-4 c = search needs
-
-enum-known-message-5 : tie.Need-enum-known-message-5
-enum-known-message-5 c = search needs
-
 returns : tie.Need-returns
 returns c = rw (c .before .message .given .1, c .before .before .before .framed .ensures)
 
@@ -39,15 +21,5 @@ returns-5 c = rw (c .before .message5 .given .1, c .before .before .before .fram
 pub message-numbers-spec : {M : Type 1} → statement M
 message-numbers-spec =
     tie.close
-    (tie.spec
-    framed-requires
-    enum-known-message
-    enum-known-message-2
-    enum-known-message-3
-    enum-known-message-4
-    enum-known-message-5
-    returns
-    returns-2
-    returns-3
-    returns-4
-    returns-5)
+    (tie.spec (λ c κs. search needs) (λ c. search needs) (λ c. search needs) (λ c. search needs) (λ c. search needs)
+    (λ c. search needs) returns returns-2 returns-3 returns-4 returns-5)

@@ -5,21 +5,6 @@ use borrow.Author.Needs.{needs}
 use Rattle.ostrogosz_mavlink.proofs.ostrogosz_mavlink_read.Statement.{statement}
 use Rattle.ostrogosz_mavlink.proofs.ostrogosz_mavlink_read.Tie as tie
 
-read-message-requires : tie.Need-read-message-requires
-read-message-requires c κs = search needs
-
-enum-known-header : tie.Need-enum-known-header
-enum-known-header c = search needs
-
-message-numbers-requires : tie.Need-message-numbers-requires
-message-numbers-requires c κs = search needs
-
-enum-known-number : tie.Need-enum-known-number
-enum-known-number c = search needs
-
-refusal-number-requires : tie.Need-refusal-number-requires
-refusal-number-requires c κs = search needs
-
 returns : tie.Need-returns
 returns c = c .message-numbers .ensures ∙ ap numbers (sym (c .before .before .header .given .1) ∙ c .before .before .before .before .read-message .ensures)
 
@@ -29,11 +14,5 @@ returns-2 c = c .refusal-number .ensures ∙ ap numbers (sym (c .before .before 
 pub ostrogosz-mavlink-read-spec : {M : Type 1} → statement M
 ostrogosz-mavlink-read-spec =
     tie.close
-    (tie.spec
-    read-message-requires
-    enum-known-header
-    message-numbers-requires
-    enum-known-number
-    refusal-number-requires
-    returns
-    returns-2)
+    (tie.spec (λ c κs. search needs) (λ c. search needs) (λ c κs. search needs) (λ c. search needs)
+    (λ c κs. search needs) returns returns-2)

@@ -3,11 +3,8 @@ use borrow.Author.Needs.{needs}
 use Rattle.ostrogosz_mavlink.proofs.refusal_number.Statement.{statement}
 use Rattle.ostrogosz_mavlink.proofs.refusal_number.Tie as tie
 
-blank-requires : tie.Need-blank-requires
-blank-requires c κs = search needs
-
 returns : tie.Need-returns
 returns c = rw (c .blank .ensures)
 
 pub refusal-number-spec : {M : Type 1} → statement M
-refusal-number-spec = tie.close (tie.spec blank-requires returns)
+refusal-number-spec = tie.close (tie.spec (λ c κs. search needs) returns)

@@ -4,17 +4,8 @@ use borrow.Author.Needs.{needs}
 use Rattle.ostrogosz_mavlink.proofs.write.Statement.{statement}
 use Rattle.ostrogosz_mavlink.proofs.write.Tie as tie
 
-write-message-requires : tie.Need-write-message-requires
-write-message-requires c κs = search needs
-
-in-numbers-requires : tie.Need-in-numbers-requires
-in-numbers-requires c κs = search needs
-
-same-length : tie.Need-same-length
-same-length c = search needs
-
 returns : tie.Need-returns
 returns c = told (c .in-numbers .ensures) (c .before .before .before .write-message .ensures)
 
 pub write-spec : {M : Type 1} → statement M
-write-spec = tie.close (tie.spec write-message-requires in-numbers-requires same-length returns)
+write-spec = tie.close (tie.spec (λ c κs. search needs) (λ c κs. search needs) (λ c. search needs) returns)

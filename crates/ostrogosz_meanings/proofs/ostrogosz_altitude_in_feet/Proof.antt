@@ -5,15 +5,8 @@ use borrow.Author.Needs.{needs}
 use Rattle.ostrogosz_meanings.proofs.ostrogosz_altitude_in_feet.Statement.{statement}
 use Rattle.ostrogosz_meanings.proofs.ostrogosz_altitude_in_feet.Tie as tie
 
-altitude-in-feet-requires : tie.Need-altitude-in-feet-requires
-altitude-in-feet-requires c κs = search needs
-
-feet-requires : tie.Need-feet-requires
-feet-requires c κs = search needs
-
 returns : tie.Need-returns
 returns c = c .feet .ensures ∙ ap inFeet (c .before .altitude-in-feet .ensures)
 
 pub ostrogosz-altitude-in-feet-spec : {M : Type 1} → statement M
-ostrogosz-altitude-in-feet-spec =
-    tie.close (tie.spec altitude-in-feet-requires feet-requires returns)
+ostrogosz-altitude-in-feet-spec = tie.close (tie.spec (λ c κs. search needs) (λ c κs. search needs) returns)

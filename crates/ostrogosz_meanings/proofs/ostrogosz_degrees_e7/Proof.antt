@@ -7,9 +7,6 @@ use borrow.Author.Needs.{needs}
 use Rattle.ostrogosz_meanings.proofs.ostrogosz_degrees_e7.Statement.{statement}
 use Rattle.ostrogosz_meanings.proofs.ostrogosz_degrees_e7.Tie as tie
 
-degrees-e7-requires : tie.Need-degrees-e7-requires
-degrees-e7-requires c κs = search needs
-
 returns : tie.Need-returns
 returns c =
     toZ-ofZ w64 (c .degrees-e7 .result) (record { sfits = c .degrees-e7 .ok })
@@ -17,4 +14,4 @@ returns c =
     ∙ ap degreesE7 (toZ-ofZ w32 (c .before .args .angle) (c .before .fits .angle))
 
 pub ostrogosz-degrees-e7-spec : {M : Type 1} → statement M
-ostrogosz-degrees-e7-spec = tie.close (tie.spec degrees-e7-requires returns)
+ostrogosz-degrees-e7-spec = tie.close (tie.spec (λ c κs. search needs) returns)

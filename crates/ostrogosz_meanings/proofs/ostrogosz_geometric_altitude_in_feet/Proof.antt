@@ -9,9 +9,6 @@ use Rattle.ostrogosz_meanings.proofs.ostrogosz_geometric_altitude_in_fe
 }
 use Rattle.ostrogosz_meanings.proofs.ostrogosz_geometric_altitude_in_feet.Tie as tie
 
-geometric-altitude-in-feet-requires : tie.Need-geometric-altitude-in-feet-requires
-geometric-altitude-in-feet-requires c κs = search needs
-
 returns : tie.Need-returns
 returns c =
     toZ-ofZ w32 (c .geometric-altitude-in-feet .result) (record { sfits = c .geometric-altitude-in-feet .ok })
@@ -19,5 +16,4 @@ returns c =
     ∙ ap geometricMeans (toZ-ofZ w16 (c .before .args .altitude) (c .before .fits .altitude))
 
 pub ostrogosz-geometric-altitude-in-feet-spec : {M : Type 1} → statement M
-ostrogosz-geometric-altitude-in-feet-spec =
-    tie.close (tie.spec geometric-altitude-in-feet-requires returns)
+ostrogosz-geometric-altitude-in-feet-spec = tie.close (tie.spec (λ c κs. search needs) returns)

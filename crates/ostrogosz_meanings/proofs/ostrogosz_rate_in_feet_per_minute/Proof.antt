@@ -10,12 +10,6 @@ use Rattle.ostrogosz_meanings.proofs.ostrogosz_rate_in_feet_per_minute.
 }
 use Rattle.ostrogosz_meanings.proofs.ostrogosz_rate_in_feet_per_minute.Tie as tie
 
-rate-in-feet-per-minute-requires : tie.Need-rate-in-feet-per-minute-requires
-rate-in-feet-per-minute-requires c κs = search needs
-
-feet-per-minute-requires : tie.Need-feet-per-minute-requires
-feet-per-minute-requires c κs = search needs
-
 returns : tie.Need-returns
 returns c =
     let z = c .before .before .args .vertical-rate in
@@ -23,5 +17,4 @@ returns c =
     ∙ ap inFeetPerMinute (c .before .rate-in-feet-per-minute .ensures ∙ ap rateMeans (toZ-ofZ w16 z (c .before .before .fits .vertical-rate)))
 
 pub ostrogosz-rate-in-feet-per-minute-spec : {M : Type 1} → statement M
-ostrogosz-rate-in-feet-per-minute-spec =
-    tie.close (tie.spec rate-in-feet-per-minute-requires feet-per-minute-requires returns)
+ostrogosz-rate-in-feet-per-minute-spec = tie.close (tie.spec (λ c κs. search needs) (λ c κs. search needs) returns)

@@ -4,21 +4,6 @@ use borrow.Author.Needs.{needs}
 use Rattle.ostrogosz_receiver.proofs.ostrogosz_receive_slice.Statement.{statement}
 use Rattle.ostrogosz_receiver.proofs.ostrogosz_receive_slice.Tie as tie
 
-taken-by-requires : tie.Need-taken-by-requires
-taken-by-requires c κs = search needs
-
-put-line-requires : tie.Need-put-line-requires
-put-line-requires c κs = search needs
-
-kind-of-requires : tie.Need-kind-of-requires
-kind-of-requires c κs = search needs
-
-value-of-requires : tie.Need-value-of-requires
-value-of-requires c κs = search needs
-
-same-length : tie.Need-same-length
-same-length c = search needs
-
 returns : tie.Need-returns
 returns c =
     let written = c .before .before in
@@ -28,10 +13,5 @@ returns c =
 pub ostrogosz-receive-slice-spec : {M : Type 1} → statement M
 ostrogosz-receive-slice-spec =
     tie.close
-    (tie.spec
-    taken-by-requires
-    put-line-requires
-    kind-of-requires
-    value-of-requires
-    same-length
-    returns)
+    (tie.spec (λ c κs. search needs) (λ c κs. search needs) (λ c κs. search needs) (λ c κs. search needs)
+    (λ c. search needs) returns)

@@ -4,12 +4,6 @@ use borrow.Author.Needs.{needs}
 use Rattle.ostrogosz_receiver.proofs.ostrogosz_receiver_start.Statement.{statement}
 use Rattle.ostrogosz_receiver.proofs.ostrogosz_receiver_start.Tie as tie
 
-fresh-rest-requires : tie.Need-fresh-rest-requires
-fresh-rest-requires c κs = search needs
-
-zero-counts-requires : tie.Need-zero-counts-requires
-zero-counts-requires c κs = search needs
-
 put-line-requires : tie.Need-put-line-requires
 put-line-requires c κs = rw (c .before .fresh-rest .ensures) (search needs)
 
@@ -18,4 +12,4 @@ returns c = (refl, c .put-line .ensures ∙ rw (c .before .before .fresh-rest .e
 
 pub ostrogosz-receiver-start-spec : {M : Type 1} → statement M
 ostrogosz-receiver-start-spec =
-    tie.close (tie.spec fresh-rest-requires zero-counts-requires put-line-requires returns)
+    tie.close (tie.spec (λ c κs. search needs) (λ c κs. search needs) put-line-requires returns)

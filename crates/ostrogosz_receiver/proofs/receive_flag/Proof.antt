@@ -4,21 +4,6 @@ use borrow.Author.Needs.{needs}
 use Rattle.ostrogosz_receiver.proofs.receive_flag.Statement.{statement}
 use Rattle.ostrogosz_receiver.proofs.receive_flag.Tie as tie
 
-received-by-requires : tie.Need-received-by-requires
-received-by-requires c κs = search needs
-
-put-line-requires : tie.Need-put-line-requires
-put-line-requires c κs = search needs
-
-kind-of-requires : tie.Need-kind-of-requires
-kind-of-requires c κs = search needs
-
-value-of-requires : tie.Need-value-of-requires
-value-of-requires c κs = search needs
-
-same-length : tie.Need-same-length
-same-length c = search needs
-
 returns : tie.Need-returns
 returns c =
     let written = c .before .before in
@@ -28,10 +13,5 @@ returns c =
 pub receive-flag-spec : {M : Type 1} → statement M
 receive-flag-spec =
     tie.close
-    (tie.spec
-    received-by-requires
-    put-line-requires
-    kind-of-requires
-    value-of-requires
-    same-length
-    returns)
+    (tie.spec (λ c κs. search needs) (λ c κs. search needs) (λ c κs. search needs) (λ c κs. search needs)
+    (λ c. search needs) returns)

@@ -5,23 +5,11 @@ use borrow.Author.Needs.{needs}
 use Rattle.ostrogosz_receiver.proofs.receive_other.Statement.{statement}
 use Rattle.ostrogosz_receiver.proofs.receive_other.Tie as tie
 
-received-by-requires : tie.Need-received-by-requires
-received-by-requires c κs = search needs
-
 put-open-line-requires : tie.Need-put-open-line-requires
 put-open-line-requires c κs =
     let e = c .before .before .before .before .before .received-by .ensures in
     let kept = kept-counts _ _ _ _ _ (c .before .before .before .before .before .before .before .before .before .before .pre) (e .received .account) in
     (search needs, e .stored, kept .0, kept .1, kept .2)
-
-kind-of-requires : tie.Need-kind-of-requires
-kind-of-requires c κs = search needs
-
-value-of-requires : tie.Need-value-of-requires
-value-of-requires c κs = search needs
-
-same-length : tie.Need-same-length
-same-length c = search needs
 
 returns : tie.Need-returns
 returns c =
@@ -32,10 +20,5 @@ returns c =
 pub receive-other-spec : {M : Type 1} → statement M
 receive-other-spec =
     tie.close
-    (tie.spec
-    received-by-requires
-    put-open-line-requires
-    kind-of-requires
-    value-of-requires
-    same-length
-    returns)
+    (tie.spec (λ c κs. search needs) put-open-line-requires (λ c κs. search needs) (λ c κs. search needs)
+    (λ c. search needs) returns)

@@ -4,18 +4,6 @@ use borrow.Author.Needs.{needs}
 use Rattle.ostrogosz_receiver.proofs.taken_by.Statement.{statement}
 use Rattle.ostrogosz_receiver.proofs.taken_by.Tie as tie
 
-rest-in-requires : tie.Need-rest-in-requires
-rest-in-requires c κs = search needs
-
-counts-in-requires : tie.Need-counts-in-requires
-counts-in-requires c κs = search needs
-
-receive-slice-requires : tie.Need-receive-slice-requires
-receive-slice-requires c κs = search needs
-
-same-length : tie.Need-same-length
-same-length c = search needs
-
 returns : tie.Need-returns
 returns c =
     let called = c .before .before in
@@ -26,4 +14,4 @@ returns c =
 pub taken-by-spec : {M : Type 1} → statement M
 taken-by-spec =
     tie.close
-    (tie.spec rest-in-requires counts-in-requires receive-slice-requires same-length returns)
+    (tie.spec (λ c κs. search needs) (λ c κs. search needs) (λ c κs. search needs) (λ c. search needs) returns)

@@ -3,36 +3,6 @@ use borrow.Author.Needs.{needs}
 use Rattle.receiver.proofs.count_octets.Statement.{statement}
 use Rattle.receiver.proofs.count_octets.Tie as tie
 
-enum-told : tie.Need-enum-told
-enum-told c = search needs
-
-count-skipped-requires : tie.Need-count-skipped-requires
-count-skipped-requires c κs = search needs
-
-enum-told-2 : tie.Need-enum-told-2
-enum-told-2 c = search needs
-
-count-open-requires : tie.Need-count-open-requires
-count-open-requires c κs = search needs
-
-enum-told-3 : tie.Need-enum-told-3
-enum-told-3 c = search needs
-
-count-open-requires-2 : tie.Need-count-open-requires-2
-count-open-requires-2 c κs = search needs
-
-enum-told-4 : tie.Need-enum-told-4
-enum-told-4 c = search needs
-
-count-open-requires-3 : tie.Need-count-open-requires-3
-count-open-requires-3 c κs = search needs
-
-enum-told-5 : tie.Need-enum-told-5
-enum-told-5 c = search needs
-
-count-open-requires-4 : tie.Need-count-open-requires-4
-count-open-requires-4 c κs = search needs
-
 returns : tie.Need-returns
 returns c = rw (c .before .enum-told .given .1) (c .count-skipped .ensures)
 
@@ -51,19 +21,6 @@ returns-5 c = rw (c .before .enum-told5 .given .1) (c .count-open4 .ensures)
 pub count-octets-spec : {M : Type 1} → statement M
 count-octets-spec =
     tie.close
-    (tie.spec
-    enum-told
-    count-skipped-requires
-    enum-told-2
-    count-open-requires
-    enum-told-3
-    count-open-requires-2
-    enum-told-4
-    count-open-requires-3
-    enum-told-5
-    count-open-requires-4
-    returns
-    returns-2
-    returns-3
-    returns-4
-    returns-5)
+    (tie.spec (λ c. search needs) (λ c κs. search needs) (λ c. search needs) (λ c κs. search needs) (λ c. search needs)
+    (λ c κs. search needs) (λ c. search needs) (λ c κs. search needs) (λ c. search needs) (λ c κs. search needs) returns
+    returns-2 returns-3 returns-4 returns-5)

@@ -5,12 +5,6 @@ use borrow.Author.Needs.{needs}
 use Rattle.receiver.proofs.put.Statement.{statement}
 use Rattle.receiver.proofs.put.Tie as tie
 
-element-write-store : tie.Need-element-write-store
-element-write-store c = search needs
-
-add-t10 : tie.Need-add-t10
-add-t10 c = search needs
-
 returns : tie.Need-returns
 unfolding storing
 returns c = simp (lt-ltb _ _ (c .if1 .taken))
@@ -20,4 +14,4 @@ unfolding storing
 returns-2 c = simp (le-ltb _ _ (c .if1 .left))
 
 pub put-spec : {M : Type 1} → statement M
-put-spec = tie.close (tie.spec element-write-store add-t10 returns returns-2)
+put-spec = tie.close (tie.spec (λ c. search needs) (λ c. search needs) returns returns-2)

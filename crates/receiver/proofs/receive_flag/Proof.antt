@@ -8,15 +8,6 @@ use borrow.Author.Needs.{needs}
 use Rattle.receiver.proofs.receive_flag.Statement.{statement}
 use Rattle.receiver.proofs.receive_flag.Tie as tie
 
-close-requires : tie.Need-close-requires
-close-requires c κs = search needs
-
-count-flag-requires : tie.Need-count-flag-requires
-count-flag-requires c κs = search needs
-
-same-length : tie.Need-same-length
-same-length c = search needs
-
 returns : tie.Need-returns
 unfolding stateAfter countsAfter answerDue
 returns c =
@@ -30,4 +21,4 @@ returns c =
     }
 
 pub receive-flag-spec : {M : Type 1} → statement M
-receive-flag-spec = tie.close (tie.spec close-requires count-flag-requires same-length returns)
+receive-flag-spec = tie.close (tie.spec (λ c κs. search needs) (λ c κs. search needs) (λ c. search needs) returns)

@@ -4,14 +4,8 @@ use borrow.Author.Needs.{needs}
 use Rattle.receiver.proofs.receive_other.Statement.{statement}
 use Rattle.receiver.proofs.receive_other.Tie as tie
 
-advance-requires : tie.Need-advance-requires
-advance-requires c κs = search needs
-
-count-octets-requires : tie.Need-count-octets-requires
-count-octets-requires c κs = search needs
-
 returns : tie.Need-returns
 returns c = record { state = c .before .advance .ensures; account = c .count-octets .ensures; answers = refl }
 
 pub receive-other-spec : {M : Type 1} → statement M
-receive-other-spec = tie.close (tie.spec advance-requires count-octets-requires returns)
+receive-other-spec = tie.close (tie.spec (λ c κs. search needs) (λ c κs. search needs) returns)

@@ -4,12 +4,6 @@ use borrow.Author.Needs.{needs}
 use Rattle.receiver.proofs.unescape.Statement.{statement}
 use Rattle.receiver.proofs.unescape.Tie as tie
 
-put-requires : tie.Need-put-requires
-put-requires c κs = search needs
-
-put-requires-2 : tie.Need-put-requires-2
-put-requires-2 c κs = search needs
-
 returns : tie.Need-returns
 returns c = rw (eq-eqb _ _ (c .before .before .if1 .taken)) (c .put .ensures)
 
@@ -20,4 +14,4 @@ returns-3 : tie.Need-returns-3
 returns-3 c = rw (ne-eqb _ _ (c .before .if1 .left), ne-eqb _ _ (c .if2 .left))
 
 pub unescape-spec : {M : Type 1} → statement M
-unescape-spec = tie.close (tie.spec put-requires put-requires-2 returns returns-2 returns-3)
+unescape-spec = tie.close (tie.spec (λ c κs. search needs) (λ c κs. search needs) returns returns-2 returns-3)

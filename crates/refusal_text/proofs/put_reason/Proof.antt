@@ -5,69 +5,6 @@ use borrow.Author.Needs.{needs}
 use Rattle.refusal_text.proofs.put_reason.Statement.{statement}
 use Rattle.refusal_text.proofs.put_reason.Tie as tie
 
-slice-aggregate-put-word : tie.Need-slice-aggregate-put-word
-slice-aggregate-put-word c = search needs
-
-put-word-requires : tie.Need-put-word-requires
-put-word-requires c κs = search needs
-
-slice-aggregate-put-word-2 : tie.Need-slice-aggregate-put-word-2
-slice-aggregate-put-word-2 c = search needs
-
-put-word-requires-2 : tie.Need-put-word-requires-2
-put-word-requires-2 c κs = search needs
-
-slice-aggregate-put-word-3 : tie.Need-slice-aggregate-put-word-3
-slice-aggregate-put-word-3 c = search needs
-
-put-word-requires-3 : tie.Need-put-word-requires-3
-put-word-requires-3 c κs = search needs
-
-slice-aggregate-put-word-4 : tie.Need-slice-aggregate-put-word-4
-slice-aggregate-put-word-4 c = search needs
-
-put-word-requires-4 : tie.Need-put-word-requires-4
-put-word-requires-4 c κs = search needs
-
-slice-aggregate-put-word-5 : tie.Need-slice-aggregate-put-word-5
-slice-aggregate-put-word-5 c = search needs
-
-put-word-requires-5 : tie.Need-put-word-requires-5
-put-word-requires-5 c κs = search needs
-
-slice-aggregate-put-word-6 : tie.Need-slice-aggregate-put-word-6
-slice-aggregate-put-word-6 c = search needs
-
-put-word-requires-6 : tie.Need-put-word-requires-6
-put-word-requires-6 c κs = search needs
-
-slice-aggregate-put-word-7 : tie.Need-slice-aggregate-put-word-7
-slice-aggregate-put-word-7 c = search needs
-
-put-word-requires-7 : tie.Need-put-word-requires-7
-put-word-requires-7 c κs = search needs
-
-slice-aggregate-put-word-8 : tie.Need-slice-aggregate-put-word-8
-slice-aggregate-put-word-8 c = search needs
-
-put-word-requires-8 : tie.Need-put-word-requires-8
-put-word-requires-8 c κs = search needs
-
-slice-aggregate-put-word-9 : tie.Need-slice-aggregate-put-word-9
-slice-aggregate-put-word-9 c = search needs
-
-put-word-requires-9 : tie.Need-put-word-requires-9
-put-word-requires-9 c κs = search needs
-
-slice-aggregate-put-word-10 : tie.Need-slice-aggregate-put-word-10
-slice-aggregate-put-word-10 c = search needs
-
-put-word-requires-10 : tie.Need-put-word-requires-10
-put-word-requires-10 c κs = search needs
-
-put-mavlink-reason-requires : tie.Need-put-mavlink-reason-requires
-put-mavlink-reason-requires c κs = search needs
-
 returns : tie.Need-returns
 unfolding reason
 returns c = rw (c .before .before .before .match .keys1) (c .put-word .ensures)
@@ -129,36 +66,9 @@ returns-11 c =
 pub put-reason-spec : {M : Type 1} → statement M
 put-reason-spec =
     tie.close
-    (tie.spec
-    slice-aggregate-put-word
-    put-word-requires
-    slice-aggregate-put-word-2
-    put-word-requires-2
-    slice-aggregate-put-word-3
-    put-word-requires-3
-    slice-aggregate-put-word-4
-    put-word-requires-4
-    slice-aggregate-put-word-5
-    put-word-requires-5
-    slice-aggregate-put-word-6
-    put-word-requires-6
-    slice-aggregate-put-word-7
-    put-word-requires-7
-    slice-aggregate-put-word-8
-    put-word-requires-8
-    slice-aggregate-put-word-9
-    put-word-requires-9
-    slice-aggregate-put-word-10
-    put-word-requires-10
-    put-mavlink-reason-requires
-    returns
-    returns-2
-    returns-3
-    returns-4
-    returns-5
-    returns-6
-    returns-7
-    returns-8
-    returns-9
-    returns-10
-    returns-11)
+    (tie.spec (λ c. search needs) (λ c κs. search needs) (λ c. search needs) (λ c κs. search needs) (λ c. search needs)
+    (λ c κs. search needs) (λ c. search needs) (λ c κs. search needs) (λ c. search needs) (λ c κs. search needs)
+    (λ c. search needs) (λ c κs. search needs) (λ c. search needs) (λ c κs. search needs) (λ c. search needs)
+    (λ c κs. search needs) (λ c. search needs) (λ c κs. search needs) (λ c. search needs) (λ c κs. search needs)
+    (λ c κs. search needs) returns returns-2 returns-3 returns-4 returns-5 returns-6 returns-7 returns-8 returns-9
+    returns-10 returns-11)

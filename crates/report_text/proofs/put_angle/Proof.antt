@@ -5,14 +5,8 @@ use borrow.Author.Needs.{needs}
 use Rattle.report_text.proofs.put_angle.Statement.{statement}
 use Rattle.report_text.proofs.put_angle.Tie as tie
 
-angle-requires : tie.Need-angle-requires
-angle-requires c κs = search needs
-
-put-reading-requires : tie.Need-put-reading-requires
-put-reading-requires c κs = search needs
-
 returns : tie.Need-returns
 returns c = rw (c .before .angle .ensures, toZ-ofZ w32 (c .before .before .before .before .args .n) (c .before .before .before .before .fits .n)) at (c .put-reading .ensures)
 
 pub put-angle-spec : {M : Type 1} → statement M
-put-angle-spec = tie.close (tie.spec angle-requires put-reading-requires returns)
+put-angle-spec = tie.close (tie.spec (λ c κs. search needs) (λ c κs. search needs) returns)

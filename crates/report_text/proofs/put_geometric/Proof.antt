@@ -7,30 +7,6 @@ use borrow.Author.Needs.{needs}
 use Rattle.report_text.proofs.put_geometric.Statement.{statement}
 use Rattle.report_text.proofs.put_geometric.Tie as tie
 
-geometric-requires : tie.Need-geometric-requires
-geometric-requires c κs = search needs
-
-slice-aggregate-put-word : tie.Need-slice-aggregate-put-word
-slice-aggregate-put-word c = search needs
-
-put-word-requires : tie.Need-put-word-requires
-put-word-requires c κs = search needs
-
-slice-aggregate-put-reading : tie.Need-slice-aggregate-put-reading
-slice-aggregate-put-reading c = search needs
-
-put-reading-requires : tie.Need-put-reading-requires
-put-reading-requires c κs = search needs
-
-slice-aggregate-put-hexadecimal : tie.Need-slice-aggregate-put-hexadecimal
-slice-aggregate-put-hexadecimal c = search needs
-
-cast-put-hexadecimal : tie.Need-cast-put-hexadecimal
-cast-put-hexadecimal c = search needs
-
-put-hexadecimal-requires : tie.Need-put-hexadecimal-requires
-put-hexadecimal-requires c κs = search needs
-
 returns : tie.Need-returns
 unfolding fields
 returns c =
@@ -42,13 +18,5 @@ returns c =
 pub put-geometric-spec : {M : Type 1} → statement M
 put-geometric-spec =
     tie.close
-    (tie.spec
-    geometric-requires
-    slice-aggregate-put-word
-    put-word-requires
-    slice-aggregate-put-reading
-    put-reading-requires
-    slice-aggregate-put-hexadecimal
-    cast-put-hexadecimal
-    put-hexadecimal-requires
-    returns)
+    (tie.spec (λ c κs. search needs) (λ c. search needs) (λ c κs. search needs) (λ c. search needs)
+    (λ c κs. search needs) (λ c. search needs) (λ c. search needs) (λ c κs. search needs) returns)

@@ -3,14 +3,8 @@ use borrow.Author.Needs.{needs}
 use Rattle.report_text.proofs.put_knots.Statement.{statement}
 use Rattle.report_text.proofs.put_knots.Tie as tie
 
-unless-unsigned-requires : tie.Need-unless-unsigned-requires
-unless-unsigned-requires c κs = search needs
-
-put-reading-requires : tie.Need-put-reading-requires
-put-reading-requires c κs = search needs
-
 returns : tie.Need-returns
 returns c = rw (c .before .before .unless-unsigned .ensures) at (c .put-reading .ensures)
 
 pub put-knots-spec : {M : Type 1} → statement M
-put-knots-spec = tie.close (tie.spec unless-unsigned-requires put-reading-requires returns)
+put-knots-spec = tie.close (tie.spec (λ c κs. search needs) (λ c κs. search needs) returns)

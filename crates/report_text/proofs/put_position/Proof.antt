@@ -10,32 +10,17 @@ use Rattle.report_text.proofs.put_position.Tie as tie
 slice-aggregate-put-number : tie.Need-slice-aggregate-put-number
 slice-aggregate-put-number c = refl
 
-put-number-requires : tie.Need-put-number-requires
-put-number-requires c κs = tt
-
 slice-aggregate-put-number-2 : tie.Need-slice-aggregate-put-number-2
 slice-aggregate-put-number-2 c = refl
-
-put-number-requires-2 : tie.Need-put-number-requires-2
-put-number-requires-2 c κs = tt
 
 slice-aggregate-put-hexadecimal : tie.Need-slice-aggregate-put-hexadecimal
 slice-aggregate-put-hexadecimal c = refl
 
-put-hexadecimal-requires : tie.Need-put-hexadecimal-requires
-put-hexadecimal-requires c κs = tt
-
 slice-aggregate-put-angle : tie.Need-slice-aggregate-put-angle
 slice-aggregate-put-angle c = refl
 
-put-angle-requires : tie.Need-put-angle-requires
-put-angle-requires c κs = tt
-
 slice-aggregate-put-angle-2 : tie.Need-slice-aggregate-put-angle-2
 slice-aggregate-put-angle-2 c = refl
-
-put-angle-requires-2 : tie.Need-put-angle-requires-2
-put-angle-requires-2 c κs = tt
 
 returns : tie.Need-returns
 unfolding fields
@@ -50,15 +35,6 @@ returns c =
 pub put-position-spec : {M : Type 1} → statement M
 put-position-spec =
     tie.close
-    (tie.spec
-    slice-aggregate-put-number
-    put-number-requires
-    slice-aggregate-put-number-2
-    put-number-requires-2
-    slice-aggregate-put-hexadecimal
-    put-hexadecimal-requires
-    slice-aggregate-put-angle
-    put-angle-requires
-    slice-aggregate-put-angle-2
-    put-angle-requires-2
-    returns)
+    (tie.spec slice-aggregate-put-number (λ c κs. tt) slice-aggregate-put-number-2 (λ c κs. tt)
+    slice-aggregate-put-hexadecimal (λ c κs. tt) slice-aggregate-put-angle (λ c κs. tt) slice-aggregate-put-angle-2
+    (λ c κs. tt) returns)

@@ -6,18 +6,6 @@ use Rattle.text_output.proofs.Clipped.{then}
 use Rattle.report_text.proofs.put_report.Statement.{statement}
 use Rattle.report_text.proofs.put_report.Tie as tie
 
-put-word-requires : tie.Need-put-word-requires
-put-word-requires c κs = tt
-
-put-position-requires : tie.Need-put-position-requires
-put-position-requires c κs = tt
-
-put-motion-requires : tie.Need-put-motion-requires
-put-motion-requires c κs = tt
-
-put-vehicle-requires : tie.Need-put-vehicle-requires
-put-vehicle-requires c κs = tt
-
 returns : tie.Need-returns
 returns c =
     let parts = reportParts (c .before .before .before .before .before .before .before .before .before .args .report) in
@@ -25,11 +13,4 @@ returns c =
     (rw (fields-split 5 parts) at (then (c .before .before .before .before .put-position .ensures) (rw (fields-split 7 (drop 5 parts)) at (then (c .before .before .put-motion .ensures) (c .put-vehicle .ensures)))))
 
 pub put-report-spec : {M : Type 1} → statement M
-put-report-spec =
-    tie.close
-    (tie.spec
-    put-word-requires
-    put-position-requires
-    put-motion-requires
-    put-vehicle-requires
-    returns)
+put-report-spec = tie.close (tie.spec (λ c κs. tt) (λ c κs. tt) (λ c κs. tt) (λ c κs. tt) returns)

@@ -8,26 +8,14 @@ use Rattle.report_text.proofs.put_vehicle.Tie as tie
 slice-aggregate-put-number : tie.Need-slice-aggregate-put-number
 slice-aggregate-put-number c = refl
 
-put-number-requires : tie.Need-put-number-requires
-put-number-requires c κs = tt
-
 slice-aggregate-put-text : tie.Need-slice-aggregate-put-text
 slice-aggregate-put-text c = refl
-
-put-text-requires : tie.Need-put-text-requires
-put-text-requires c κs = tt
 
 slice-aggregate-put-number-2 : tie.Need-slice-aggregate-put-number-2
 slice-aggregate-put-number-2 c = refl
 
-put-number-requires-2 : tie.Need-put-number-requires-2
-put-number-requires-2 c κs = tt
-
 slice-aggregate-put-number-3 : tie.Need-slice-aggregate-put-number-3
 slice-aggregate-put-number-3 c = refl
-
-put-number-requires-3 : tie.Need-put-number-requires-3
-put-number-requires-3 c κs = tt
 
 returns : tie.Need-returns
 unfolding fields
@@ -36,13 +24,5 @@ returns c = then (c .before .before .before .before .before .before .before .bef
 pub put-vehicle-spec : {M : Type 1} → statement M
 put-vehicle-spec =
     tie.close
-    (tie.spec
-    slice-aggregate-put-number
-    put-number-requires
-    slice-aggregate-put-text
-    put-text-requires
-    slice-aggregate-put-number-2
-    put-number-requires-2
-    slice-aggregate-put-number-3
-    put-number-requires-3
-    returns)
+    (tie.spec slice-aggregate-put-number (λ c κs. tt) slice-aggregate-put-text (λ c κs. tt) slice-aggregate-put-number-2
+    (λ c κs. tt) slice-aggregate-put-number-3 (λ c κs. tt) returns)

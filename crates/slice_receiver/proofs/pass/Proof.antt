@@ -6,38 +6,17 @@ use borrow.Author.Needs.{needs}
 use Rattle.slice_receiver.proofs.pass.Statement.{statement}
 use Rattle.slice_receiver.proofs.pass.Tie as tie
 
-enum-told : tie.Need-enum-told
-enum-told c = search needs
-
 pass-ignored-requires : tie.Need-pass-ignored-requires
 pass-ignored-requires c κs = (c .before .before .before .pre, rw (c .enum-told .given .1) (λ x s. refl))
 
-enum-told-2 : tie.Need-enum-told-2
-enum-told-2 c = search needs
-
-pass-plain-requires : tie.Need-pass-plain-requires
-pass-plain-requires c κs = search needs
-
-enum-told-3 : tie.Need-enum-told-3
-enum-told-3 c = search needs
-
-enum-told-4 : tie.Need-enum-told-4
-enum-told-4 c = search needs
-
 pass-ignored-requires-2 : tie.Need-pass-ignored-requires-2
 pass-ignored-requires-2 c κs = (c .before .before .before .pre, rw (c .enum-told4 .given .1) (λ x s. refl))
-
-enum-told-5 : tie.Need-enum-told-5
-enum-told-5 c = search needs
 
 pass-ignored-requires-3 : tie.Need-pass-ignored-requires-3
 pass-ignored-requires-3 c κs = (c .before .before .before .pre, rw (c .enum-told5 .given .1) (λ x s. refl))
 
 returns : tie.Need-returns
 returns c = c .pass-ignored .ensures (now (c .before .before .before .before .args .store))
-
-returns-2 : tie.Need-returns-2
-returns-2 c = search needs
 
 returns-3 : tie.Need-returns-3
 returns-3 c = record { within = search needs; runs = none-taken _ (now (c .before .before .before .args .line)) (c .before .before .before .args .from) _ }
@@ -51,18 +30,6 @@ returns-5 c = c .pass-ignored3 .ensures (now (c .before .before .before .before 
 pub pass-spec : {M : Type 1} → statement M
 pass-spec =
     tie.close
-    (tie.spec
-    enum-told
-    pass-ignored-requires
-    enum-told-2
-    pass-plain-requires
-    enum-told-3
-    enum-told-4
-    pass-ignored-requires-2
-    enum-told-5
-    pass-ignored-requires-3
-    returns
-    returns-2
-    returns-3
-    returns-4
-    returns-5)
+    (tie.spec (λ c. search needs) pass-ignored-requires (λ c. search needs) (λ c κs. search needs) (λ c. search needs)
+    (λ c. search needs) pass-ignored-requires-2 (λ c. search needs) pass-ignored-requires-3 returns (λ c. search needs)
+    returns-3 returns-4 returns-5)

@@ -12,12 +12,6 @@ use borrow.Author.Needs.{needs}
 use Rattle.slice_receiver.proofs.pass_ignored.Statement.{statement}
 use Rattle.slice_receiver.proofs.pass_ignored.Tie as tie
 
-to-flag-requires : tie.Need-to-flag-requires
-to-flag-requires c κs = search needs
-
-count-octets-requires : tie.Need-count-octets-requires
-count-octets-requires c κs = search needs
-
 returns : tie.Need-returns
 returns c =
     let a = c .before .before .before .args in
@@ -31,4 +25,4 @@ returns c =
     }
 
 pub pass-ignored-spec : {M : Type 1} → statement M
-pass-ignored-spec = tie.close (tie.spec to-flag-requires count-octets-requires returns)
+pass-ignored-spec = tie.close (tie.spec (λ c κs. search needs) (λ c κs. search needs) returns)

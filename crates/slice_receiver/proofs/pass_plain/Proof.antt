@@ -13,15 +13,6 @@ use borrow.Author.Needs.{needs}
 use Rattle.slice_receiver.proofs.pass_plain.Statement.{statement}
 use Rattle.slice_receiver.proofs.pass_plain.Tie as tie
 
-put-plain-requires : tie.Need-put-plain-requires
-put-plain-requires c κs = search needs
-
-add-t12 : tie.Need-add-t12
-add-t12 c = search needs
-
-count-open-requires : tie.Need-count-open-requires
-count-open-requires c κs = search needs
-
 returns : tie.Need-returns
 returns c =
     let start = c .before .before .before .before .before in
@@ -45,4 +36,4 @@ returns-2 c = record { within = search needs; runs = none-taken _ (now (c .befor
 
 pub pass-plain-spec : {M : Type 1} → statement M
 pass-plain-spec =
-    tie.close (tie.spec put-plain-requires add-t12 count-open-requires returns returns-2)
+    tie.close (tie.spec (λ c κs. search needs) (λ c. search needs) (λ c κs. search needs) returns returns-2)

@@ -23,37 +23,10 @@ Inv-loop store₀ stored line from most n₀ store n =
 abbrev μ-loop : tie.MeasureT-loop
 μ-loop store₀ stored line from most n₀ store n = most - n
 
-most-plain-requires : tie.Need-most-plain-requires Inv-loop μ-loop
-most-plain-requires c κs = search needs
-
 loop-holds : tie.Need-loop-holds Inv-loop μ-loop
 loop-holds c =
     let a = c .before .before .args in
     (search needs, λ counts room. rw (add-zero (a .stored)) (none-taken _ (now (a .line)) (a .from) counts room))
-
-add-octet : tie.Need-add-octet Inv-loop μ-loop
-add-octet c = search needs
-
-shared-slice-read-octet : tie.Need-shared-slice-read-octet Inv-loop μ-loop
-shared-slice-read-octet c = search needs
-
-returns : tie.Need-returns Inv-loop μ-loop
-returns c = search needs
-
-returns-2 : tie.Need-returns-2 Inv-loop μ-loop
-returns-2 c = search needs
-
-add-store : tie.Need-add-store Inv-loop μ-loop
-add-store c = search needs
-
-element-write-store : tie.Need-element-write-store Inv-loop μ-loop
-element-write-store c = search needs
-
-add-n : tie.Need-add-n Inv-loop μ-loop
-add-n c = search needs
-
-loop-less : tie.Need-loop-less Inv-loop μ-loop
-loop-less c = search needs
 
 loop-again : tie.Need-loop-again Inv-loop μ-loop
 loop-again c =
@@ -63,24 +36,9 @@ loop-again c =
     let stored = stores (l .store) (a .stored) (l .n) (getD line (a .from + l .n) 0) (search needs) (c .before .if1 .left) in
     (search needs, λ counts room. l .inv .1 counts room ∙ other-more _ _ line (a .from) (l .n) counts room (search needs) (c .if2 .left) stored)
 
-returns-3 : tie.Need-returns-3 Inv-loop μ-loop
-returns-3 c = search needs
-
 pub put-plain-spec : {M : Type 1} → statement M
 put-plain-spec =
     tie.close
-    (tie.spec
-    Inv-loop
-    μ-loop
-    most-plain-requires
-    loop-holds
-    add-octet
-    shared-slice-read-octet
-    returns
-    returns-2
-    add-store
-    element-write-store
-    add-n
-    loop-less
-    loop-again
-    returns-3)
+    (tie.spec Inv-loop μ-loop (λ c κs. search needs) loop-holds (λ c. search needs) (λ c. search needs)
+    (λ c. search needs) (λ c. search needs) (λ c. search needs) (λ c. search needs) (λ c. search needs)
+    (λ c. search needs) loop-again (λ c. search needs))

@@ -57,16 +57,10 @@ loop-holds c =
     let a = c .before .before .args in
     (search needs, refl, none-taken _ (now (a .line)) 0 (a .counts) (length (now (a .output))))
 
-turn-requires : tie.Need-turn-requires Inv-loop μ-loop
-turn-requires c κs = search needs
-
 add-i : tie.Need-add-i Inv-loop μ-loop
 add-i c =
     let turned = c .before .before .before .before .before in
     omega (arith, turned .turn .ensures .within, turned .before .before .before .before .before .before .before .good)
-
-answered-requires : tie.Need-answered-requires Inv-loop μ-loop
-answered-requires c κs = search needs
 
 same-length : tie.Need-same-length Inv-loop μ-loop
 same-length c = kept-length (c .before .before .before .before .before .before .before)
@@ -89,9 +83,6 @@ loop-again c =
     let on = turned-on _ _ _ _ _ (l .i) _ _ _ _ (l .inv .2) (turned turn) none in
     (turn .turn .ensures .within, on .0, on .1)
 
-same-length-2 : tie.Need-same-length-2 Inv-loop μ-loop
-same-length-2 c = search needs
-
 returns-2 : tie.Need-returns-2 Inv-loop μ-loop
 returns-2 c =
     let l = c .before .loop in
@@ -100,16 +91,5 @@ returns-2 c =
 pub receive-slice-spec : {M : Type 1} → statement M
 receive-slice-spec =
     tie.close
-    (tie.spec
-    Inv-loop
-    μ-loop
-    loop-holds
-    turn-requires
-    add-i
-    answered-requires
-    same-length
-    returns
-    loop-less
-    loop-again
-    same-length-2
-    returns-2)
+    (tie.spec Inv-loop μ-loop loop-holds (λ c κs. search needs) add-i (λ c κs. search needs) same-length returns
+    loop-less loop-again (λ c. search needs) returns-2)

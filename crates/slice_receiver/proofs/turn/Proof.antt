@@ -11,25 +11,10 @@ use borrow.Author.Needs.{needs}
 use Rattle.slice_receiver.proofs.turn.Statement.{statement}
 use Rattle.slice_receiver.proofs.turn.Tie as tie
 
-pass-requires : tie.Need-pass-requires
-pass-requires c κs = search needs
-
-add-at : tie.Need-add-at
-add-at c = search needs
-
-shared-slice-read-step : tie.Need-shared-slice-read-step
-shared-slice-read-step c = search needs
-
-step-requires : tie.Need-step-requires
-step-requires c κs = search needs
-
 add-t24 : tie.Need-add-t24
 add-t24 c =
     let tested = c .before .before .before .before .before .before .before .before .before in
     omega (arith, tested .if1 .taken, tested .before .before .before .before .before .before .before .before .good)
-
-same-length : tie.Need-same-length
-same-length c = search needs
 
 returns : tie.Need-returns
 returns c =
@@ -65,4 +50,6 @@ returns-2 c =
 
 pub turn-spec : {M : Type 1} → statement M
 turn-spec =
-    tie.close (tie.spec pass-requires add-at shared-slice-read-step step-requires add-t24 same-length returns returns-2)
+    tie.close
+    (tie.spec (λ c κs. search needs) (λ c. search needs) (λ c. search needs) (λ c κs. search needs) add-t24
+    (λ c. search needs) returns returns-2)

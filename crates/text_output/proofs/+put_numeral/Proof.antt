@@ -27,9 +27,6 @@ abbrev put-numeral-below : ℕ → In 1 put-numeral-kinds.ps
 put-numeral-below t =
     and 1 put-numeral-kinds.ps (falls 1 put-numeral-kinds.ps _<_ μ-put-numeral t) put-numeral.Pre
 
-put-numeral-put-nothing-requires : (t : ℕ) → put-numeral-lts.Need-put-nothing-requires (put-nothing-reads.Asked, put-nothing-reads.Learnt, digit-reads.Asked, digit-reads.Learnt, put-octet-reads.Asked, put-octet-reads.Learnt, put-numeral-below t, put-numeral.Post) (put-numeral-at t) put-numeral.Post
-put-numeral-put-nothing-requires t c κs = search needs
-
 put-numeral-returns : (t : ℕ) → put-numeral-lts.Need-returns (put-nothing-reads.Asked, put-nothing-reads.Learnt, digit-reads.Asked, digit-reads.Learnt, put-octet-reads.Asked, put-octet-reads.Learnt, put-numeral-below t, put-numeral.Post) (put-numeral-at t) put-numeral.Post
 put-numeral-returns t c =
     let s = c .before .before .before in
@@ -40,16 +37,10 @@ put-numeral-digit-requires t c κs =
     let s = c .before .before .before in
     omega (arith, last-small (s .args .padded) (s .args .n) (s .args .base) (c .before .if2 .taken), s .pre .1 .1)
 
-put-numeral-put-octet-requires : (t : ℕ) → put-numeral-lts.Need-put-octet-requires (put-nothing-reads.Asked, put-nothing-reads.Learnt, digit-reads.Asked, digit-reads.Learnt, put-octet-reads.Asked, put-octet-reads.Learnt, put-numeral-below t, put-numeral.Post) (put-numeral-at t) put-numeral.Post
-put-numeral-put-octet-requires t c κs = search needs
-
 put-numeral-returns-2 : (t : ℕ) → put-numeral-lts.Need-returns-2 (put-nothing-reads.Asked, put-nothing-reads.Learnt, digit-reads.Asked, digit-reads.Learnt, put-octet-reads.Asked, put-octet-reads.Learnt, put-numeral-below t, put-numeral.Post) (put-numeral-at t) put-numeral.Post
 put-numeral-returns-2 t c =
     let s = c .before .before .before .before .before in
     rw (one-digit (s .args .padded) (s .args .base) (s .args .most) (s .args .n) (c .before .before .before .before .if1 .left) (c .before .before .before .if2 .taken), ← c .before .digit .ensures) (c .put-octet .ensures)
-
-put-numeral-sub-put-numeral : (t : ℕ) → put-numeral-lts.Need-sub-put-numeral (put-nothing-reads.Asked, put-nothing-reads.Learnt, digit-reads.Asked, digit-reads.Learnt, put-octet-reads.Asked, put-octet-reads.Learnt, put-numeral-below t, put-numeral.Post) (put-numeral-at t) put-numeral.Post
-put-numeral-sub-put-numeral t c = search needs
 
 put-numeral-div-put-numeral : (t : ℕ) → put-numeral-lts.Need-div-put-numeral (put-nothing-reads.Asked, put-nothing-reads.Learnt, digit-reads.Asked, digit-reads.Learnt, put-octet-reads.Asked, put-octet-reads.Learnt, put-numeral-below t, put-numeral.Post) (put-numeral-at t) put-numeral.Post
 put-numeral-div-put-numeral t c = c .before .before .before .pre .1 .0
@@ -67,9 +58,6 @@ put-numeral-digit-requires-2 t c κs =
     let s = c .before .before .before .before .before in
     omega (arith, mod-lt (s .args .n) (s .pre .1 .0), s .pre .1 .1)
 
-put-numeral-put-octet-requires-2 : (t : ℕ) → put-numeral-lts.Need-put-octet-requires-2 (put-nothing-reads.Asked, put-nothing-reads.Learnt, digit-reads.Asked, digit-reads.Learnt, put-octet-reads.Asked, put-octet-reads.Learnt, put-numeral-below t, put-numeral.Post) (put-numeral-at t) put-numeral.Post
-put-numeral-put-octet-requires-2 t c κs = search needs
-
 put-numeral-returns-3 : (t : ℕ) → put-numeral-lts.Need-returns-3 (put-nothing-reads.Asked, put-nothing-reads.Learnt, digit-reads.Asked, digit-reads.Learnt, put-octet-reads.Asked, put-octet-reads.Learnt, put-numeral-below t, put-numeral.Post) (put-numeral-at t) put-numeral.Post
 put-numeral-returns-3 t c =
     let s = c .before .before .before .before .before .before .before in
@@ -79,15 +67,15 @@ pub +put-numeral-spec : {M : Type 1} → statement M
 +put-numeral-spec = close μ-put-numeral λ t. put-numeral-lts.spec (put-nothing-reads.Asked, put-nothing-reads.Learnt, digit-reads.Asked, digit-reads.Learnt, put-octet-reads.Asked, put-octet-reads.Learnt, put-numeral-below t, put-numeral.Post)
     (put-numeral-at t)
     put-numeral.Post
-    (put-numeral-put-nothing-requires t)
+    (λ c κs. search needs)
     (put-numeral-returns t)
     (put-numeral-digit-requires t)
-    (put-numeral-put-octet-requires t)
+    (λ c κs. search needs)
     (put-numeral-returns-2 t)
-    (put-numeral-sub-put-numeral t)
+    (λ c. search needs)
     (put-numeral-div-put-numeral t)
     (put-numeral-put-numeral-requires t)
     (put-numeral-rem-digit t)
     (put-numeral-digit-requires-2 t)
-    (put-numeral-put-octet-requires-2 t)
+    (λ c κs. search needs)
     (put-numeral-returns-3 t)

@@ -9,30 +9,6 @@ use borrow.Author.Needs.{needs}
 use Rattle.text_output.proofs.put_fixed.Statement.{statement}
 use Rattle.text_output.proofs.put_fixed.Tie as tie
 
-size-requires : tie.Need-size-requires
-size-requires c κs = search needs
-
-whole-of-requires : tie.Need-whole-of-requires
-whole-of-requires c κs = search needs
-
-put-minus-requires : tie.Need-put-minus-requires
-put-minus-requires c κs = search needs
-
-div-put-natural : tie.Need-div-put-natural
-div-put-natural c = search needs
-
-put-natural-requires : tie.Need-put-natural-requires
-put-natural-requires c κs = search needs
-
-places-of-requires : tie.Need-places-of-requires
-places-of-requires c κs = search needs
-
-rem-put-fraction : tie.Need-rem-put-fraction
-rem-put-fraction c = search needs
-
-put-fraction-requires : tie.Need-put-fraction-requires
-put-fraction-requires c κs = search needs
-
 returns : tie.Need-returns
 unfolding fixed
 returns c =
@@ -46,13 +22,5 @@ returns c =
 pub put-fixed-spec : {M : Type 1} → statement M
 put-fixed-spec =
     tie.close
-    (tie.spec
-    size-requires
-    whole-of-requires
-    put-minus-requires
-    div-put-natural
-    put-natural-requires
-    places-of-requires
-    rem-put-fraction
-    put-fraction-requires
-    returns)
+    (tie.spec (λ c κs. search needs) (λ c κs. search needs) (λ c κs. search needs) (λ c. search needs)
+    (λ c κs. search needs) (λ c κs. search needs) (λ c. search needs) (λ c κs. search needs) returns)

@@ -5,27 +5,12 @@ use borrow.Author.Needs.{needs}
 use Rattle.text_output.proofs.put_fraction.Statement.{statement}
 use Rattle.text_output.proofs.put_fraction.Tie as tie
 
-put-nothing-requires : tie.Need-put-nothing-requires
-put-nothing-requires c κs = search needs
-
 returns : tie.Need-returns
 returns c = rw (no-places (c .before .before .before .args .places) (c .before .before .before .args .n) (c .before .before .if1 .taken)) (c .put-nothing .ensures)
-
-put-octet-requires : tie.Need-put-octet-requires
-put-octet-requires c κs = search needs
-
-put-numeral-requires : tie.Need-put-numeral-requires
-put-numeral-requires c κs = search needs
 
 returns-2 : tie.Need-returns-2
 returns-2 c = rw (some-places (c .before .before .before .before .before .args .places) (c .before .before .before .before .before .args .n) (c .before .before .before .before .if1 .left)) (then (c .before .before .put-octet .ensures) (c .put-numeral .ensures))
 
 pub put-fraction-spec : {M : Type 1} → statement M
 put-fraction-spec =
-    tie.close
-    (tie.spec
-    put-nothing-requires
-    returns
-    put-octet-requires
-    put-numeral-requires
-    returns-2)
+    tie.close (tie.spec (λ c κs. search needs) returns (λ c κs. search needs) (λ c κs. search needs) returns-2)

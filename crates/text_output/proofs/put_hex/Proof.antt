@@ -3,14 +3,8 @@ use Rattle.text_output.proofs.Clipped.{then}
 use Rattle.text_output.proofs.put_hex.Statement.{statement}
 use Rattle.text_output.proofs.put_hex.Tie as tie
 
-put-octet-requires : tie.Need-put-octet-requires
-put-octet-requires c κs = tt
-
-put-pair-requires : tie.Need-put-pair-requires
-put-pair-requires c κs = tt
-
 returns : tie.Need-returns
 returns c = then (c .before .before .put-octet .ensures) (c .put-pair .ensures)
 
 pub put-hex-spec : {M : Type 1} → statement M
-put-hex-spec = tie.close (tie.spec put-octet-requires put-pair-requires returns)
+put-hex-spec = tie.close (tie.spec (λ c κs. tt) (λ c κs. tt) returns)

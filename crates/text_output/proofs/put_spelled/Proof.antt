@@ -20,25 +20,10 @@ Inv-loop text₀ at spelling octets from at₀ i₀ text at' i =
 abbrev μ-loop : tie.MeasureT-loop
 μ-loop text₀ at spelling octets from at₀ i₀ text at' i = length octets - i
 
-put-nothing-requires : tie.Need-put-nothing-requires Inv-loop μ-loop
-put-nothing-requires c κs = tt
-
 loop-holds : tie.Need-loop-holds Inv-loop μ-loop
 loop-holds c =
     let p = c .put-nothing .ensures in
     (omega (arith, p .ends), clips-long p ∙ p .room, λ end last q. q)
-
-shared-slice-read-put-spelled-octet : tie.Need-shared-slice-read-put-spelled-octet Inv-loop μ-loop
-shared-slice-read-put-spelled-octet c = search needs
-
-put-spelled-octet-requires : tie.Need-put-spelled-octet-requires Inv-loop μ-loop
-put-spelled-octet-requires c κs = tt
-
-add-i : tie.Need-add-i Inv-loop μ-loop
-add-i c = search needs
-
-loop-less : tie.Need-loop-less Inv-loop μ-loop
-loop-less c = search needs
 
 loop-again : tie.Need-loop-again Inv-loop μ-loop
 loop-again c =
@@ -55,14 +40,5 @@ returns c =
 pub put-spelled-spec : {M : Type 1} → statement M
 put-spelled-spec =
     tie.close
-    (tie.spec
-    Inv-loop
-    μ-loop
-    put-nothing-requires
-    loop-holds
-    shared-slice-read-put-spelled-octet
-    put-spelled-octet-requires
-    add-i
-    loop-less
-    loop-again
-    returns)
+    (tie.spec Inv-loop μ-loop (λ c κs. tt) loop-holds (λ c. search needs) (λ c κs. tt) (λ c. search needs)
+    (λ c. search needs) loop-again returns)

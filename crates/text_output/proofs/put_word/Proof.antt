@@ -4,11 +4,8 @@ use Rattle.text_output.proofs.Spelled.{plain-same}
 use Rattle.text_output.proofs.put_word.Statement.{statement}
 use Rattle.text_output.proofs.put_word.Tie as tie
 
-put-spelled-requires : tie.Need-put-spelled-requires
-put-spelled-requires c κs = tt
-
 returns : tie.Need-returns
 returns c = rw (plain-same (now (c .before .before .before .args .word))) at (c .put-spelled .ensures)
 
 pub put-word-spec : {M : Type 1} → statement M
-put-word-spec = tie.close (tie.spec put-spelled-requires returns)
+put-word-spec = tie.close (tie.spec (λ c κs. tt) returns)

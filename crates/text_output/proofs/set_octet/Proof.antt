@@ -7,20 +7,9 @@ use borrow.Author.Needs.{needs}
 use Rattle.text_output.proofs.set_octet.Statement.{statement}
 use Rattle.text_output.proofs.set_octet.Tie as tie
 
-slice-write-text : tie.Need-slice-write-text
-slice-write-text c = search needs
-
-add-result : tie.Need-add-result
-add-result c = search needs
-
-same-length : tie.Need-same-length
-same-length c = search needs
-
-returns : tie.Need-returns
-returns c = search needs
-
 returns-2 : tie.Need-returns-2
 returns-2 c = record { room = c .before .pre; ends = omega (arith, c .before .pre); leaves = sym (set-out (now (c .before .args .text)) (c .before .args .at) (c .before .args .octet) (omega arith)) }
 
 pub set-octet-spec : {M : Type 1} → statement M
-set-octet-spec = tie.close (tie.spec slice-write-text add-result same-length returns returns-2)
+set-octet-spec =
+    tie.close (tie.spec (λ c. search needs) (λ c. search needs) (λ c. search needs) (λ c. search needs) returns-2)

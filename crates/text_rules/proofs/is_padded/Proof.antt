@@ -23,22 +23,6 @@ loop-holds c =
     let e = sym (drop-length (now (c .before .args .text))) in
     (omega arith, ap isPadded e, ap allSpaces e)
 
-sub-i : tie.Need-sub-i Inv-loop μ-loop
-sub-i c = search needs
-
-shared-slice-read-space : tie.Need-shared-slice-read-space Inv-loop μ-loop
-shared-slice-read-space c = search needs
-
-shared-slice-read-is-letter-or-digit :
-    tie.Need-shared-slice-read-is-letter-or-digit Inv-loop μ-loop
-shared-slice-read-is-letter-or-digit c = search needs
-
-is-letter-or-digit-requires : tie.Need-is-letter-or-digit-requires Inv-loop μ-loop
-is-letter-or-digit-requires c κs = search needs
-
-loop-less : tie.Need-loop-less Inv-loop μ-loop
-loop-less c = search needs
-
 loop-again : tie.Need-loop-again Inv-loop μ-loop
 loop-again c =
     let l = c .before .before .before .before .loop in
@@ -58,14 +42,5 @@ returns c =
 pub is-padded-spec : {M : Type 1} → statement M
 is-padded-spec =
     tie.close
-    (tie.spec
-    Inv-loop
-    μ-loop
-    loop-holds
-    sub-i
-    shared-slice-read-space
-    shared-slice-read-is-letter-or-digit
-    is-letter-or-digit-requires
-    loop-less
-    loop-again
-    returns)
+    (tie.spec Inv-loop μ-loop loop-holds (λ c. search needs) (λ c. search needs) (λ c. search needs)
+    (λ c κs. search needs) (λ c. search needs) loop-again returns)

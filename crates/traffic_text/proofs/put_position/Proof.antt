@@ -7,38 +7,17 @@ use Rattle.field_text.specs.Fields.{fields}
 use Rattle.traffic_text.proofs.put_position.Statement.{statement}
 use Rattle.traffic_text.proofs.put_position.Tie as tie
 
-signed-32-requires : tie.Need-signed-32-requires
-signed-32-requires c κs = tt
-
-signed-32-requires-2 : tie.Need-signed-32-requires-2
-signed-32-requires-2 c κs = tt
-
-signed-32-requires-3 : tie.Need-signed-32-requires-3
-signed-32-requires-3 c κs = tt
-
 slice-aggregate-put-hexadecimal : tie.Need-slice-aggregate-put-hexadecimal
 slice-aggregate-put-hexadecimal c = refl
-
-put-hexadecimal-requires : tie.Need-put-hexadecimal-requires
-put-hexadecimal-requires c κs = tt
 
 slice-aggregate-put-reading : tie.Need-slice-aggregate-put-reading
 slice-aggregate-put-reading c = refl
 
-put-reading-requires : tie.Need-put-reading-requires
-put-reading-requires c κs = tt
-
 slice-aggregate-put-reading-2 : tie.Need-slice-aggregate-put-reading-2
 slice-aggregate-put-reading-2 c = refl
 
-put-reading-requires-2 : tie.Need-put-reading-requires-2
-put-reading-requires-2 c κs = tt
-
 slice-aggregate-put-reading-3 : tie.Need-slice-aggregate-put-reading-3
 slice-aggregate-put-reading-3 c = refl
-
-put-reading-requires-3 : tie.Need-put-reading-requires-3
-put-reading-requires-3 c κs = tt
 
 returns : tie.Need-returns
 unfolding fields
@@ -50,16 +29,6 @@ returns c = then (c .before .before .before .before .before .before .before .bef
 pub put-position-spec : {M : Type 1} → statement M
 put-position-spec =
     tie.close
-    (tie.spec
-    signed-32-requires
-    signed-32-requires-2
-    signed-32-requires-3
-    slice-aggregate-put-hexadecimal
-    put-hexadecimal-requires
-    slice-aggregate-put-reading
-    put-reading-requires
-    slice-aggregate-put-reading-2
-    put-reading-requires-2
-    slice-aggregate-put-reading-3
-    put-reading-requires-3
-    returns)
+    (tie.spec (λ c κs. tt) (λ c κs. tt) (λ c κs. tt) slice-aggregate-put-hexadecimal (λ c κs. tt)
+    slice-aggregate-put-reading (λ c κs. tt) slice-aggregate-put-reading-2 (λ c κs. tt) slice-aggregate-put-reading-3
+    (λ c κs. tt) returns)

@@ -7,11 +7,8 @@ use Rattle.twos_complement.specs.Signed.{complement}
 use Rattle.twos_complement.proofs.bits_24.Statement.{statement}
 use Rattle.twos_complement.proofs.bits_24.Tie as tie
 
-to-bits-requires : tie.Need-to-bits-requires
-to-bits-requires c κs = search needs
-
 returns : tie.Need-returns
 returns c = c .to-bits .ensures ∙ ap (complement 8388608) (toZ-ofZ w32 (c .before .args .number) (c .before .fits .number))
 
 pub bits-24-spec : {M : Type 1} → statement M
-bits-24-spec = tie.close (tie.spec to-bits-requires returns)
+bits-24-spec = tie.close (tie.spec (λ c κs. search needs) returns)

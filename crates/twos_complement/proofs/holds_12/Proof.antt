@@ -9,12 +9,6 @@ use Rattle.twos_complement.proofs.Negative.{widened-back}
 use Rattle.twos_complement.proofs.holds_12.Statement.{statement}
 use Rattle.twos_complement.proofs.holds_12.Tie as tie
 
-widened-requires : tie.Need-widened-requires
-widened-requires c κs = search needs
-
-magnitude-requires : tie.Need-magnitude-requires
-magnitude-requires c κs = search needs
-
 returns : tie.Need-returns
 unfolding holds
 returns c =
@@ -24,4 +18,4 @@ returns c =
     ∙ ap mag (widened-back z (c .before .widened .result) (c .before .before .fits .number) (c .before .widened .ensures)))
 
 pub holds-12-spec : {M : Type 1} → statement M
-holds-12-spec = tie.close (tie.spec widened-requires magnitude-requires returns)
+holds-12-spec = tie.close (tie.spec (λ c κs. search needs) (λ c κs. search needs) returns)

@@ -10,9 +10,6 @@ use Rattle.twos_complement.specs.Signed.{holds}
 use Rattle.twos_complement.proofs.holds_24.Statement.{statement}
 use Rattle.twos_complement.proofs.holds_24.Tie as tie
 
-magnitude-requires : tie.Need-magnitude-requires
-magnitude-requires c κs = search needs
-
 returns : tie.Need-returns
 unfolding holds
 returns c =
@@ -20,4 +17,4 @@ returns c =
     (c .magnitude .ensures ∙ ap mag (toZ-ofZ w32 (c .before .args .number) (c .before .fits .number)))
 
 pub holds-24-spec : {M : Type 1} → statement M
-holds-24-spec = tie.close (tie.spec magnitude-requires returns)
+holds-24-spec = tie.close (tie.spec (λ c κs. search needs) returns)

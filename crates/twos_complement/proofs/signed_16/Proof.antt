@@ -5,9 +5,6 @@ use Rattle.twos_complement.proofs.Negative.{narrow-fits, narrowed-back}
 use Rattle.twos_complement.proofs.signed_16.Statement.{statement}
 use Rattle.twos_complement.proofs.signed_16.Tie as tie
 
-to-signed-requires : tie.Need-to-signed-requires
-to-signed-requires c κs = search needs
-
 narrowed-requires : tie.Need-narrowed-requires
 narrowed-requires c κs =
     narrow-fits 32768 (c .before .args .bits) (omega arith) (omega arith) (c .to-signed .result) (c .to-signed .ensures)
@@ -18,4 +15,4 @@ returns c =
     (c .narrowed .result) (c .before .to-signed .ensures) (c .narrowed .ensures)
 
 pub signed-16-spec : {M : Type 1} → statement M
-signed-16-spec = tie.close (tie.spec to-signed-requires narrowed-requires returns)
+signed-16-spec = tie.close (tie.spec (λ c κs. search needs) narrowed-requires returns)

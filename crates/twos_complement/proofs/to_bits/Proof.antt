@@ -10,12 +10,6 @@ use Rattle.twos_complement.proofs.Negative.{below-zero, from-zero}
 use Rattle.twos_complement.proofs.to_bits.Statement.{statement}
 use Rattle.twos_complement.proofs.to_bits.Tie as tie
 
-magnitude-requires : tie.Need-magnitude-requires
-magnitude-requires c κs = search needs
-
-negative-bits-requires : tie.Need-negative-bits-requires
-negative-bits-requires c κs = search needs
-
 returns : tie.Need-returns
 returns c =
     let a = c .before .before .before .args in
@@ -34,4 +28,4 @@ returns-2 c =
     ∙ sym (ap (complement (a .half)) above)
 
 pub to-bits-spec : {M : Type 1} → statement M
-to-bits-spec = tie.close (tie.spec magnitude-requires negative-bits-requires returns returns-2)
+to-bits-spec = tie.close (tie.spec (λ c κs. search needs) (λ c κs. search needs) returns returns-2)

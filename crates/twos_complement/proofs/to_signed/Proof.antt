@@ -11,22 +11,10 @@ use Rattle.twos_complement.proofs.Signed.{signed-under, signed-over}
 use Rattle.twos_complement.proofs.to_signed.Statement.{statement}
 use Rattle.twos_complement.proofs.to_signed.Tie as tie
 
-cast-result : tie.Need-cast-result
-cast-result c = search needs
-
 returns : tie.Need-returns
 returns c =
     let a = c .before .args in
     toZ-pos w32 (a .bits) (omega arith) ∙ sym (signed-under (a .half) (a .bits) (c .if1 .taken))
-
-sub-below-zero : tie.Need-sub-below-zero
-sub-below-zero c = search needs
-
-sub-below-zero-2 : tie.Need-sub-below-zero-2
-sub-below-zero-2 c = search needs
-
-below-zero-requires : tie.Need-below-zero-requires
-below-zero-requires c κs = search needs
 
 returns-2 : tie.Need-returns-2
 returns-2 c =
@@ -47,11 +35,5 @@ returns-3 c =
 pub to-signed-spec : {M : Type 1} → statement M
 to-signed-spec =
     tie.close
-    (tie.spec
-    cast-result
-    returns
-    sub-below-zero
-    sub-below-zero-2
-    below-zero-requires
-    returns-2
+    (tie.spec (λ c. search needs) returns (λ c. search needs) (λ c. search needs) (λ c κs. search needs) returns-2
     returns-3)

@@ -11,15 +11,6 @@ use borrow.Author.Needs.{needs}
 use Rattle.ucp_receive.proofs.hear.Statement.{statement}
 use Rattle.ucp_receive.proofs.hear.Tie as tie
 
-receive-requires : tie.Need-receive-requires
-receive-requires c κs = search needs
-
-enum-told : tie.Need-enum-told
-enum-told c = search needs
-
-enum-known-answer : tie.Need-enum-known-answer
-enum-known-answer c = search needs
-
 slice-reshare-prefix-read-message : tie.Need-slice-reshare-prefix-read-message
 slice-reshare-prefix-read-message c =
     let a = c .before .before .before .before .before .before .before .before .before .before .before .args in
@@ -35,15 +26,6 @@ slice-aggregate-read-message c =
     let b = body-due (now (a .output)) v (ap answerOf (sym (c .before .before .answer .given .1)) ∙ r .answers) (r .puts) in
     sym (length-take-le _ _ (b .0))
 
-read-message-requires : tie.Need-read-message-requires
-read-message-requires c κs = search needs
-
-enum-known-answer-2 : tie.Need-enum-known-answer-2
-enum-known-answer-2 c = search needs
-
-same-length : tie.Need-same-length
-same-length c = search needs
-
 returns : tie.Need-returns
 returns c =
     let a = c .before .before .before .before .before .before .before .before .before .before .args in
@@ -55,9 +37,6 @@ returns c =
       answers = none-due v (ap answerOf (sym (c .enum-told .given .1)) ∙ r .answers);
       puts = r .puts;
     }
-
-same-length-2 : tie.Need-same-length-2
-same-length-2 c = search needs
 
 returns-2 : tie.Need-returns-2
 returns-2 c =
@@ -71,9 +50,6 @@ returns-2 c =
       answers = ap (heard (c .before .before .before .answer .given .0 .0)) (c .read-message .ensures) ∙ b .1;
       puts = r .puts;
     }
-
-same-length-3 : tie.Need-same-length-3
-same-length-3 c = search needs
 
 returns-3 : tie.Need-returns-3
 returns-3 c =
@@ -90,17 +66,6 @@ returns-3 c =
 pub hear-spec : {M : Type 1} → statement M
 hear-spec =
     tie.close
-    (tie.spec
-    receive-requires
-    enum-told
-    enum-known-answer
-    slice-reshare-prefix-read-message
-    slice-aggregate-read-message
-    read-message-requires
-    enum-known-answer-2
-    same-length
-    returns
-    same-length-2
-    returns-2
-    same-length-3
-    returns-3)
+    (tie.spec (λ c κs. search needs) (λ c. search needs) (λ c. search needs) slice-reshare-prefix-read-message
+    slice-aggregate-read-message (λ c κs. search needs) (λ c. search needs) (λ c. search needs) returns
+    (λ c. search needs) returns-2 (λ c. search needs) returns-3)

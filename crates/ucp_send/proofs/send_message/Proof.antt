@@ -8,15 +8,6 @@ use borrow.Author.Needs.{needs}
 use Rattle.ucp_send.proofs.send_message.Statement.{statement}
 use Rattle.ucp_send.proofs.send_message.Tie as tie
 
-slice-aggregate-write-message : tie.Need-slice-aggregate-write-message
-slice-aggregate-write-message c = search needs
-
-write-message-requires : tie.Need-write-message-requires
-write-message-requires c κs = search needs
-
-enum-known-written : tie.Need-enum-known-written
-enum-known-written c = search needs
-
 array-share-prefix-body : tie.Need-array-share-prefix-body
 array-share-prefix-body c =
     body-written (rw (c .before .written .given .1) at (c .before .before .before .before .write-message .ensures)) .room
@@ -25,12 +16,6 @@ slice-aggregate-write-frame : tie.Need-slice-aggregate-write-frame
 slice-aggregate-write-frame c =
     let w = body-written (rw (c .before .before .written .given .1) at (c .before .before .before .before .before .write-message .ensures)) in
     sym (length-take-le _ _ (w .room))
-
-write-frame-requires : tie.Need-write-frame-requires
-write-frame-requires c κs = search needs
-
-enum-known-written-2 : tie.Need-enum-known-written-2
-enum-known-written-2 c = search needs
 
 returns : tie.Need-returns
 unfolding answerDue
@@ -50,13 +35,5 @@ returns-2 c =
 pub send-message-spec : {M : Type 1} → statement M
 send-message-spec =
     tie.close
-    (tie.spec
-    slice-aggregate-write-message
-    write-message-requires
-    enum-known-written
-    array-share-prefix-body
-    slice-aggregate-write-frame
-    write-frame-requires
-    enum-known-written-2
-    returns
-    returns-2)
+    (tie.spec (λ c. search needs) (λ c κs. search needs) (λ c. search needs) array-share-prefix-body
+    slice-aggregate-write-frame (λ c κs. search needs) (λ c. search needs) returns returns-2)

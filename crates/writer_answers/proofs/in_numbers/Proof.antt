@@ -3,15 +3,6 @@ use borrow.Author.Needs.{needs}
 use Rattle.writer_answers.proofs.in_numbers.Statement.{statement}
 use Rattle.writer_answers.proofs.in_numbers.Tie as tie
 
-enum-known-written : tie.Need-enum-known-written
-enum-known-written c = search needs
-
-enum-known-written-2 : tie.Need-enum-known-written-2
-enum-known-written-2 c = search needs
-
-cast-t5 : tie.Need-cast-t5
-cast-t5 c = search needs
-
 returns : tie.Need-returns
 returns c = rw (c .before .written .given .1)
 
@@ -19,5 +10,4 @@ returns-2 : tie.Need-returns-2
 returns-2 c = rw (c .before .written2 .given .1)
 
 pub in-numbers-spec : {M : Type 1} → statement M
-in-numbers-spec =
-    tie.close (tie.spec enum-known-written enum-known-written-2 cast-t5 returns returns-2)
+in-numbers-spec = tie.close (tie.spec (λ c. search needs) (λ c. search needs) (λ c. search needs) returns returns-2)

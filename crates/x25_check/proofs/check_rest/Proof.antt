@@ -24,27 +24,6 @@ abbrev μ-loop : tie.MeasureT-loop
 loop-holds : tie.Need-loop-holds Inv-loop μ-loop
 loop-holds c = (search needs, search needs, refl)
 
-sub-loop : tie.Need-sub-loop Inv-loop μ-loop
-sub-loop c = search needs
-
-shared-slice-read-next-pair : tie.Need-shared-slice-read-next-pair Inv-loop μ-loop
-shared-slice-read-next-pair c = search needs
-
-add-next-pair : tie.Need-add-next-pair Inv-loop μ-loop
-add-next-pair c = search needs
-
-shared-slice-read-next-pair-2 : tie.Need-shared-slice-read-next-pair-2 Inv-loop μ-loop
-shared-slice-read-next-pair-2 c = search needs
-
-next-pair-requires : tie.Need-next-pair-requires Inv-loop μ-loop
-next-pair-requires c κs = search needs
-
-add-i : tie.Need-add-i Inv-loop μ-loop
-add-i c = search needs
-
-loop-less : tie.Need-loop-less Inv-loop μ-loop
-loop-less c = search needs
-
 loop-again : tie.Need-loop-again Inv-loop μ-loop
 loop-again c =
     let l = c .before .before .before .before .loop in
@@ -57,21 +36,12 @@ loop-again c =
           ∙ l .inv .2,
     )
 
-shared-slice-read-next-pair-3 : tie.Need-shared-slice-read-next-pair-3 Inv-loop μ-loop
-shared-slice-read-next-pair-3 c = search needs
-
-next-pair-requires-2 : tie.Need-next-pair-requires-2 Inv-loop μ-loop
-next-pair-requires-2 c κs = search needs
-
 returns : tie.Need-returns Inv-loop μ-loop
 returns c =
     let l = c .before .before .before .before .loop in
     let a = c .before .before .before .before .before .before .args in
     let e : l .i + 1 ≡ length (now (a .octets)) = omega arith in
     c .next-pair2 .ensures ∙ sym (pair-last (l .check) (now (a .octets)) (a .extra) (l .i) e) ∙ l .inv .2
-
-next-octet-requires : tie.Need-next-octet-requires Inv-loop μ-loop
-next-octet-requires c κs = search needs
 
 returns-2 : tie.Need-returns-2 Inv-loop μ-loop
 returns-2 c =
@@ -83,20 +53,6 @@ returns-2 c =
 pub check-rest-spec : {M : Type 1} → statement M
 check-rest-spec =
     tie.close
-    (tie.spec
-    Inv-loop
-    μ-loop
-    loop-holds
-    sub-loop
-    shared-slice-read-next-pair
-    add-next-pair
-    shared-slice-read-next-pair-2
-    next-pair-requires
-    add-i
-    loop-less
-    loop-again
-    shared-slice-read-next-pair-3
-    next-pair-requires-2
-    returns
-    next-octet-requires
-    returns-2)
+    (tie.spec Inv-loop μ-loop loop-holds (λ c. search needs) (λ c. search needs) (λ c. search needs) (λ c. search needs)
+    (λ c κs. search needs) (λ c. search needs) (λ c. search needs) loop-again (λ c. search needs) (λ c κs. search needs)
+    returns (λ c κs. search needs) returns-2)

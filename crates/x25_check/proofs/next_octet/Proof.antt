@@ -5,18 +5,9 @@ use Rattle.x25_check.proofs.Step.{octet-step}
 use Rattle.x25_check.proofs.next_octet.Statement.{statement}
 use Rattle.x25_check.proofs.next_octet.Tie as tie
 
-mul-fold : tie.Need-mul-fold
-mul-fold c = search needs
-
-mul-result : tie.Need-mul-result
-mul-result c = search needs
-
-mul-result-2 : tie.Need-mul-result-2
-mul-result-2 c = search needs
-
 returns : tie.Need-returns
 unfolding shifted
 returns c = octet-step (c .args .check) (c .args .octet) (c .fits .check .fits) (c .fits .octet .fits)
 
 pub next-octet-spec : {M : Type 1} → statement M
-next-octet-spec = tie.close (tie.spec mul-fold mul-result mul-result-2 returns)
+next-octet-spec = tie.close (tie.spec (λ c. search needs) (λ c. search needs) (λ c. search needs) returns)

@@ -10,12 +10,6 @@ use Rattle.x25_check.proofs.next_pair.Reads as reads
 use Rattle.x25_check.proofs.next_pair.Lts as lts
 use Rattle.x25_check.proofs.next_pair.Tie as tie
 
-mul-met : tie.Need-mul-met
-mul-met c = search needs
-
-add-met : tie.Need-add-met
-add-met c = search needs
-
 met : (c : lts.Start reads.Pre reads.Post) → bitXor (c .args .check) (c .args .second * 256 + c .args .first) < 65536
 met c =
     pair-lt (c .args .check) (c .args .first) (c .args .second) (c .fits .check .fits) (c .fits .first .fits) (c .fits .second .fits)
@@ -43,4 +37,4 @@ returns c =
 
 pub next-pair-spec : {M : Type 1} → statement M
 next-pair-spec =
-    tie.close (tie.spec mul-met add-met mul-q mul-q-2 mul-q-3 mul-q-4 cast-result returns)
+    tie.close (tie.spec (λ c. search needs) (λ c. search needs) mul-q mul-q-2 mul-q-3 mul-q-4 cast-result returns)

@@ -8,18 +8,6 @@ use borrow.Author.Needs.{needs}
 use Rattle.gdl90_messages.proofs.message_0.fields.Statement.{statement}
 use Rattle.gdl90_messages.proofs.message_0.fields.Tie as tie
 
-octet-requires : tie.Need-octet-requires
-octet-requires c κs = search needs
-
-octet-requires-2 : tie.Need-octet-requires-2
-octet-requires-2 c κs = search needs
-
-little-16-requires : tie.Need-little-16-requires
-little-16-requires c κs = search needs
-
-big-16-requires : tie.Need-big-16-requires
-big-16-requires c κs = search needs
-
 returns : tie.Need-returns
 unfolding valueIn
 returns c =
@@ -34,4 +22,5 @@ returns c =
 
 pub fields-spec : {M : Type 1} → statement M
 fields-spec =
-    tie.close (tie.spec octet-requires octet-requires-2 little-16-requires big-16-requires returns)
+    tie.close
+    (tie.spec (λ c κs. search needs) (λ c κs. search needs) (λ c κs. search needs) (λ c κs. search needs) returns)

@@ -12,57 +12,6 @@ use borrow.Author.Needs.{needs}
 use Rattle.gdl90_messages.proofs.message_10.fields.Statement.{statement}
 use Rattle.gdl90_messages.proofs.message_10.fields.Tie as tie
 
-octet-requires : tie.Need-octet-requires
-octet-requires c κs = search needs
-
-big-16-requires : tie.Need-big-16-requires
-big-16-requires c κs = search needs
-
-octet-requires-2 : tie.Need-octet-requires-2
-octet-requires-2 c κs = search needs
-
-big-32-requires : tie.Need-big-32-requires
-big-32-requires c κs = search needs
-
-octet-requires-3 : tie.Need-octet-requires-3
-octet-requires-3 c κs = search needs
-
-big-24-requires : tie.Need-big-24-requires
-big-24-requires c κs = search needs
-
-big-24-requires-2 : tie.Need-big-24-requires-2
-big-24-requires-2 c κs = search needs
-
-signed-24-requires : tie.Need-signed-24-requires
-signed-24-requires c κs = search needs
-
-big-24-requires-3 : tie.Need-big-24-requires-3
-big-24-requires-3 c κs = search needs
-
-signed-24-requires-2 : tie.Need-signed-24-requires-2
-signed-24-requires-2 c κs = search needs
-
-cast-t17 : tie.Need-cast-t17
-cast-t17 c = search needs
-
-cast-t21 : tie.Need-cast-t21
-cast-t21 c = search needs
-
-cast-signed-12 : tie.Need-cast-signed-12
-cast-signed-12 c = search needs
-
-signed-12-requires : tie.Need-signed-12-requires
-signed-12-requires c κs = search needs
-
-cast-t26 : tie.Need-cast-t26
-cast-t26 c = search needs
-
-octet-requires-4 : tie.Need-octet-requires-4
-octet-requires-4 c κs = search needs
-
-text-at-requires : tie.Need-text-at-requires
-text-at-requires c κs = search needs
-
 returns : tie.Need-returns
 unfolding valueIn
 returns c =
@@ -107,22 +56,7 @@ returns c =
 pub fields-spec : {M : Type 1} → statement M
 fields-spec =
     tie.close
-    (tie.spec
-    octet-requires
-    big-16-requires
-    octet-requires-2
-    big-32-requires
-    octet-requires-3
-    big-24-requires
-    big-24-requires-2
-    signed-24-requires
-    big-24-requires-3
-    signed-24-requires-2
-    cast-t17
-    cast-t21
-    cast-signed-12
-    signed-12-requires
-    cast-t26
-    octet-requires-4
-    text-at-requires
-    returns)
+    (tie.spec (λ c κs. search needs) (λ c κs. search needs) (λ c κs. search needs) (λ c κs. search needs)
+    (λ c κs. search needs) (λ c κs. search needs) (λ c κs. search needs) (λ c κs. search needs) (λ c κs. search needs)
+    (λ c κs. search needs) (λ c. search needs) (λ c. search needs) (λ c. search needs) (λ c κs. search needs)
+    (λ c. search needs) (λ c κs. search needs) (λ c κs. search needs) returns)

@@ -6,15 +6,6 @@ use borrow.Author.Needs.{needs}
 use Rattle.gdl90_messages.proofs.message_10.fits.Statement.{statement}
 use Rattle.gdl90_messages.proofs.message_10.fits.Tie as tie
 
-holds-24-requires : tie.Need-holds-24-requires
-holds-24-requires c κs = search needs
-
-holds-24-requires-2 : tie.Need-holds-24-requires-2
-holds-24-requires-2 c κs = search needs
-
-holds-12-requires : tie.Need-holds-12-requires
-holds-12-requires c κs = search needs
-
 returns : tie.Need-returns
 unfolding fits
 returns c =
@@ -30,4 +21,4 @@ returns c =
     )
 
 pub fits-spec : {M : Type 1} → statement M
-fits-spec = tie.close (tie.spec holds-24-requires holds-24-requires-2 holds-12-requires returns)
+fits-spec = tie.close (tie.spec (λ c κs. search needs) (λ c κs. search needs) (λ c κs. search needs) returns)

@@ -9,24 +9,12 @@ use borrow.Author.Needs.{needs}
 use Rattle.gdl90_messages.proofs.message_10.octets.Statement.{statement}
 use Rattle.gdl90_messages.proofs.message_10.octets.Tie as tie
 
-three-of-requires : tie.Need-three-of-requires
-three-of-requires c κs = search needs
-
-position-of-requires : tie.Need-position-of-requires
-position-of-requires c κs = search needs
-
-height-of-requires : tie.Need-height-of-requires
-height-of-requires c κs = search needs
-
 motion-of-requires : tie.Need-motion-of-requires
 motion-of-requires c κs =
     let s = c .before .before .before .before .before .before in
     let r = s .args .report in
     let at = bound (reportFormat (s .args .id)) (report-right (s .args .id)) r (s .pre) in
     (at 9, rw (toZ-ofZ w16 (r .«vertical_rate») (record { sfits = c .struct-told3 .given .1 .1 .1 .1 .1 .1 .1 .1 .1 .1 .0 .1 })) (at 10))
-
-halves-requires : tie.Need-halves-requires
-halves-requires c κs = search needs
 
 halves-requires-2 : tie.Need-halves-requires-2
 halves-requires-2 c κs =
@@ -60,12 +48,5 @@ returns c =
 pub octets-spec : {M : Type 1} → statement M
 octets-spec =
     tie.close
-    (tie.spec
-    three-of-requires
-    position-of-requires
-    height-of-requires
-    motion-of-requires
-    halves-requires
-    halves-requires-2
-    halves-requires-3
-    returns)
+    (tie.spec (λ c κs. search needs) (λ c κs. search needs) (λ c κs. search needs) motion-of-requires
+    (λ c κs. search needs) halves-requires-2 halves-requires-3 returns)

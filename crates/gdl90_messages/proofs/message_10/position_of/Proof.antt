@@ -16,14 +16,8 @@ longitude-bits : (c : tie.After-bits-242) → c .bits-242 .result ≡ complement
 longitude-bits c =
     c .bits-242 .ensures ∙ ap (complement 8388608) (toZ-ofZ w32 (c .before .before .before .args .longitude) (c .before .before .before .fits .longitude))
 
-bits-24-requires : tie.Need-bits-24-requires
-bits-24-requires c κs = search needs
-
 three-of-requires : tie.Need-three-of-requires
 three-of-requires c κs = omega (arith, latitude-bits c)
-
-bits-24-requires-2 : tie.Need-bits-24-requires-2
-bits-24-requires-2 c κs = search needs
 
 three-of-requires-2 : tie.Need-three-of-requires-2
 three-of-requires-2 c κs = omega (arith, longitude-bits c)
@@ -36,5 +30,4 @@ returns c = λ i. record {
 
 pub position-of-spec : {M : Type 1} → statement M
 position-of-spec =
-    tie.close
-    (tie.spec bits-24-requires three-of-requires bits-24-requires-2 three-of-requires-2 returns)
+    tie.close (tie.spec (λ c κs. search needs) three-of-requires (λ c κs. search needs) three-of-requires-2 returns)

@@ -11,15 +11,6 @@ use borrow.Author.Needs.{needs}
 use Rattle.gdl90_messages.proofs.message_11.fields.Statement.{statement}
 use Rattle.gdl90_messages.proofs.message_11.fields.Tie as tie
 
-big-16-requires : tie.Need-big-16-requires
-big-16-requires c κs = search needs
-
-signed-16-requires : tie.Need-signed-16-requires
-signed-16-requires c κs = search needs
-
-big-16-requires-2 : tie.Need-big-16-requires-2
-big-16-requires-2 c κs = search needs
-
 returns : tie.Need-returns
 unfolding valueIn
 returns c =
@@ -35,4 +26,4 @@ returns c =
     ∙ by-octets geometricFormat 5 (now (s .args .body)) (s .pre)
 
 pub fields-spec : {M : Type 1} → statement M
-fields-spec = tie.close (tie.spec big-16-requires signed-16-requires big-16-requires-2 returns)
+fields-spec = tie.close (tie.spec (λ c κs. search needs) (λ c κs. search needs) (λ c κs. search needs) returns)

@@ -7,21 +7,6 @@ use borrow.Author.Needs.{needs}
 use Rattle.gdl90_messages.proofs.message_11.octets.Statement.{statement}
 use Rattle.gdl90_messages.proofs.message_11.octets.Tie as tie
 
-bits-16-requires : tie.Need-bits-16-requires
-bits-16-requires c κs = search needs
-
-cast-t5 : tie.Need-cast-t5
-cast-t5 c = search needs
-
-cast-t7 : tie.Need-cast-t7
-cast-t7 c = search needs
-
-cast-t9 : tie.Need-cast-t9
-cast-t9 c = search needs
-
-cast-t11 : tie.Need-cast-t11
-cast-t11 c = search needs
-
 returns : tie.Need-returns
 unfolding bodyOf
 returns c =
@@ -30,4 +15,7 @@ returns c =
     rw (c .bits-16 .ensures, toZ-ofZ w16 z f)
 
 pub octets-spec : {M : Type 1} → statement M
-octets-spec = tie.close (tie.spec bits-16-requires cast-t5 cast-t7 cast-t9 cast-t11 returns)
+octets-spec =
+    tie.close
+    (tie.spec (λ c κs. search needs) (λ c. search needs) (λ c. search needs) (λ c. search needs) (λ c. search needs)
+    returns)

@@ -28,20 +28,11 @@ returns-2 c =
       leaves = refl;
     }
 
-slice-write-output : tie.Need-slice-write-output
-slice-write-output c = search needs
-
 sub-store : tie.Need-sub-store
 sub-store c = simp length-set (omega arith)
 
 part-store-start : tie.Need-part-store-start
 part-store-start c = simp length-set (omega arith)
-
-part-store-end : tie.Need-part-store-end
-part-store-end c = search needs
-
-store-requires : tie.Need-store-requires
-store-requires c κs = search needs
 
 same-length : tie.Need-same-length
 same-length c =
@@ -70,13 +61,5 @@ returns-3 c =
 pub write-spec : {M : Type 1} → statement M
 write-spec =
     tie.close
-    (tie.spec
-    returns
-    returns-2
-    slice-write-output
-    sub-store
-    part-store-start
-    part-store-end
-    store-requires
-    same-length
-    returns-3)
+    (tie.spec returns returns-2 (λ c. search needs) sub-store part-store-start (λ c. search needs)
+    (λ c κs. search needs) same-length returns-3)

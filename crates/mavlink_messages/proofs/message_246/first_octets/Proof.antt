@@ -8,18 +8,6 @@ use borrow.Author.Needs.{needs}
 use Rattle.mavlink_messages.proofs.message_246.first_octets.Statement.{statement}
 use Rattle.mavlink_messages.proofs.message_246.first_octets.Tie as tie
 
-little-32-requires : tie.Need-little-32-requires
-little-32-requires c κs = search needs
-
-signed-32-requires : tie.Need-signed-32-requires
-signed-32-requires c κs = search needs
-
-signed-32-requires-2 : tie.Need-signed-32-requires-2
-signed-32-requires-2 c κs = search needs
-
-signed-32-requires-3 : tie.Need-signed-32-requires-3
-signed-32-requires-3 c κs = search needs
-
 returns : tie.Need-returns
 unfolding bodyOf
 returns c =
@@ -36,9 +24,4 @@ returns c =
 pub first-octets-spec : {M : Type 1} → statement M
 first-octets-spec =
     tie.close
-    (tie.spec
-    little-32-requires
-    signed-32-requires
-    signed-32-requires-2
-    signed-32-requires-3
-    returns)
+    (tie.spec (λ c κs. search needs) (λ c κs. search needs) (λ c κs. search needs) (λ c κs. search needs) returns)

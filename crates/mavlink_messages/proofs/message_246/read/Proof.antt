@@ -12,60 +12,6 @@ use borrow.Author.Needs.{needs}
 use Rattle.mavlink_messages.proofs.message_246.read.Statement.{statement}
 use Rattle.mavlink_messages.proofs.message_246.read.Tie as tie
 
-little-32-requires : tie.Need-little-32-requires
-little-32-requires c κs = search needs
-
-little-32-requires-2 : tie.Need-little-32-requires-2
-little-32-requires-2 c κs = search needs
-
-signed-32-requires : tie.Need-signed-32-requires
-signed-32-requires c κs = search needs
-
-little-32-requires-3 : tie.Need-little-32-requires-3
-little-32-requires-3 c κs = search needs
-
-signed-32-requires-2 : tie.Need-signed-32-requires-2
-signed-32-requires-2 c κs = search needs
-
-little-32-requires-4 : tie.Need-little-32-requires-4
-little-32-requires-4 c κs = search needs
-
-signed-32-requires-3 : tie.Need-signed-32-requires-3
-signed-32-requires-3 c κs = search needs
-
-little-16-requires : tie.Need-little-16-requires
-little-16-requires c κs = search needs
-
-little-16-requires-2 : tie.Need-little-16-requires-2
-little-16-requires-2 c κs = search needs
-
-little-16-requires-3 : tie.Need-little-16-requires-3
-little-16-requires-3 c κs = search needs
-
-signed-16-requires : tie.Need-signed-16-requires
-signed-16-requires c κs = search needs
-
-little-16-requires-4 : tie.Need-little-16-requires-4
-little-16-requires-4 c κs = search needs
-
-little-16-requires-5 : tie.Need-little-16-requires-5
-little-16-requires-5 c κs = search needs
-
-octet-requires : tie.Need-octet-requires
-octet-requires c κs = search needs
-
-text-at-requires : tie.Need-text-at-requires
-text-at-requires c κs = search needs
-
-octet-requires-2 : tie.Need-octet-requires-2
-octet-requires-2 c κs = search needs
-
-octet-requires-3 : tie.Need-octet-requires-3
-octet-requires-3 c κs = search needs
-
-octet-requires-4 : tie.Need-octet-requires-4
-octet-requires-4 c κs = search needs
-
 returns : tie.Need-returns
 unfolding valueIn
 returns c =
@@ -105,23 +51,7 @@ returns c =
 pub read-spec : {M : Type 1} → statement M
 read-spec =
     tie.close
-    (tie.spec
-    little-32-requires
-    little-32-requires-2
-    signed-32-requires
-    little-32-requires-3
-    signed-32-requires-2
-    little-32-requires-4
-    signed-32-requires-3
-    little-16-requires
-    little-16-requires-2
-    little-16-requires-3
-    signed-16-requires
-    little-16-requires-4
-    little-16-requires-5
-    octet-requires
-    text-at-requires
-    octet-requires-2
-    octet-requires-3
-    octet-requires-4
-    returns)
+    (tie.spec (λ c κs. search needs) (λ c κs. search needs) (λ c κs. search needs) (λ c κs. search needs)
+    (λ c κs. search needs) (λ c κs. search needs) (λ c κs. search needs) (λ c κs. search needs) (λ c κs. search needs)
+    (λ c κs. search needs) (λ c κs. search needs) (λ c κs. search needs) (λ c κs. search needs) (λ c κs. search needs)
+    (λ c κs. search needs) (λ c κs. search needs) (λ c κs. search needs) (λ c κs. search needs) returns)

@@ -5,13 +5,10 @@ use borrow.Author.Needs.{needs}
 use Rattle.report_text.proofs.readings.angle.Statement.{statement}
 use Rattle.report_text.proofs.readings.angle.Tie as tie
 
-degrees-e7-requires : tie.Need-degrees-e7-requires
-degrees-e7-requires c κs = search needs
-
 returns : tie.Need-returns
 returns c =
     let degrees = c .degrees-e7 in
     rw (toZ-ofZ w64 (degrees .result) (record { sfits = degrees .ok }), degrees .ensures, toZ-ofZ w32 (c .before .args .n) (c .before .fits .n))
 
 pub angle-spec : {M : Type 1} → statement M
-angle-spec = tie.close (tie.spec degrees-e7-requires returns)
+angle-spec = tie.close (tie.spec (λ c κs. search needs) returns)

@@ -6,15 +6,6 @@ use borrow.Author.Needs.{needs}
 use Rattle.report_text.proofs.readings.of_rate.Statement.{statement}
 use Rattle.report_text.proofs.readings.of_rate.Tie as tie
 
-enum-told : tie.Need-enum-told
-enum-told c = search needs
-
-enum-known-means : tie.Need-enum-known-means
-enum-known-means c = search needs
-
-signed-32-requires : tie.Need-signed-32-requires
-signed-32-requires c κs = search needs
-
 returns : tie.Need-returns
 returns c = rw (c .enum-told .given .1)
 
@@ -24,4 +15,4 @@ returns-2 c =
     rw (c .before .before .means .given .1) (rw (toZ-ofZ w32 z (record { sfits = omega (arith, c .before .known-told .given) })) at (c .signed-32 .ensures))
 
 pub of-rate-spec : {M : Type 1} → statement M
-of-rate-spec = tie.close (tie.spec enum-told enum-known-means signed-32-requires returns returns-2)
+of-rate-spec = tie.close (tie.spec (λ c. search needs) (λ c. search needs) (λ c κs. search needs) returns returns-2)

@@ -7,14 +7,8 @@ use borrow.Author.Needs.{needs}
 use Rattle.report_text.proofs.readings.rate.Statement.{statement}
 use Rattle.report_text.proofs.readings.rate.Tie as tie
 
-rate-in-feet-per-minute-requires : tie.Need-rate-in-feet-per-minute-requires
-rate-in-feet-per-minute-requires c κs = search needs
-
-of-rate-requires : tie.Need-of-rate-requires
-of-rate-requires c κs = search needs
-
 returns : tie.Need-returns
 returns c = rw (← toZ-ofZ w16 (c .before .before .args .n) (c .before .before .fits .n)) (c .of-rate .ensures ∙ ap rateReading (c .before .rate-in-feet-per-minute .ensures))
 
 pub rate-spec : {M : Type 1} → statement M
-rate-spec = tie.close (tie.spec rate-in-feet-per-minute-requires of-rate-requires returns)
+rate-spec = tie.close (tie.spec (λ c κs. search needs) (λ c κs. search needs) returns)

@@ -7,17 +7,8 @@ use borrow.Author.Needs.{needs}
 use Rattle.report_text.proofs.readings.track.Statement.{statement}
 use Rattle.report_text.proofs.readings.track.Tie as tie
 
-mul-steps : tie.Need-mul-steps
-mul-steps c = search needs
-
-cast-angle : tie.Need-cast-angle
-cast-angle c = search needs
-
-angle-requires : tie.Need-angle-requires
-angle-requires c κs = search needs
-
 returns : tie.Need-returns
 returns c = rw (toZ-pos w32 (c .before .args .n * 65536) (omega arith)) at (c .angle .ensures)
 
 pub track-spec : {M : Type 1} → statement M
-track-spec = tie.close (tie.spec mul-steps cast-angle angle-requires returns)
+track-spec = tie.close (tie.spec (λ c. search needs) (λ c. search needs) (λ c κs. search needs) returns)
