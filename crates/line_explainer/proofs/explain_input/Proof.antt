@@ -1,67 +1,45 @@
--- `line_explainer::explain_input` is safe and ends: the turns are counted down, and what is lent keeps its length. Assumes
--- nothing.
-use mathlib.Core.Path.{_≡_, refl, _∙_}
+-- `line_explainer::explain_input` is safe and ends: each turn leaves fewer, and what is lent keeps its length. Assumes nothing.
+use mathlib.Core.Path.{_≡_, refl, sym, _∙_}
+use Prim.Native.Nat.{_≤_}
+use native.Mathlib.Omega.{arith}
+use denote.Ref.{now}
 use lib.ListN.{length}
+use lib.Seq.{length-take-le}
+use Rattle.standard_streams.proofs.Turns.{Onward, reads-onward, turns-onward}
 use borrow.Author.Needs.{needs}
 use Rattle.line_explainer.proofs.explain_input.Statement.{statement}
 use Rattle.line_explainer.proofs.explain_input.Tie as tie
 
 abbrev Inv-loop : tie.InvT-loop
-Inv-loop store₀ room₀ block₀ text₀ rest₀ counts₀ turns₀ store room block text rest counts turns = length block ≡ length block₀
+Inv-loop store₀ room₀ block₀ text₀ rest₀ counts₀ turn₀ store room block text rest counts turn = (length block ≡ length block₀) × (turn .octets ≤ length block)
 
 abbrev μ-loop : tie.MeasureT-loop
-μ-loop store₀ room₀ block₀ text₀ rest₀ counts₀ turns₀ store room block text rest counts turns = turns
+μ-loop store₀ room₀ block₀ text₀ rest₀ counts₀ turn₀ store room block text rest counts turn = turn .left
 
-fresh-rest-requires : tie.Need-fresh-rest-requires Inv-loop μ-loop
-fresh-rest-requires c κs = search needs
-
-zero-counts-requires : tie.Need-zero-counts-requires Inv-loop μ-loop
-zero-counts-requires c κs = search needs
+-- what follows a turn is within the block, and leaves fewer
+onward : (c : tie.After-next-turn Inv-loop μ-loop)
+    → let l = c .before .before .before .before .before .before .before .before .before .before .before .loop in Onward (l .turn .left) (length (l .block)) (c .next-turn .result)
+onward c =
+    let l = c .before .before .before .before .before .before .before .before .before .before .before .loop in
+    turns-onward (l .turn .left) (length (l .block)) 0 (c .next-turn .result) (c .before .before .before .before .explain-block .result .input) (c .next-turn .ensures)
 
 loop-holds : tie.Need-loop-holds Inv-loop μ-loop
-loop-holds c = refl
+loop-holds c = let a = c .before .before .before .before .before .before .before .args in let t = c .before .before .first-turn in (refl, omega (arith, reads-onward _ (length (now (a .block))) 0 (t .result) (t .result .input) (t .ensures) .within, t .kept .0))
 
-explain-more-requires : tie.Need-explain-more-requires Inv-loop μ-loop
-explain-more-requires c κs = search needs
+slice-reshare-prefix-explain-block : tie.Need-slice-reshare-prefix-explain-block Inv-loop μ-loop
+slice-reshare-prefix-explain-block c = c .before .before .before .before .loop .inv .1
 
-enum-told : tie.Need-enum-told Inv-loop μ-loop
-enum-told c = search needs
-
-enum-told-2 : tie.Need-enum-told-2 Inv-loop μ-loop
-enum-told-2 c = search needs
-
-write-closing-requires : tie.Need-write-closing-requires Inv-loop μ-loop
-write-closing-requires c κs = search needs
-
-same-length : tie.Need-same-length Inv-loop μ-loop
-same-length c = c .before .before .before .before .before .before .before .before .explain-more .kept .1 .1 .1 .1 .0 ∙ c .before .before .before .before .before .before .before .before .before .before .before .before .before .before .loop .inv
-
-returns : tie.Need-returns Inv-loop μ-loop
-returns c = search needs
-
-enum-told-3 : tie.Need-enum-told-3 Inv-loop μ-loop
-enum-told-3 c = search needs
-
-same-length-2 : tie.Need-same-length-2 Inv-loop μ-loop
-same-length-2 c = c .before .before .before .before .before .before .explain-more .kept .1 .1 .1 .1 .0 ∙ c .before .before .before .before .before .before .before .before .before .before .before .before .loop .inv
-
-returns-2 : tie.Need-returns-2 Inv-loop μ-loop
-returns-2 c = search needs
-
-sub-turns : tie.Need-sub-turns Inv-loop μ-loop
-sub-turns c = search needs
+slice-aggregate-explain-block : tie.Need-slice-aggregate-explain-block Inv-loop μ-loop
+slice-aggregate-explain-block c = sym (length-take-le _ _ (c .before .before .before .before .before .loop .inv .1))
 
 loop-less : tie.Need-loop-less Inv-loop μ-loop
-loop-less c = search needs
+loop-less c = omega (arith, onward (c .before .before) .fewer, c .before .before .before .before .before .before .before .before .before .before .before .if1 .taken)
 
 loop-again : tie.Need-loop-again Inv-loop μ-loop
-loop-again c = c .before .before .before .before .before .before .explain-more .kept .1 .1 .1 .1 .0 ∙ c .before .before .before .before .before .before .before .before .before .before .before .before .loop .inv
+loop-again c = let t = c .before .before .next-turn in (t .kept .1 .0 ∙ c .before .before .before .before .before .before .before .before .before .before .before .before .before .loop .inv .0, omega (arith, onward (c .before .before) .within, t .kept .1 .0))
 
-same-length-3 : tie.Need-same-length-3 Inv-loop μ-loop
-same-length-3 c = c .before .loop .inv
-
-returns-3 : tie.Need-returns-3 Inv-loop μ-loop
-returns-3 c = search needs
+same-length : tie.Need-same-length Inv-loop μ-loop
+same-length c = c .before .before .before .before .loop .inv .0 ∙ c .before .before .before .before .before .before .before .first-turn .kept .0
 
 pub explain-input-spec : {M : Type 1} → statement M
 explain-input-spec =
@@ -69,20 +47,16 @@ explain-input-spec =
     (tie.spec
     Inv-loop
     μ-loop
-    fresh-rest-requires
-    zero-counts-requires
+    (λ c κs. search needs)
+    (λ c κs. search needs)
+    (λ c κs. search needs)
     loop-holds
-    explain-more-requires
-    enum-told
-    enum-told-2
-    write-closing-requires
-    same-length
-    returns
-    enum-told-3
-    same-length-2
-    returns-2
-    sub-turns
+    slice-reshare-prefix-explain-block
+    slice-aggregate-explain-block
+    (λ c κs. search needs)
+    (λ c κs. search needs)
     loop-less
     loop-again
-    same-length-3
-    returns-3)
+    (λ c κs. search needs)
+    same-length
+    (λ c. search needs))

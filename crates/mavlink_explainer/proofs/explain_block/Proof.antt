@@ -30,32 +30,11 @@ explained c =
     take-all (length block - used) (drop used block) (simp length-drop (omega arith)) in
     rw all at (c .explain-frame .ensures)
 
-least-octets-requires : tie.Need-least-octets-requires Inv-loop μ-loop
-least-octets-requires c κs = search needs
-
 loop-holds : tie.Need-loop-holds Inv-loop μ-loop
 loop-holds c = (omega arith, from-start (c .least-octets .result) (now (c .before .before .args .block)))
 
 sub-used : tie.Need-sub-used Inv-loop μ-loop
 sub-used c = omega (arith, c .before .loop .inv .0)
-
-sub-explain-frame : tie.Need-sub-explain-frame Inv-loop μ-loop
-sub-explain-frame c = search needs
-
-part-explain-frame-start : tie.Need-part-explain-frame-start Inv-loop μ-loop
-part-explain-frame-start c = search needs
-
-part-explain-frame-end : tie.Need-part-explain-frame-end Inv-loop μ-loop
-part-explain-frame-end c = search needs
-
-explain-frame-requires : tie.Need-explain-frame-requires Inv-loop μ-loop
-explain-frame-requires c κs = search needs
-
-write-first-requires : tie.Need-write-first-requires Inv-loop μ-loop
-write-first-requires c κs = search needs
-
-told-requires : tie.Need-told-requires Inv-loop μ-loop
-told-requires c κs = search needs
 
 returns : tie.Need-returns Inv-loop μ-loop
 returns c =
@@ -65,9 +44,6 @@ returns c =
     let least = c .before .before .before .before .before .before .before .before .before .before .least-octets in
     let within : l .left ≤ length block = omega (arith, l .inv .0) in
     rw (c .told .ensures) (record { leaves = record { carries = tt; within = within }; explored = tt })
-
-told-requires-2 : tie.Need-told-requires-2 Inv-loop μ-loop
-told-requires-2 c κs = search needs
 
 returns-2 : tie.Need-returns-2 Inv-loop μ-loop
 returns-2 c =
@@ -102,12 +78,6 @@ loop-again c =
 sub-told : tie.Need-sub-told Inv-loop μ-loop
 sub-told c = omega (arith, c .before .loop .inv .0)
 
-goes-on-requires : tie.Need-goes-on-requires Inv-loop μ-loop
-goes-on-requires c κs = search needs
-
-told-requires-3 : tie.Need-told-requires-3 Inv-loop μ-loop
-told-requires-3 c κs = search needs
-
 returns-3 : tie.Need-returns-3 Inv-loop μ-loop
 returns-3 c =
     let l = c .before .before .before .loop in
@@ -124,23 +94,23 @@ explain-block-spec =
     (tie.spec
     Inv-loop
     μ-loop
-    least-octets-requires
+    (λ c κs. search needs)
     loop-holds
     sub-used
-    sub-explain-frame
-    part-explain-frame-start
-    part-explain-frame-end
-    explain-frame-requires
-    write-first-requires
-    told-requires
+    (λ c. search needs)
+    (λ c. search needs)
+    (λ c. search needs)
+    (λ c κs. search needs)
+    (λ c κs. search needs)
+    (λ c κs. search needs)
     returns
-    told-requires-2
+    (λ c κs. search needs)
     returns-2
     add-count
     sub-left
     loop-less
     loop-again
     sub-told
-    goes-on-requires
-    told-requires-3
+    (λ c κs. search needs)
+    (λ c κs. search needs)
     returns-3)

@@ -3,14 +3,8 @@ use borrow.Author.Needs.{needs}
 use Rattle.mavlink_explainer.proofs.told.Statement.{statement}
 use Rattle.mavlink_explainer.proofs.told.Tie as tie
 
-wrapping-add-u64-requires : tie.Need-wrapping-add-u64-requires
-wrapping-add-u64-requires c κs = search needs
-
-wrapping-add-u64-requires-2 : tie.Need-wrapping-add-u64-requires-2
-wrapping-add-u64-requires-2 c κs = search needs
-
 returns : tie.Need-returns
 returns c = rw (c .before .wrapping-add-u64 .ensures, c .wrapping-add-u642 .ensures)
 
 pub told-spec : {M : Type 1} → statement M
-told-spec = tie.close (tie.spec wrapping-add-u64-requires wrapping-add-u64-requires-2 returns)
+told-spec = tie.close (tie.spec (λ c κs. search needs) (λ c κs. search needs) returns)
