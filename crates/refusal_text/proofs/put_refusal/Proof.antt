@@ -5,18 +5,6 @@ use Rattle.text_output.proofs.Clipped.{then}
 use Rattle.refusal_text.proofs.put_refusal.Statement.{statement}
 use Rattle.refusal_text.proofs.put_refusal.Tie as tie
 
-slice-aggregate-put-word : tie.Need-slice-aggregate-put-word
-slice-aggregate-put-word c = refl
-
-put-word-requires : tie.Need-put-word-requires
-put-word-requires c κs = tt
-
-put-natural-requires : tie.Need-put-natural-requires
-put-natural-requires c κs = tt
-
-put-reason-requires : tie.Need-put-reason-requires
-put-reason-requires c κs = tt
-
 returns : tie.Need-returns
 unfolding refusal
 returns c = then (c .before .before .before .before .put-word .ensures) (then (c .before .before .put-natural .ensures) (c .put-reason .ensures))
@@ -25,8 +13,8 @@ pub put-refusal-spec : {M : Type 1} → statement M
 put-refusal-spec =
     tie.close
     (tie.spec
-    slice-aggregate-put-word
-    put-word-requires
-    put-natural-requires
-    put-reason-requires
+    (λ c. refl)
+    (λ c κs. tt)
+    (λ c κs. tt)
+    (λ c κs. tt)
     returns)
