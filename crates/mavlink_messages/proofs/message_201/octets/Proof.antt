@@ -7,12 +7,6 @@ use borrow.Author.Needs.{needs}
 use Rattle.mavlink_messages.proofs.message_201.octets.Statement.{statement}
 use Rattle.mavlink_messages.proofs.message_201.octets.Tie as tie
 
-little-24-requires : tie.Need-little-24-requires
-little-24-requires c κs = search needs
-
-little-16-requires : tie.Need-little-16-requires
-little-16-requires c κs = search needs
-
 returns : tie.Need-returns
 unfolding bodyOf
 returns c =
@@ -31,4 +25,4 @@ returns c =
     ∷ []
 
 pub octets-spec : {M : Type 1} → statement M
-octets-spec = tie.close (tie.spec little-24-requires little-16-requires returns)
+octets-spec = tie.close (tie.spec (λ c κs. search needs) (λ c κs. search needs) returns)

@@ -10,33 +10,6 @@ use borrow.Author.Needs.{needs}
 use Rattle.mavlink_messages.proofs.message_201.read.Statement.{statement}
 use Rattle.mavlink_messages.proofs.message_201.read.Tie as tie
 
-little-24-requires : tie.Need-little-24-requires
-little-24-requires c κs = search needs
-
-octet-requires : tie.Need-octet-requires
-octet-requires c κs = search needs
-
-little-16-requires : tie.Need-little-16-requires
-little-16-requires c κs = search needs
-
-text-at-requires : tie.Need-text-at-requires
-text-at-requires c κs = search needs
-
-octet-requires-2 : tie.Need-octet-requires-2
-octet-requires-2 c κs = search needs
-
-octet-requires-3 : tie.Need-octet-requires-3
-octet-requires-3 c κs = search needs
-
-octet-requires-4 : tie.Need-octet-requires-4
-octet-requires-4 c κs = search needs
-
-octet-requires-5 : tie.Need-octet-requires-5
-octet-requires-5 c κs = search needs
-
-octet-requires-6 : tie.Need-octet-requires-6
-octet-requires-6 c κs = search needs
-
 returns : tie.Need-returns
 unfolding valueIn
 returns c =
@@ -67,13 +40,13 @@ pub read-spec : {M : Type 1} → statement M
 read-spec =
     tie.close
     (tie.spec
-    little-24-requires
-    octet-requires
-    little-16-requires
-    text-at-requires
-    octet-requires-2
-    octet-requires-3
-    octet-requires-4
-    octet-requires-5
-    octet-requires-6
+    (λ c κs. search needs)
+    (λ c κs. search needs)
+    (λ c κs. search needs)
+    (λ c κs. search needs)
+    (λ c κs. search needs)
+    (λ c κs. search needs)
+    (λ c κs. search needs)
+    (λ c κs. search needs)
+    (λ c κs. search needs)
     returns)

@@ -3,86 +3,13 @@ use mathlib.Core.Path.{_≡_, _∙_}
 use Prim.Native.Nat.{ℕ}
 use denote.Ref.{now}
 use lib.ListN.{getD}
-use mir.Syntax.{w16, w32}
 use Rattle.message_formats.specs.Formats.{valueIn}
 use Rattle.message_formats.proofs.Answers.{by-octets}
 use Rattle.mavlink_messages.specs.Dynamic.{dynamicFormat}
-use Rattle.mavlink_messages.proofs.Signed.{taken}
+use Rattle.mavlink_messages.proofs.Signed.{taken-16, taken-32}
 use borrow.Author.Needs.{needs}
 use Rattle.mavlink_messages.proofs.message_202.read.Statement.{statement}
 use Rattle.mavlink_messages.proofs.message_202.read.Tie as tie
-
-little-32-requires : tie.Need-little-32-requires
-little-32-requires c κs = search needs
-
-little-32-requires-2 : tie.Need-little-32-requires-2
-little-32-requires-2 c κs = search needs
-
-signed-32-requires : tie.Need-signed-32-requires
-signed-32-requires c κs = search needs
-
-little-32-requires-3 : tie.Need-little-32-requires-3
-little-32-requires-3 c κs = search needs
-
-signed-32-requires-2 : tie.Need-signed-32-requires-2
-signed-32-requires-2 c κs = search needs
-
-little-32-requires-4 : tie.Need-little-32-requires-4
-little-32-requires-4 c κs = search needs
-
-signed-32-requires-3 : tie.Need-signed-32-requires-3
-signed-32-requires-3 c κs = search needs
-
-little-32-requires-5 : tie.Need-little-32-requires-5
-little-32-requires-5 c κs = search needs
-
-signed-32-requires-4 : tie.Need-signed-32-requires-4
-signed-32-requires-4 c κs = search needs
-
-little-32-requires-6 : tie.Need-little-32-requires-6
-little-32-requires-6 c κs = search needs
-
-little-16-requires : tie.Need-little-16-requires
-little-16-requires c κs = search needs
-
-little-16-requires-2 : tie.Need-little-16-requires-2
-little-16-requires-2 c κs = search needs
-
-little-16-requires-3 : tie.Need-little-16-requires-3
-little-16-requires-3 c κs = search needs
-
-signed-16-requires : tie.Need-signed-16-requires
-signed-16-requires c κs = search needs
-
-little-16-requires-4 : tie.Need-little-16-requires-4
-little-16-requires-4 c κs = search needs
-
-signed-16-requires-2 : tie.Need-signed-16-requires-2
-signed-16-requires-2 c κs = search needs
-
-little-16-requires-5 : tie.Need-little-16-requires-5
-little-16-requires-5 c κs = search needs
-
-signed-16-requires-3 : tie.Need-signed-16-requires-3
-signed-16-requires-3 c κs = search needs
-
-little-16-requires-6 : tie.Need-little-16-requires-6
-little-16-requires-6 c κs = search needs
-
-little-16-requires-7 : tie.Need-little-16-requires-7
-little-16-requires-7 c κs = search needs
-
-octet-requires : tie.Need-octet-requires
-octet-requires c κs = search needs
-
-octet-requires-2 : tie.Need-octet-requires-2
-octet-requires-2 c κs = search needs
-
-octet-requires-3 : tie.Need-octet-requires-3
-octet-requires-3 c κs = search needs
-
-octet-requires-4 : tie.Need-octet-requires-4
-octet-requires-4 c κs = search needs
 
 returns : tie.Need-returns
 unfolding valueIn
@@ -107,16 +34,16 @@ returns c =
     let s = at-utc .before .before in
     (λ i. record {
       utc = (at-utc .little-32 .ensures) i;
-      latitude = taken w32 2147483648 (at-latitude .signed-32 .ensures) (record { sfits = at-latitude .signed-32 .ok }) (at-latitude .before .little-322 .ensures) i;
-      longitude = taken w32 2147483648 (at-longitude .signed-322 .ensures) (record { sfits = at-longitude .signed-322 .ok }) (at-longitude .before .little-323 .ensures) i;
-      pressure = taken w32 2147483648 (at-pressure .signed-323 .ensures) (record { sfits = at-pressure .signed-323 .ok }) (at-pressure .before .little-324 .ensures) i;
-      gnss = taken w32 2147483648 (at-gnss .signed-324 .ensures) (record { sfits = at-gnss .signed-324 .ok }) (at-gnss .before .little-325 .ensures) i;
+      latitude = taken-32 (at-latitude .signed-32 .ensures) (at-latitude .signed-32 .ok) (at-latitude .before .little-322 .ensures) i;
+      longitude = taken-32 (at-longitude .signed-322 .ensures) (at-longitude .signed-322 .ok) (at-longitude .before .little-323 .ensures) i;
+      pressure = taken-32 (at-pressure .signed-323 .ensures) (at-pressure .signed-323 .ok) (at-pressure .before .little-324 .ensures) i;
+      gnss = taken-32 (at-gnss .signed-324 .ensures) (at-gnss .signed-324 .ok) (at-gnss .before .little-325 .ensures) i;
       horizontal = (at-horizontal .little-326 .ensures) i;
       vertical = (at-vertical .little-16 .ensures) i;
       velocity = (at-velocity .little-162 .ensures) i;
-      climb = taken w16 32768 (at-climb .signed-16 .ensures) (record { sfits = at-climb .signed-16 .ok }) (at-climb .before .little-163 .ensures) i;
-      north = taken w16 32768 (at-north .signed-162 .ensures) (record { sfits = at-north .signed-162 .ok }) (at-north .before .little-164 .ensures) i;
-      east = taken w16 32768 (at-east .signed-163 .ensures) (record { sfits = at-east .signed-163 .ok }) (at-east .before .little-165 .ensures) i;
+      climb = taken-16 (at-climb .signed-16 .ensures) (at-climb .signed-16 .ok) (at-climb .before .little-163 .ensures) i;
+      north = taken-16 (at-north .signed-162 .ensures) (at-north .signed-162 .ok) (at-north .before .little-164 .ensures) i;
+      east = taken-16 (at-east .signed-163 .ensures) (at-east .signed-163 .ok) (at-east .before .little-165 .ensures) i;
       state = (at-state .little-166 .ensures) i;
       squawk = (at-squawk .little-167 .ensures) i;
       fix = (at-fix .octet .ensures) i;
@@ -130,28 +57,28 @@ pub read-spec : {M : Type 1} → statement M
 read-spec =
     tie.close
     (tie.spec
-    little-32-requires
-    little-32-requires-2
-    signed-32-requires
-    little-32-requires-3
-    signed-32-requires-2
-    little-32-requires-4
-    signed-32-requires-3
-    little-32-requires-5
-    signed-32-requires-4
-    little-32-requires-6
-    little-16-requires
-    little-16-requires-2
-    little-16-requires-3
-    signed-16-requires
-    little-16-requires-4
-    signed-16-requires-2
-    little-16-requires-5
-    signed-16-requires-3
-    little-16-requires-6
-    little-16-requires-7
-    octet-requires
-    octet-requires-2
-    octet-requires-3
-    octet-requires-4
+    (λ c κs. search needs)
+    (λ c κs. search needs)
+    (λ c κs. search needs)
+    (λ c κs. search needs)
+    (λ c κs. search needs)
+    (λ c κs. search needs)
+    (λ c κs. search needs)
+    (λ c κs. search needs)
+    (λ c κs. search needs)
+    (λ c κs. search needs)
+    (λ c κs. search needs)
+    (λ c κs. search needs)
+    (λ c κs. search needs)
+    (λ c κs. search needs)
+    (λ c κs. search needs)
+    (λ c κs. search needs)
+    (λ c κs. search needs)
+    (λ c κs. search needs)
+    (λ c κs. search needs)
+    (λ c κs. search needs)
+    (λ c κs. search needs)
+    (λ c κs. search needs)
+    (λ c κs. search needs)
+    (λ c κs. search needs)
     returns)

@@ -10,9 +10,6 @@ use borrow.Author.Needs.{needs}
 use Rattle.mavlink_messages.proofs.message_203.read.Statement.{statement}
 use Rattle.mavlink_messages.proofs.message_203.read.Tie as tie
 
-octet-requires : tie.Need-octet-requires
-octet-requires c κs = search needs
-
 returns : tie.Need-returns
 unfolding valueIn
 returns c =
@@ -24,4 +21,4 @@ returns c =
     ∙ by-octets statusFormat 1 (now (s .args .payload)) (s .pre)
 
 pub read-spec : {M : Type 1} → statement M
-read-spec = tie.close (tie.spec octet-requires returns)
+read-spec = tie.close (tie.spec (λ c κs. search needs) returns)

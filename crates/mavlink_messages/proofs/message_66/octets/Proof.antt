@@ -6,9 +6,6 @@ use borrow.Author.Needs.{needs}
 use Rattle.mavlink_messages.proofs.message_66.octets.Statement.{statement}
 use Rattle.mavlink_messages.proofs.message_66.octets.Tie as tie
 
-little-16-requires : tie.Need-little-16-requires
-little-16-requires c κs = search needs
-
 returns : tie.Need-returns
 unfolding bodyOf
 returns c =
@@ -22,4 +19,4 @@ returns c =
     ∷ []
 
 pub octets-spec : {M : Type 1} → statement M
-octets-spec = tie.close (tie.spec little-16-requires returns)
+octets-spec = tie.close (tie.spec (λ c κs. search needs) returns)

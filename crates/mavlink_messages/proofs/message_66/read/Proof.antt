@@ -10,21 +10,6 @@ use borrow.Author.Needs.{needs}
 use Rattle.mavlink_messages.proofs.message_66.read.Statement.{statement}
 use Rattle.mavlink_messages.proofs.message_66.read.Tie as tie
 
-little-16-requires : tie.Need-little-16-requires
-little-16-requires c κs = search needs
-
-octet-requires : tie.Need-octet-requires
-octet-requires c κs = search needs
-
-octet-requires-2 : tie.Need-octet-requires-2
-octet-requires-2 c κs = search needs
-
-octet-requires-3 : tie.Need-octet-requires-3
-octet-requires-3 c κs = search needs
-
-octet-requires-4 : tie.Need-octet-requires-4
-octet-requires-4 c κs = search needs
-
 returns : tie.Need-returns
 unfolding valueIn
 returns c =
@@ -47,9 +32,9 @@ pub read-spec : {M : Type 1} → statement M
 read-spec =
     tie.close
     (tie.spec
-    little-16-requires
-    octet-requires
-    octet-requires-2
-    octet-requires-3
-    octet-requires-4
+    (λ c κs. search needs)
+    (λ c κs. search needs)
+    (λ c κs. search needs)
+    (λ c κs. search needs)
+    (λ c κs. search needs)
     returns)

@@ -35,24 +35,6 @@ behind first last rest h e =
     let all = stored last rest (le-of-eq h) (rw (k, part, take-length rest) at e) in
     rw (all, k, take-at first rest (length first) refl, part, h, drop-length rest, append-nil last, append-nil last)
 
-store-requires : tie.Need-store-requires
-store-requires c κs = search needs
-
-sub-store : tie.Need-sub-store
-sub-store c = search needs
-
-part-store-start : tie.Need-part-store-start
-part-store-start c = search needs
-
-part-store-end : tie.Need-part-store-end
-part-store-end c = search needs
-
-store-requires-2 : tie.Need-store-requires-2
-store-requires-2 c κs = search needs
-
-same-length : tie.Need-same-length
-same-length c = search needs
-
 returns : tie.Need-returns
 returns c =
     let one = c .before .before .before .before .before .before in
@@ -67,10 +49,10 @@ pub join-spec : {M : Type 1} → statement M
 join-spec =
     tie.close
     (tie.spec
-    store-requires
-    sub-store
-    part-store-start
-    part-store-end
-    store-requires-2
-    same-length
+    (λ c κs. search needs)
+    (λ c. search needs)
+    (λ c. search needs)
+    (λ c. search needs)
+    (λ c κs. search needs)
+    (λ c. search needs)
     returns)

@@ -9,12 +9,6 @@ use borrow.Author.Needs.{needs}
 use Rattle.mavlink_messages.proofs.numbers.signed_16.Statement.{statement}
 use Rattle.mavlink_messages.proofs.numbers.signed_16.Tie as tie
 
-bits-16-requires : tie.Need-bits-16-requires
-bits-16-requires c κs = search needs
-
-little-16-requires : tie.Need-little-16-requires
-little-16-requires c κs = search needs
-
 returns : tie.Need-returns
 returns c =
     let s = c .before .before in
@@ -22,4 +16,4 @@ returns c =
     (c .little-16 .ensures ∙ ap (λ (k : ℕ). runOctets (low 2) (k ∷ [])) (c .before .bits-16 .ensures))
 
 pub signed-16-spec : {M : Type 1} → statement M
-signed-16-spec = tie.close (tie.spec bits-16-requires little-16-requires returns)
+signed-16-spec = tie.close (tie.spec (λ c κs. search needs) (λ c κs. search needs) returns)

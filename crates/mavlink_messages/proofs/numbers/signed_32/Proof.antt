@@ -9,12 +9,6 @@ use borrow.Author.Needs.{needs}
 use Rattle.mavlink_messages.proofs.numbers.signed_32.Statement.{statement}
 use Rattle.mavlink_messages.proofs.numbers.signed_32.Tie as tie
 
-bits-32-requires : tie.Need-bits-32-requires
-bits-32-requires c κs = search needs
-
-little-32-requires : tie.Need-little-32-requires
-little-32-requires c κs = search needs
-
 returns : tie.Need-returns
 returns c =
     let s = c .before .before in
@@ -22,4 +16,4 @@ returns c =
     (c .little-32 .ensures ∙ ap (λ (k : ℕ). runOctets (low 4) (k ∷ [])) (c .before .bits-32 .ensures))
 
 pub signed-32-spec : {M : Type 1} → statement M
-signed-32-spec = tie.close (tie.spec bits-32-requires little-32-requires returns)
+signed-32-spec = tie.close (tie.spec (λ c κs. search needs) (λ c κs. search needs) returns)
