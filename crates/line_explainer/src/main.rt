@@ -11,7 +11,6 @@ ghost use Rattle.standard_streams.specs.Blocks.{Zeroed};
 use byte_account::Counts;
 use line_streams::Progress;
 use receiver::Rest;
-use standard_streams::Got;
 use standard_streams::Input;
 
 // Explains the octets of a block, and writes each line out.
@@ -50,33 +49,7 @@ fn explain_block(
     }
 }
 
-// One block: read, explained and written out.
-fn explain_more(
-    rest: Rest,
-    counts: Counts,
-    store: &mut [u8; 438],
-    room: &mut [u8; 436],
-    block: &mut [u8],
-    text: &mut [u8; 1536],
-) -> Progress {
-    let got = standard_streams::read_block(block);
-    match got {
-        Got::Octets(n) => explain_block(rest, counts, store, room, &block[..n], text),
-        Got::Ended => Progress {
-            rest: rest,
-            counts: counts,
-            input: Input::Ended,
-        },
-        Got::Failed => Progress {
-            rest: rest,
-            counts: counts,
-            input: Input::Failed,
-        },
-    }
-}
-
-// Explains all of the input, and answers whether it came to its end and all was written. The turns are counted down as the
-// line lister counts them.
+// Explains all of the input, and answers whether it came to its end and all was written.
 fn explain_input(
     store: &mut [u8; 438],
     room: &mut [u8; 436],
@@ -85,20 +58,17 @@ fn explain_input(
 ) -> bool {
     let mut rest = receiver::fresh_rest();
     let mut counts = byte_account::zero_counts();
-    let mut turns = u64::MAX;
-    while turns > 0 {
-        let progress = explain_more(rest, counts, store, room, block, text);
+    let mut turn = standard_streams::first_turn(block);
+    while turn.left > 0 {
+        let end = turn.octets;
+        let progress = explain_block(rest, counts, store, room, &block[..end], text);
         rest = progress.rest;
         counts = progress.counts;
-        let input = progress.input;
-        match input {
-            Input::More => {}
-            Input::Ended => return line_streams::write_closing(text, counts),
-            Input::Failed => return false,
-        }
-        turns -= 1;
+        let told = progress.input;
+        turn = standard_streams::next_turn(told, block, 0, turn.left);
     }
-    false
+    let input = turn.input;
+    line_streams::write_ending(input, text, counts)
 }
 
 // Frames, and what they say, passed through all of these.

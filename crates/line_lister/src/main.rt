@@ -14,7 +14,6 @@ ghost use Rattle.line_streams.specs.Records.{Leaves};
 use byte_account::Counts;
 use line_streams::Progress;
 use receiver::Rest;
-use standard_streams::Got;
 use standard_streams::Input;
 
 // Lists the octets of a block, and writes the text out each time that it is full, and at the block's end.
@@ -53,35 +52,7 @@ fn list_block(
     }
 }
 
-// One block: read, listed and written out.
-fn list_next(
-    rest: Rest,
-    counts: Counts,
-    store: &mut [u8; 438],
-    room: &mut [u8; 436],
-    block: &mut [u8],
-    text: &mut [u8],
-) -> Progress
-    requires { ⌜ longestLine ≤ length (now text) ⌝ }
-{
-    let got = standard_streams::read_block(block);
-    match got {
-        Got::Octets(n) => list_block(rest, counts, store, room, &block[..n], text),
-        Got::Ended => Progress {
-            rest: rest,
-            counts: counts,
-            input: Input::Ended,
-        },
-        Got::Failed => Progress {
-            rest: rest,
-            counts: counts,
-            input: Input::Failed,
-        },
-    }
-}
-
-// Lists all of the input, and answers whether it came to its end and all was written. A proved loop has to end, and nothing
-// says that an input does: the turns are counted down from a number that no run uses up.
+// Lists all of the input, and answers whether it came to its end and all was written.
 fn list_input(
     store: &mut [u8; 438],
     room: &mut [u8; 436],
@@ -92,20 +63,17 @@ fn list_input(
 {
     let mut rest = receiver::fresh_rest();
     let mut counts = byte_account::zero_counts();
-    let mut turns = u64::MAX;
-    while turns > 0 {
-        let progress = list_next(rest, counts, store, room, block, text);
+    let mut turn = standard_streams::first_turn(block);
+    while turn.left > 0 {
+        let end = turn.octets;
+        let progress = list_block(rest, counts, store, room, &block[..end], text);
         rest = progress.rest;
         counts = progress.counts;
-        let input = progress.input;
-        match input {
-            Input::More => {}
-            Input::Ended => return line_streams::write_closing(text, counts),
-            Input::Failed => return false,
-        }
-        turns -= 1;
+        let told = progress.input;
+        turn = standard_streams::next_turn(told, block, 0, turn.left);
     }
-    false
+    let input = turn.input;
+    line_streams::write_ending(input, text, counts)
 }
 
 fn main() {

@@ -1,6 +1,6 @@
 -- What a block of the input leaves of the receiver's record, and the closing line. Assumes nothing.
 use mathlib.Core.Path.{_≡_}
-use mathlib.Core.Bool.{Bool}
+use mathlib.Core.Bool.{Bool, false}
 use mathlib.Core.List.{List}
 use Prim.Native.Nat.{ℕ}
 use Rattle.byte_account.specs.declared.Counts.{Counts}
@@ -22,3 +22,9 @@ pub record Closed (counts : Counts) (before : List ℕ) (written : Bool) (after 
   pub next : ℕ
   pub line : Closes before 0 counts next after
   pub tells : WrittenIfEmpty next written
+
+-- how a program closes, by how far the input is told
+abbrev pub Ends : Input → Counts → List ℕ → Bool → List ℕ → Type 0
+Ends More counts before written after = (written ≡ false) × (after ≡ before)
+Ends Ended counts before written after = Closed counts before written after
+Ends Failed counts before written after = (written ≡ false) × (after ≡ before)

@@ -1,7 +1,7 @@
 // What the programs that read the UCP line share, over the standard streams: the receiver's record from block to block, the
 // closing line, and clearing what was lent.
 ghost use Rattle.standard_streams.specs.Blocks.{Zeroed};
-ghost use Rattle.line_streams.specs.Records.{Closed};
+ghost use Rattle.line_streams.specs.Records.{Closed, Ends};
 use byte_account::Counts;
 use receiver::Rest;
 use standard_streams::Input;
@@ -19,6 +19,17 @@ pub fn write_closing(text: &mut [u8], counts: Counts) -> bool
 {
     let n = listing::put_closing(text, 0, counts);
     standard_streams::write_out(&text[..n])
+}
+
+// The closing line stands only behind an input that was read to its end: whether it was, and the line was written.
+pub fn write_ending(input: Input, text: &mut [u8], counts: Counts) -> bool
+    ensures { λ r. ⌜ Ends input counts (now (text .entry)) r (now (text .exit)) ⌝ }
+{
+    match input {
+        Input::More => false,
+        Input::Ended => write_closing(text, counts),
+        Input::Failed => false,
+    }
 }
 
 // Frames passed through all of these.

@@ -8,9 +8,6 @@ use native.Mathlib.Numerals.{add-one}
 use native.Mathlib.Omega.{arith}
 use lib.ListN.{length, set, getD, drop, length-drop}
 use lib.Seq.{paste, paste-suc, drop-paste, getD-drop, drop-drop}
-use Rattle.standard_streams.specs.declared.Got.{Got}
-use Rattle.standard_streams.specs.declared.Got.the-variants.{Octets, Ended as NoMore, Failed as ReadFailed}
-use Rattle.standard_streams.specs.Blocks.{Within}
 use Rattle.standard_streams.specs.declared.Input.the-variants.{More, Ended}
 use Rattle.mavlink_explanation.specs.declared.Explained.{Explained}
 use Rattle.mavlink_messages.specs.Messages.{readDue}
@@ -18,14 +15,7 @@ use Rattle.mavlink_explanation.specs.Explanation.{isRefused}
 use Rattle.mavlink_explanation.specs.Calls.{Explains}
 use Rattle.mavlink_explanation.specs.Decided.{frameRoom}
 use Rattle.mavlink_explanation.proofs.Used.{used-within, used-some}
-use Rattle.mavlink_explainer.specs.Blocks.{Behind, Carries, Walks, few, stops, onward, tells, UnlessFailed, Explores}
-
--- ---- reading
-
-pub read-behind : (g : Got) (part held block : ℕ) → Within g part → held + part ≤ block → Behind g held block
-read-behind (Octets n) part held block w h = omega arith
-read-behind NoMore part held block w h = tt
-read-behind ReadFailed part held block w h = tt
+use Rattle.mavlink_explainer.specs.Blocks.{Carries, Walks, few, stops, onward, tells, UnlessFailed, Explores}
 
 -- ---- explaining
 

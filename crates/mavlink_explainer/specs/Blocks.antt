@@ -4,8 +4,6 @@ use mathlib.Core.Bool.{Bool, true, false, cond}
 use mathlib.Core.List.{List}
 use Prim.Native.Nat.{ℕ, _+_, _-_, _%_, _^_, _<_, _≤_}
 use lib.ListN.{length, drop}
-use Rattle.standard_streams.specs.declared.Got.{Got}
-use Rattle.standard_streams.specs.declared.Got.the-variants.{Octets, Ended as NoMore, Failed as ReadFailed}
 use Rattle.standard_streams.specs.declared.Input.{Input}
 use Rattle.standard_streams.specs.declared.Input.the-variants.{More, Ended, Failed}
 use Rattle.mavlink_explainer.specs.declared.Progress.{Progress}
@@ -13,12 +11,6 @@ use Rattle.mavlink_messages.specs.Messages.{readDue}
 use Rattle.mavlink_explanation.specs.Explanation.{usedBy, isRefused, closingLine}
 use Rattle.mavlink_explanation.specs.Calls.{Whole}
 use Rattle.mavlink_explanation.specs.Decided.{frameRoom}
-
--- octets that were read behind those held are within the block
-abbrev pub Behind : Got → ℕ → ℕ → Type 0
-Behind (Octets n) held block = held + n ≤ block
-Behind NoMore held block = Unit {0}
-Behind ReadFailed held block = Unit {0}
 
 -- where the input goes on, fewer octets are carried over than decide a frame
 abbrev pub Carries : Input → ℕ → Type 0

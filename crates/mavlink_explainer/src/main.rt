@@ -7,14 +7,13 @@
 // standard error, and no closing line follows.
 ghost use mathlib.Core.Path.{_≡_};
 ghost use mathlib.Core.Bool.{cond};
-ghost use Prim.Native.Nat.{_-_, _<_, _≤_};
+ghost use Prim.Native.Nat.{_-_, _≤_};
 ghost use lib.ListN.{length, drop};
 ghost use lib.Seq.{paste};
 ghost use Rattle.standard_streams.specs.declared.Input.the-variants.{More, Ended};
 ghost use Rattle.standard_streams.specs.Blocks.{Zeroed};
 ghost use Rattle.mavlink_explanation.specs.Decided.{frameRoom};
-ghost use Rattle.mavlink_explainer.specs.Blocks.{Behind, Leaves, tells, Explores, Closed};
-use standard_streams::Got;
+ghost use Rattle.mavlink_explainer.specs.Blocks.{tells, Explores, Closed};
 use standard_streams::Input;
 
 // How far the frames are told: how many, the octets that they used, and how many octets behind them are left of the block.
@@ -106,43 +105,6 @@ fn carry(block: &mut [u8], from: usize, end: usize)
     }
 }
 
-// Reads behind the octets that were carried over.
-fn read_behind(block: &mut [u8], held: usize) -> Got
-    requires { ⌜ held ≤ length (now block) ⌝ }
-    ensures { λ r. ⌜ Behind r held (length (now (block .entry))) ⌝ }
-{
-    standard_streams::read_block(&mut block[held..])
-}
-
-// Reads on, and explains what is there.
-fn explain_more(
-    frames: u64,
-    bytes: u64,
-    held: usize,
-    block: &mut [u8],
-    text: &mut [u8; 1536],
-) -> Progress
-    requires { ⌜ held ≤ length (now block) ⌝ }
-    ensures { λ r. ⌜ Leaves (r .input) (r .left) (length (now (block .entry))) ⌝ }
-{
-    let got = read_behind(block, held);
-    match got {
-        Got::Octets(n) => {
-            let end = held + n;
-            let progress = explain_block(frames, bytes, false, &block[..end], text);
-            carry(block, end - progress.left, end);
-            progress
-        }
-        Got::Ended => explain_block(frames, bytes, true, &block[..held], text),
-        Got::Failed => Progress {
-            frames: frames,
-            bytes: bytes,
-            left: held,
-            input: Input::Failed,
-        },
-    }
-}
-
 // The closing line, and whether it was written.
 fn write_closing(text: &mut [u8; 1536], frames: u64, bytes: u64) -> bool
     ensures { λ r. ⌜ Closed frames bytes (now (text .entry)) (now (text .exit)) ⌝ }
@@ -151,29 +113,29 @@ fn write_closing(text: &mut [u8; 1536], frames: u64, bytes: u64) -> bool
     standard_streams::write_first(text, n)
 }
 
-// Explains all of the input, and answers whether it came to its end or to a refused frame, and all was written. The turns are
-// counted down as the line lister counts them.
-fn explain_input(block: &mut [u8], text: &mut [u8; 1536]) -> bool
-    requires { ⌜ frameRoom ≤ length (now block) ⌝ }
-{
+// Explains all of the input, and answers whether it came to its end or to a refused frame, and all was written. Octets that do
+// not decide a frame yet are carried over.
+fn explain_input(block: &mut [u8], text: &mut [u8; 1536]) -> bool {
     let mut frames: u64 = 0;
     let mut bytes: u64 = 0;
-    let mut held = 0;
-    let mut turns = u64::MAX;
-    while turns > 0 {
-        let progress = explain_more(frames, bytes, held, block, text);
+    let mut turn = standard_streams::first_turn(block);
+    while turn.left > 0 {
+        let end = turn.octets;
+        let input = turn.input;
+        let last = standard_streams::has_ended(input);
+        let progress = explain_block(frames, bytes, last, &block[..end], text);
+        let held = progress.left;
+        carry(block, end - held, end);
         frames = progress.frames;
         bytes = progress.bytes;
-        held = progress.left;
-        let input = progress.input;
-        match input {
-            Input::More => {}
-            Input::Ended => return write_closing(text, frames, bytes),
-            Input::Failed => return false,
-        }
-        turns -= 1;
+        let told = progress.input;
+        turn = standard_streams::next_turn(told, block, held, turn.left);
     }
-    false
+    let input = turn.input;
+    if !standard_streams::has_ended(input) {
+        return false;
+    }
+    write_closing(text, frames, bytes)
 }
 
 // Frames, and what they say, passed through both. What was carried over stood in the block.

@@ -1,4 +1,5 @@
 pub mod Signed
+mod Parts
 pub mod Written
 pub mod Answers
 pub mod Formats

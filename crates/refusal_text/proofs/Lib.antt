@@ -1,1 +1,2 @@
 pub mod Longest
+mod Rows

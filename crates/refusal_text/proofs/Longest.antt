@@ -1,13 +1,13 @@
 -- How long a refusal can be. Assumes nothing.
 use mathlib.Core.Bool.{false}
-use mathlib.Core.List.{List, [], _∷_, _++_}
+use mathlib.Core.List.{List, [], _∷_}
 use Prim.Native.Nat.{ℕ, _≤_, max}
 use native.Mathlib.Omega.{arith}
 use lib.Dec.{eqb}
 use lib.ListN.{length, length-append}
 use Rattle.text_output.proofs.Numerals.{numeral-most}
 use Rattle.text_output.proofs.Longest.{either-most}
-use Rattle.refusal_text.specs.Refusals.{Row, lineRows, mavlinkRows, wordsIn, reason, refusal}
+use Rattle.refusal_text.specs.Refusals.{Row, rows, wordsIn, reason, refusal}
 
 abbrev longest : List Row → ℕ
 longest [] = 8
@@ -19,4 +19,4 @@ words-most (r ∷ rs) n = either-most (eqb n (r .number)) _ _ (omega arith) (ome
 
 pub refusal-most : (n : ℕ) → length (refusal n) ≤ 59
 unfolding refusal reason
-refusal-most n = simp length-append (omega (arith, numeral-most false 10 20 n, words-most (lineRows ++ mavlinkRows) n))
+refusal-most n = simp length-append (omega (arith, numeral-most false 10 20 n, words-most rows n))

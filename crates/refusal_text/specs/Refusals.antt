@@ -14,8 +14,9 @@ infix 70 _says_
 abbrev pub _says_ : ℕ → String → Row
 number says words = record { number = number; words = codes words }
 
-abbrev pub lineRows : List Row
-lineRows =
+-- the numbers below 20 are the UCP line's, the others MAVLink's
+abbrev pub rows : List Row
+rows =
     1 says " bad escape"
     ∷ 2 says " escape before the flag"
     ∷ 3 says " too long"
@@ -26,11 +27,7 @@ lineRows =
     ∷ 11 says " wrong length"
     ∷ 12 says " wrong version, signature or subtype"
     ∷ 13 says " field outside its range"
-    ∷ []
-
-abbrev pub mavlinkRows : List Row
-mavlinkRows =
-    20 says " too few bytes"
+    ∷ 20 says " too few bytes"
     ∷ 21 says " first byte not fe"
     ∷ 22 says " unknown message"
     ∷ 23 says " wrong length"
@@ -38,13 +35,17 @@ mavlinkRows =
     ∷ 25 says " field outside its range"
     ∷ []
 
+-- where no row has the number
+abbrev pub noRow : List ℕ
+noRow = codes " refused"
+
 -- the words of the row that has a number
 abbrev pub wordsIn : List Row → ℕ → List ℕ
-wordsIn [] n = codes " refused"
+wordsIn [] n = noRow
 wordsIn (r ∷ rs) n = cond (eqb n (r .number)) (r .words) (wordsIn rs n)
 
 unfoldable pub reason : ℕ → List ℕ
-reason = wordsIn (lineRows ++ mavlinkRows)
+reason = wordsIn rows
 
 -- its number, and the words
 unfoldable pub refusal : ℕ → List ℕ

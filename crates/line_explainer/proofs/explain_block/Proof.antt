@@ -4,21 +4,21 @@ use mathlib.Core.Path.{_≡_, refl, sym, _∙_, ap}
 use Prim.Native.Nat.{_+_, _-_, _<_, _≤_}
 use native.Mathlib.Omega.{arith}
 use denote.Ref.{now}
-use lib.ListN.{length, take, drop, length-drop, drop-of-length-le}
-use lib.Seq.{take-all, drop-drop}
+use lib.ListN.{length, take, drop, length-drop}
+use lib.Seq.{take-all}
 use Rattle.receiver.specs.Step.{stateOf}
-use Rattle.listing.specs.Lists.{Behind, behindAll}
+use Rattle.listing.specs.Lists.{behindAll}
 use Rattle.listing.proofs.Runs.{takes-within}
 use Rattle.explanation.specs.Calls.{Explains}
 use Rattle.explanation.proofs.Onward.{takes-onward}
+use Rattle.line_streams.proofs.Blocks.{Reached, reached-first, reached-more, reached-last}
 use borrow.Author.Needs.{needs}
 use Rattle.line_explainer.proofs.explain_block.Statement.{statement}
 use Rattle.line_explainer.proofs.explain_block.Tie as tie
 
 abbrev Inv-loop : tie.InvT-loop
 Inv-loop store₀ room₀ block text₀ rest₀ counts₀ taken₀ store room text rest counts taken =
-    (taken ≤ length block)
-    × (behindAll (stateOf rest₀ store₀) counts₀ block ≡ behindAll (stateOf rest store) counts (drop taken block))
+    Reached block (behindAll (stateOf rest₀ store₀) counts₀ block) (stateOf rest store) counts taken
 
 abbrev μ-loop : tie.MeasureT-loop
 μ-loop store₀ room₀ block text₀ rest₀ counts₀ taken₀ store room text rest counts taken = length block - taken
@@ -46,7 +46,7 @@ turn-within c =
     (omega (arith, within .0, left), omega (arith, within .1 (omega (arith, left, c .before .before .before .before .before .loop-test .taken))))
 
 loop-holds : tie.Need-loop-holds Inv-loop μ-loop
-loop-holds c = (omega arith, refl)
+loop-holds c = reached-first (now (c .before .args .block)) _ _
 
 add-taken : tie.Need-add-taken Inv-loop μ-loop
 add-taken c = omega (arith, turn-within (c .before .before .before .before), c .before .before .before .before .before .before .before .before .before .before .before .before .good)
@@ -59,24 +59,25 @@ loop-again c =
     let t = c .before .before .before .before .before .before .before .before in
     let l = c .before .before .before .before .before .before .before .before .before .before .before .before .before .before .loop in
     let block = now (c .before .before .before .before .before .before .before .before .before .before .before .before .before .before .before .before .args .block) in
-    let more = t .explain-next .result .taken in (
-      turn-within t .0,
-      l .inv .1
-          ∙ takes-onward (explained t .takes) (explained t .long)
-          ∙ ap (behindAll (stateOf (more .rest) (t .explain-next .last .1 .1 .0)) (more .counts)) (drop-drop (more .taken) (l .taken) block),
-    )
+    reached-more block _ _ _ (l .taken) (l .inv) _ _ (t .explain-next .result .taken .taken) (takes-within (explained t .takes) .0) (takes-onward (explained t .takes) (explained t .long))
 
 returns-2 : tie.Need-returns-2 Inv-loop μ-loop
-unfolding behindAll
-returns-2 c =
-    let l = c .before .loop in
-    let block = now (c .before .before .before .args .block) in
-    let all : behindAll (stateOf (c .before .before .before .args .rest) (now (c .before .before .before .args .store))) (c .before .before .before .args .counts) block ≡ record { state = stateOf (l .rest) (l .store); counts = l .counts } =
-    l .inv .1 ∙ ap (behindAll (stateOf (l .rest) (l .store)) (l .counts)) (drop-of-length-le block (c .loop-test .left)) in
-    (sym (ap (λ (b : Behind). b .state) all), sym (ap (λ (b : Behind). b .counts) all))
+returns-2 c = reached-last (now (c .before .before .before .args .block)) _ _ _ (c .before .loop .taken) (c .before .loop .inv) (c .loop-test .left)
 
 pub explain-block-spec : {M : Type 1} → statement M
 explain-block-spec =
     tie.close
-    (tie.spec Inv-loop μ-loop loop-holds (λ c. search needs) (λ c. search needs) (λ c. search needs)
-    (λ c κs. search needs) add-taken (λ c κs. search needs) (λ c. tt) loop-less loop-again returns-2)
+    (tie.spec
+    Inv-loop
+    μ-loop
+    loop-holds
+    (λ c. search needs)
+    (λ c. search needs)
+    (λ c. search needs)
+    (λ c κs. search needs)
+    add-taken
+    (λ c κs. search needs)
+    (λ c. tt)
+    loop-less
+    loop-again
+    returns-2)

@@ -1,36 +1,62 @@
--- `line_explainer::explain_input` is safe and ends: the turns are counted down, and what is lent keeps its length. Assumes
--- nothing.
-use mathlib.Core.Path.{_≡_, refl, _∙_}
+-- `line_explainer::explain_input` is safe and ends: each turn leaves fewer, and what is lent keeps its length. Assumes nothing.
+use mathlib.Core.Path.{_≡_, refl, sym, _∙_}
+use Prim.Native.Nat.{_≤_}
+use native.Mathlib.Omega.{arith}
+use denote.Ref.{now}
 use lib.ListN.{length}
+use lib.Seq.{length-take-le}
+use Rattle.standard_streams.proofs.Turns.{Onward, reads-onward, turns-onward}
 use borrow.Author.Needs.{needs}
 use Rattle.line_explainer.proofs.explain_input.Statement.{statement}
 use Rattle.line_explainer.proofs.explain_input.Tie as tie
 
 abbrev Inv-loop : tie.InvT-loop
-Inv-loop store₀ room₀ block₀ text₀ rest₀ counts₀ turns₀ store room block text rest counts turns = length block ≡ length block₀
+Inv-loop store₀ room₀ block₀ text₀ rest₀ counts₀ turn₀ store room block text rest counts turn = (length block ≡ length block₀) × (turn .octets ≤ length block)
 
 abbrev μ-loop : tie.MeasureT-loop
-μ-loop store₀ room₀ block₀ text₀ rest₀ counts₀ turns₀ store room block text rest counts turns = turns
+μ-loop store₀ room₀ block₀ text₀ rest₀ counts₀ turn₀ store room block text rest counts turn = turn .left
+
+-- what follows a turn is within the block, and leaves fewer
+onward : (c : tie.After-next-turn Inv-loop μ-loop)
+    → let l = c .before .before .before .before .before .before .before .before .before .before .before .loop in Onward (l .turn .left) (length (l .block)) (c .next-turn .result)
+onward c =
+    let l = c .before .before .before .before .before .before .before .before .before .before .before .loop in
+    turns-onward (l .turn .left) (length (l .block)) 0 (c .next-turn .result) (c .before .before .before .before .explain-block .result .input) (c .next-turn .ensures)
 
 loop-holds : tie.Need-loop-holds Inv-loop μ-loop
-loop-holds c = refl
+loop-holds c = let a = c .before .before .before .before .before .before .before .args in let t = c .before .before .first-turn in (refl, omega (arith, reads-onward _ (length (now (a .block))) 0 (t .result) (t .result .input) (t .ensures) .within, t .kept .0))
 
-same-length : tie.Need-same-length Inv-loop μ-loop
-same-length c = c .before .before .before .before .before .before .before .before .explain-more .kept .1 .1 .1 .1 .0 ∙ c .before .before .before .before .before .before .before .before .before .before .before .before .before .before .loop .inv
+slice-reshare-prefix-explain-block : tie.Need-slice-reshare-prefix-explain-block Inv-loop μ-loop
+slice-reshare-prefix-explain-block c = c .before .before .before .before .loop .inv .1
 
-same-length-2 : tie.Need-same-length-2 Inv-loop μ-loop
-same-length-2 c = c .before .before .before .before .before .before .explain-more .kept .1 .1 .1 .1 .0 ∙ c .before .before .before .before .before .before .before .before .before .before .before .before .loop .inv
+slice-aggregate-explain-block : tie.Need-slice-aggregate-explain-block Inv-loop μ-loop
+slice-aggregate-explain-block c = sym (length-take-le _ _ (c .before .before .before .before .before .loop .inv .1))
+
+loop-less : tie.Need-loop-less Inv-loop μ-loop
+loop-less c = omega (arith, onward (c .before .before) .fewer, c .before .before .before .before .before .before .before .before .before .before .before .if1 .taken)
 
 loop-again : tie.Need-loop-again Inv-loop μ-loop
-loop-again c = c .before .before .before .before .before .before .explain-more .kept .1 .1 .1 .1 .0 ∙ c .before .before .before .before .before .before .before .before .before .before .before .before .loop .inv
+loop-again c = let t = c .before .before .next-turn in (t .kept .1 .0 ∙ c .before .before .before .before .before .before .before .before .before .before .before .before .before .loop .inv .0, omega (arith, onward (c .before .before) .within, t .kept .1 .0))
 
-same-length-3 : tie.Need-same-length-3 Inv-loop μ-loop
-same-length-3 c = c .before .loop .inv
+same-length : tie.Need-same-length Inv-loop μ-loop
+same-length c = c .before .before .before .before .loop .inv .0 ∙ c .before .before .before .before .before .before .before .first-turn .kept .0
 
 pub explain-input-spec : {M : Type 1} → statement M
 explain-input-spec =
     tie.close
-    (tie.spec Inv-loop μ-loop (λ c κs. search needs) (λ c κs. search needs) loop-holds (λ c κs. search needs)
-    (λ c. search needs) (λ c. search needs) (λ c κs. search needs) same-length (λ c. search needs) (λ c. search needs)
-    same-length-2 (λ c. search needs) (λ c. search needs) (λ c. search needs) loop-again same-length-3
+    (tie.spec
+    Inv-loop
+    μ-loop
+    (λ c κs. search needs)
+    (λ c κs. search needs)
+    (λ c κs. search needs)
+    loop-holds
+    slice-reshare-prefix-explain-block
+    slice-aggregate-explain-block
+    (λ c κs. search needs)
+    (λ c κs. search needs)
+    loop-less
+    loop-again
+    (λ c κs. search needs)
+    same-length
     (λ c. search needs))

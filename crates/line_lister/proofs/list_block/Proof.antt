@@ -4,20 +4,20 @@ use mathlib.Core.Path.{_≡_, refl, sym, _∙_, ap}
 use Prim.Native.Nat.{_+_, _-_, _<_, _≤_}
 use native.Mathlib.Omega.{arith}
 use denote.Ref.{now}
-use lib.ListN.{length, take, drop, length-drop, drop-of-length-le}
-use lib.Seq.{take-all, length-take-le, drop-drop}
+use lib.ListN.{length, take, drop, length-drop}
+use lib.Seq.{take-all, length-take-le}
 use Rattle.receiver.specs.Step.{stateOf}
-use Rattle.listing.specs.Lists.{Lists, Behind, behindAll}
+use Rattle.listing.specs.Lists.{Lists, behindAll}
 use Rattle.listing.proofs.Whole.{same-long}
 use Rattle.listing.proofs.Slices.{lists-within, lists-moves, lists-onward}
+use Rattle.line_streams.proofs.Blocks.{Reached, reached-first, reached-more, reached-last}
 use borrow.Author.Needs.{needs}
 use Rattle.line_lister.proofs.list_block.Statement.{statement}
 use Rattle.line_lister.proofs.list_block.Tie as tie
 
 abbrev Inv-loop : tie.InvT-loop
 Inv-loop store₀ room₀ block text₀ rest₀ counts₀ taken₀ store room text rest counts taken =
-    (taken ≤ length block) × (length text ≡ length text₀)
-    × (behindAll (stateOf rest₀ store₀) counts₀ block ≡ behindAll (stateOf rest store) counts (drop taken block))
+    (length text ≡ length text₀) × Reached block (behindAll (stateOf rest₀ store₀) counts₀ block) (stateOf rest store) counts taken
 
 abbrev μ-loop : tie.MeasureT-loop
 μ-loop store₀ room₀ block text₀ rest₀ counts₀ taken₀ store room text rest counts taken = length block - taken
@@ -41,28 +41,17 @@ turn-within : (c : tie.After-list-some Inv-loop μ-loop)
 turn-within c =
     let l = c .before .before .before .before .before .before .loop in
     let left = length-drop (l .taken) (now (c .before .before .before .before .before .before .before .before .before .args .block)) in
-    let more = lists-moves (listed c) (omega (arith, l .inv .1, c .before .before .before .before .before .before .before .before .before .pre)) (omega (arith, left, c .before .before .before .before .before .loop-test .taken)) in
+    let more = lists-moves (listed c) (omega (arith, l .inv .0, c .before .before .before .before .before .before .before .before .before .pre)) (omega (arith, left, c .before .before .before .before .before .loop-test .taken)) in
     (omega (arith, lists-within (listed c), left), omega (arith, more))
 
 text-long : (c : tie.After-list-some Inv-loop μ-loop) → length (c .list-some .last .1 .1 .1 .1 .1 .0) ≡ length (now (c .before .before .before .before .before .before .before .before .before .args .text))
-text-long c = same-long (listed c .puts) ∙ c .before .before .before .before .before .before .loop .inv .1
+text-long c = same-long (listed c .puts) ∙ c .before .before .before .before .before .before .loop .inv .0
 
 text-within : (c : tie.After-list-some Inv-loop μ-loop) → c .list-some .result .written ≤ length (c .list-some .last .1 .1 .1 .1 .1 .0)
 text-within c = omega (arith, listed c .within, same-long (listed c .puts))
 
-behind-all : (c : tie.After-loop Inv-loop μ-loop)
-    → let s = c .before .before .before .before in
-    let l = c .before .loop in
-    behindAll (stateOf (s .args .rest) (now (s .args .store))) (s .args .counts) (now (s .args .block))
-    ≡ record { state = stateOf (l .rest) (l .store); counts = l .counts }
-unfolding behindAll
-behind-all c =
-    let l = c .before .loop in
-    let block = now (c .before .before .before .before .args .block) in
-    l .inv .2 ∙ ap (behindAll (stateOf (l .rest) (l .store)) (l .counts)) (drop-of-length-le block (c .loop-test .left))
-
 loop-holds : tie.Need-loop-holds Inv-loop μ-loop
-loop-holds c = (omega arith, refl, refl)
+loop-holds c = (refl, reached-first (now (c .before .before .args .block)) _ _)
 
 add-taken : tie.Need-add-taken Inv-loop μ-loop
 add-taken c = omega (arith, turn-within (c .before .before .before .before .before), c .before .before .before .before .before .before .before .before .before .before .before .before .before .before .good)
@@ -83,26 +72,33 @@ loop-again : tie.Need-loop-again Inv-loop μ-loop
 loop-again c =
     let t = c .before .before .before .before .before .before .before .before in
     let l = t .before .before .before .before .before .before .loop in
-    let block = now (t .before .before .before .before .before .before .before .before .before .args .block) in (
-      turn-within t .0,
-      text-long t,
-      l .inv .2
-          ∙ lists-onward (listed t)
-          ∙ ap (behindAll (stateOf (t .list-some .result .rest) (t .list-some .last .1 .1 .0)) (t .list-some .result .counts)) (drop-drop (t .list-some .result .taken) (l .taken) block),
-    )
+    let block = now (t .before .before .before .before .before .before .before .before .before .args .block) in
+    (text-long t, reached-more block _ _ _ (l .taken) (l .inv .1) _ _ (t .list-some .result .taken) (lists-within (listed t)) (lists-onward (listed t)))
 
 same-length-2 : tie.Need-same-length-2 Inv-loop μ-loop
-same-length-2 c = c .before .loop .inv .1
+same-length-2 c = c .before .loop .inv .0
 
 returns-2 : tie.Need-returns-2 Inv-loop μ-loop
-returns-2 c =
-    let l = c .before .loop in
-    let all = behind-all c in
-    (sym (ap (λ (b : Behind). b .state) all), sym (ap (λ (b : Behind). b .counts) all))
+returns-2 c = reached-last (now (c .before .before .before .before .args .block)) _ _ _ (c .before .loop .taken) (c .before .loop .inv .1) (c .loop-test .left)
 
 pub list-block-spec : {M : Type 1} → statement M
 list-block-spec =
     tie.close
-    (tie.spec Inv-loop μ-loop loop-holds (λ c. search needs) (λ c. search needs) (λ c. search needs)
-    (λ c κs. search needs) add-taken slice-reshare-prefix-write-out slice-aggregate-write-out (λ c κs. search needs)
-    same-length (λ c. tt) loop-less loop-again same-length-2 returns-2)
+    (tie.spec
+    Inv-loop
+    μ-loop
+    loop-holds
+    (λ c. search needs)
+    (λ c. search needs)
+    (λ c. search needs)
+    (λ c κs. search needs)
+    add-taken
+    slice-reshare-prefix-write-out
+    slice-aggregate-write-out
+    (λ c κs. search needs)
+    same-length
+    (λ c. tt)
+    loop-less
+    loop-again
+    same-length-2
+    returns-2)

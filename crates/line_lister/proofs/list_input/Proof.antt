@@ -1,57 +1,69 @@
--- `line_lister::list_input` is safe and ends: the turns are counted down, and what is lent keeps its length. Assumes nothing.
-use mathlib.Core.Path.{_≡_, refl, _∙_}
+-- `line_lister::list_input` is safe and ends: each turn leaves fewer, and what is lent keeps its length. Assumes nothing.
+use mathlib.Core.Path.{_≡_, refl, sym, _∙_}
+use Prim.Native.Nat.{_≤_}
 use native.Mathlib.Omega.{arith}
 use denote.Ref.{now}
 use lib.ListN.{length}
+use lib.Seq.{length-take-le}
+use Rattle.standard_streams.proofs.Turns.{Onward, reads-onward, turns-onward}
 use borrow.Author.Needs.{needs}
 use Rattle.line_lister.proofs.list_input.Statement.{statement}
 use Rattle.line_lister.proofs.list_input.Tie as tie
 
 abbrev Inv-loop : tie.InvT-loop
-Inv-loop store₀ room₀ block₀ text₀ rest₀ counts₀ turns₀ store room block text rest counts turns = (length block ≡ length block₀) × (length text ≡ length text₀)
+Inv-loop store₀ room₀ block₀ text₀ rest₀ counts₀ turn₀ store room block text rest counts turn = (length block ≡ length block₀) × (length text ≡ length text₀) × (turn .octets ≤ length block)
 
 abbrev μ-loop : tie.MeasureT-loop
-μ-loop store₀ room₀ block₀ text₀ rest₀ counts₀ turns₀ store room block text rest counts turns = turns
+μ-loop store₀ room₀ block₀ text₀ rest₀ counts₀ turn₀ store room block text rest counts turn = turn .left
 
-next-long : (c : tie.After-list-next Inv-loop μ-loop)
-    → let a = c .before .before .before .before .before .before .before .before .before .before .before .args in
-    (length (c .list-next .last .1 .1 .1 .1 .0) ≡ length (now (a .block))) × (length (c .list-next .last .1 .1 .1 .1 .1 .0) ≡ length (now (a .text)))
-next-long c =
-    let l = c .before .before .before .before .before .before .loop in
-    let kept = c .list-next .kept .1 .1 .1 .1 in
-    (kept .0 ∙ l .inv .0, kept .1 .0 ∙ l .inv .1)
+-- what follows a turn is within the block, and leaves fewer
+onward : (c : tie.After-next-turn Inv-loop μ-loop)
+    → let l = c .before .before .before .before .before .before .before .before .before .before .before .before .before .loop in Onward (l .turn .left) (length (l .block)) (c .next-turn .result)
+onward c =
+    let l = c .before .before .before .before .before .before .before .before .before .before .before .before .before .loop in
+    turns-onward (l .turn .left) (length (l .block)) 0 (c .next-turn .result) (c .before .before .before .before .before .before .list-block .result .input) (c .next-turn .ensures)
 
 loop-holds : tie.Need-loop-holds Inv-loop μ-loop
-loop-holds c = (refl, refl)
+loop-holds c = let a = c .before .before .before .before .before .before .before .before .args in let t = c .before .before .first-turn in (refl, refl, omega (arith, reads-onward _ (length (now (a .block))) 0 (t .result) (t .result .input) (t .ensures) .within, t .kept .0))
 
-list-next-requires : tie.Need-list-next-requires Inv-loop μ-loop
-list-next-requires c κs = omega (arith, c .before .before .before .before .before .loop .inv .1, c .before .before .before .before .before .before .before .before .before .before .pre)
+slice-reshare-prefix-list-block : tie.Need-slice-reshare-prefix-list-block Inv-loop μ-loop
+slice-reshare-prefix-list-block c = c .before .before .before .before .loop .inv .2
 
-same-length : tie.Need-same-length Inv-loop μ-loop
-same-length c = next-long (c .before .before .before .before .before .before .before .before .before .before .before .before) .0
+slice-aggregate-list-block : tie.Need-slice-aggregate-list-block Inv-loop μ-loop
+slice-aggregate-list-block c = sym (length-take-le _ _ (c .before .before .before .before .before .loop .inv .2))
 
-same-length-2 : tie.Need-same-length-2 Inv-loop μ-loop
-same-length-2 c = c .before .before .write-closing .kept .0 ∙ next-long (c .before .before .before .before .before .before .before .before .before .before .before .before) .1
+list-block-requires : tie.Need-list-block-requires Inv-loop μ-loop
+list-block-requires c κs = omega (arith, c .before .before .before .before .before .before .loop .inv .1, c .before .before .before .before .before .before .before .before .before .before .before .before .before .before .before .pre)
 
-same-length-3 : tie.Need-same-length-3 Inv-loop μ-loop
-same-length-3 c = next-long (c .before .before .before .before .before .before .before .before) .0
-
-same-length-4 : tie.Need-same-length-4 Inv-loop μ-loop
-same-length-4 c = next-long (c .before .before .before .before .before .before .before .before) .1
+loop-less : tie.Need-loop-less Inv-loop μ-loop
+loop-less c = omega (arith, onward (c .before .before) .fewer, c .before .before .before .before .before .before .before .before .before .before .before .before .before .if1 .taken)
 
 loop-again : tie.Need-loop-again Inv-loop μ-loop
-loop-again c = next-long (c .before .before .before .before .before .before .before .before)
+loop-again c = let l = c .before .before .before .before .before .before .before .before .before .before .before .before .before .before .before .loop in let t = c .before .before .next-turn in (t .kept .1 .0 ∙ l .inv .0, c .before .before .before .before .before .before .before .before .list-block .kept .1 .1 .1 .1 .1 .0 ∙ l .inv .1, omega (arith, onward (c .before .before) .within, t .kept .1 .0))
 
-same-length-5 : tie.Need-same-length-5 Inv-loop μ-loop
-same-length-5 c = c .before .loop .inv .0
+same-length : tie.Need-same-length Inv-loop μ-loop
+same-length c = c .before .before .before .before .before .before .loop .inv .0 ∙ c .before .before .before .before .before .before .before .before .before .first-turn .kept .0
 
-same-length-6 : tie.Need-same-length-6 Inv-loop μ-loop
-same-length-6 c = c .before .loop .inv .1
+same-length-2 : tie.Need-same-length-2 Inv-loop μ-loop
+same-length-2 c = c .before .before .write-ending .kept .1 .0 ∙ c .before .before .before .before .before .before .loop .inv .1
 
 pub list-input-spec : {M : Type 1} → statement M
 list-input-spec =
     tie.close
-    (tie.spec Inv-loop μ-loop (λ c κs. search needs) (λ c κs. search needs) loop-holds list-next-requires
-    (λ c. search needs) (λ c. search needs) (λ c κs. search needs) same-length same-length-2 (λ c. search needs)
-    (λ c. search needs) same-length-3 same-length-4 (λ c. search needs) (λ c. search needs) (λ c. search needs)
-    loop-again same-length-5 same-length-6 (λ c. search needs))
+    (tie.spec
+    Inv-loop
+    μ-loop
+    (λ c κs. search needs)
+    (λ c κs. search needs)
+    (λ c κs. search needs)
+    loop-holds
+    slice-reshare-prefix-list-block
+    slice-aggregate-list-block
+    list-block-requires
+    (λ c κs. search needs)
+    loop-less
+    loop-again
+    (λ c κs. search needs)
+    same-length
+    same-length-2
+    (λ c. search needs))

@@ -91,7 +91,26 @@ returns-3 c =
 pub explain-block-spec : {M : Type 1} → statement M
 explain-block-spec =
     tie.close
-    (tie.spec Inv-loop μ-loop (λ c κs. search needs) loop-holds sub-used (λ c. search needs) (λ c. search needs)
-    (λ c. search needs) (λ c κs. search needs) (λ c κs. search needs) (λ c κs. search needs) returns
-    (λ c κs. search needs) returns-2 add-count sub-left loop-less loop-again sub-told (λ c κs. search needs)
-    (λ c κs. search needs) returns-3)
+    (tie.spec
+    Inv-loop
+    μ-loop
+    (λ c κs. search needs)
+    loop-holds
+    sub-used
+    (λ c. search needs)
+    (λ c. search needs)
+    (λ c. search needs)
+    (λ c κs. search needs)
+    (λ c κs. search needs)
+    (λ c κs. search needs)
+    returns
+    (λ c κs. search needs)
+    returns-2
+    add-count
+    sub-left
+    loop-less
+    loop-again
+    sub-told
+    (λ c κs. search needs)
+    (λ c κs. search needs)
+    returns-3)

@@ -1,40 +1,75 @@
--- `mavlink_explainer::explain_input` meets its contract. Assumes nothing.
-use Rattle.mavlink_explanation.specs.Decided.{frameRoom}
-use lib.ListN.{length}
-use Prim.Native.Nat.{_<_}
+-- `mavlink_explainer::explain_input` is safe and ends: each turn leaves fewer, and what is lent keeps its length. Assumes nothing.
+use mathlib.Core.Path.{_≡_, refl, sym, _∙_}
+use Prim.Native.Nat.{_≤_}
 use native.Mathlib.Omega.{arith}
-use mathlib.Core.Path.{_≡_, refl, _∙_}
+use denote.Ref.{now}
+use lib.ListN.{length, length-take}
+use lib.Seq.{length-take-le}
+use Rattle.standard_streams.proofs.Turns.{Onward, reads-onward, turns-onward}
 use borrow.Author.Needs.{needs}
 use Rattle.mavlink_explainer.proofs.explain_input.Statement.{statement}
 use Rattle.mavlink_explainer.proofs.explain_input.Tie as tie
 
 abbrev Inv-loop : tie.InvT-loop
-Inv-loop block₀ text₀ frames₀ bytes₀ held₀ turns₀ block text frames bytes held turns = (length block ≡ length block₀) × (held < frameRoom)
+Inv-loop block₀ text₀ frames₀ bytes₀ turn₀ block text frames bytes turn = (length block ≡ length block₀) × (turn .octets ≤ length block)
 
 abbrev μ-loop : tie.MeasureT-loop
-μ-loop block₀ text₀ frames₀ bytes₀ held₀ turns₀ block text frames bytes held turns = turns
+μ-loop block₀ text₀ frames₀ bytes₀ turn₀ block text frames bytes turn = turn .left
+
+-- what follows a turn is within the block, and leaves fewer
+onward : (c : tie.After-next-turn Inv-loop μ-loop)
+    → Onward (c .before .before .before .before .before .before .before .before .before .before .before .before .loop .turn .left) (length (c .before .before .before .before .carry .last .0)) (c .next-turn .result)
+onward c =
+    let given = c .before .before .before .before .before .before .explain-block .result in
+    turns-onward (c .before .before .before .before .before .before .before .before .before .before .before .before .loop .turn .left) (length (c .before .before .before .before .carry .last .0)) (given .left) (c .next-turn .result) (given .input) (c .next-turn .ensures)
 
 loop-holds : tie.Need-loop-holds Inv-loop μ-loop
-loop-holds c = (refl, omega arith)
+loop-holds c = let a = c .before .before .before .before .before .args in let t = c .before .before .first-turn in (refl, omega (arith, reads-onward _ (length (now (a .block))) 0 (t .result) (t .result .input) (t .ensures) .within, t .kept .0))
 
-explain-more-requires : tie.Need-explain-more-requires Inv-loop μ-loop
-explain-more-requires c κs = omega (arith, c .before .before .before .loop .inv, c .before .before .before .before .before .pre)
+slice-reshare-prefix-explain-block : tie.Need-slice-reshare-prefix-explain-block Inv-loop μ-loop
+slice-reshare-prefix-explain-block c = c .before .before .before .loop .inv .1
 
-same-length : tie.Need-same-length Inv-loop μ-loop
-same-length c = c .before .before .before .before .before .before .explain-more .kept .1 .1 .1 .0 ∙ c .before .before .before .before .before .before .before .before .before .before .loop .inv .0
+slice-aggregate-explain-block : tie.Need-slice-aggregate-explain-block Inv-loop μ-loop
+slice-aggregate-explain-block c = sym (length-take-le _ _ (c .before .before .before .before .loop .inv .1))
 
-same-length-2 : tie.Need-same-length-2 Inv-loop μ-loop
-same-length-2 c = c .before .before .before .before .explain-more .kept .1 .1 .1 .0 ∙ c .before .before .before .before .before .before .before .before .loop .inv .0
+sub-carry : tie.Need-sub-carry Inv-loop μ-loop
+sub-carry c = omega (arith, simp length-take at (c .before .explain-block .ensures .leaves .within))
+
+carry-requires : tie.Need-carry-requires Inv-loop μ-loop
+carry-requires c κs = (omega (arith, simp length-take at (c .before .explain-block .ensures .leaves .within)), c .before .before .before .before .before .before .before .loop .inv .1)
+
+loop-less : tie.Need-loop-less Inv-loop μ-loop
+loop-less c = omega (arith, onward (c .before .before) .fewer, c .before .before .before .before .before .before .before .before .before .before .before .before .if1 .taken)
 
 loop-again : tie.Need-loop-again Inv-loop μ-loop
-loop-again c = (c .before .before .before .before .explain-more .kept .1 .1 .1 .0 ∙ c .before .before .before .before .before .before .before .before .loop .inv .0, rw (c .enum-told .given .1) at (c .before .before .before .before .explain-more .ensures .carries))
+loop-again c = let t = c .before .before .next-turn in (t .kept .1 .0 ∙ c .before .before .before .before .before .before .carry .kept .0 ∙ c .before .before .before .before .before .before .before .before .before .before .before .before .before .before .loop .inv .0, omega (arith, onward (c .before .before) .within, t .kept .1 .0))
 
-same-length-3 : tie.Need-same-length-3 Inv-loop μ-loop
-same-length-3 c = c .before .loop .inv .0
+same-length : tie.Need-same-length Inv-loop μ-loop
+same-length c = c .before .before .before .before .loop .inv .0 ∙ c .before .before .before .before .before .before .before .first-turn .kept .0
+
+same-length-2 : tie.Need-same-length-2 Inv-loop μ-loop
+same-length-2 c = c .before .before .before .before .before .before .loop .inv .0 ∙ c .before .before .before .before .before .before .before .before .before .first-turn .kept .0
 
 pub explain-input-spec : {M : Type 1} → statement M
 explain-input-spec =
     tie.close
-    (tie.spec Inv-loop μ-loop loop-holds explain-more-requires (λ c. search needs) (λ c. search needs)
-    (λ c κs. search needs) same-length (λ c. search needs) (λ c. search needs) same-length-2 (λ c. search needs)
-    (λ c. search needs) (λ c. search needs) loop-again same-length-3 (λ c. search needs))
+    (tie.spec
+    Inv-loop
+    μ-loop
+    (λ c κs. search needs)
+    loop-holds
+    (λ c κs. search needs)
+    slice-reshare-prefix-explain-block
+    slice-aggregate-explain-block
+    (λ c κs. search needs)
+    sub-carry
+    carry-requires
+    (λ c κs. search needs)
+    loop-less
+    loop-again
+    (λ c κs. search needs)
+    same-length
+    (λ c. search needs)
+    (λ c κs. search needs)
+    same-length-2
+    (λ c. search needs))

@@ -5,12 +5,16 @@ use Rattle.text_output.proofs.Clipped.{then}
 use Rattle.refusal_text.proofs.put_refusal.Statement.{statement}
 use Rattle.refusal_text.proofs.put_refusal.Tie as tie
 
-slice-aggregate-put-word : tie.Need-slice-aggregate-put-word
-slice-aggregate-put-word c = refl
-
 returns : tie.Need-returns
 unfolding refusal
 returns c = then (c .before .before .before .before .put-word .ensures) (then (c .before .before .put-natural .ensures) (c .put-reason .ensures))
 
 pub put-refusal-spec : {M : Type 1} → statement M
-put-refusal-spec = tie.close (tie.spec slice-aggregate-put-word (λ c κs. tt) (λ c κs. tt) (λ c κs. tt) returns)
+put-refusal-spec =
+    tie.close
+    (tie.spec
+    (λ c. refl)
+    (λ c κs. tt)
+    (λ c κs. tt)
+    (λ c κs. tt)
+    returns)

@@ -1,9 +1,8 @@
 -- `mavlink_messages::message_202::first_octets` meets its contract, run by run. Assumes nothing.
 use mathlib.Core.List.{_++_}
-use mir.Syntax.{w32}
 use Rattle.message_formats.specs.Formats.{bodyOf}
 use Rattle.mavlink_messages.specs.Dynamic.{dynamicFormat}
-use Rattle.mavlink_messages.proofs.Signed.{put}
+use Rattle.mavlink_messages.proofs.Signed.{put-32}
 use borrow.Author.Needs.{needs}
 use Rattle.mavlink_messages.proofs.message_202.first_octets.Statement.{statement}
 use Rattle.mavlink_messages.proofs.message_202.first_octets.Tie as tie
@@ -19,14 +18,20 @@ returns c =
     let at-utc = at-latitude .before .before in
     let v = at-utc .before .args .dynamic in
     λ i. (at-utc .little-32 .ensures i)
-    ++ (put w32 4 2147483648 (v .latitude) (record { sfits = at-latitude .before .struct-told .given .1 .0 .1 }) (at-latitude .signed-32 .ensures) i)
-    ++ (put w32 4 2147483648 (v .longitude) (record { sfits = at-longitude .before .struct-told2 .given .1 .1 .0 .1 }) (at-longitude .signed-322 .ensures) i)
-    ++ (put w32 4 2147483648 (v .pressure) (record { sfits = at-pressure .before .struct-told3 .given .1 .1 .1 .0 .1 }) (at-pressure .signed-323 .ensures) i)
-    ++ (put w32 4 2147483648 (v .gnss) (record { sfits = at-gnss .before .struct-told4 .given .1 .1 .1 .1 .0 .1 }) (at-gnss .signed-324 .ensures) i)
+    ++ (put-32 (v .latitude) (at-latitude .before .struct-told .given .1 .0 .1) (at-latitude .signed-32 .ensures) i)
+    ++ (put-32 (v .longitude) (at-longitude .before .struct-told2 .given .1 .1 .0 .1) (at-longitude .signed-322 .ensures) i)
+    ++ (put-32 (v .pressure) (at-pressure .before .struct-told3 .given .1 .1 .1 .0 .1) (at-pressure .signed-323 .ensures) i)
+    ++ (put-32 (v .gnss) (at-gnss .before .struct-told4 .given .1 .1 .1 .1 .0 .1) (at-gnss .signed-324 .ensures) i)
     ++ (at-horizontal .little-322 .ensures i)
 
 pub first-octets-spec : {M : Type 1} → statement M
 first-octets-spec =
     tie.close
-    (tie.spec (λ c κs. search needs) (λ c κs. search needs) (λ c κs. search needs) (λ c κs. search needs)
-    (λ c κs. search needs) (λ c κs. search needs) returns)
+    (tie.spec
+    (λ c κs. search needs)
+    (λ c κs. search needs)
+    (λ c κs. search needs)
+    (λ c κs. search needs)
+    (λ c κs. search needs)
+    (λ c κs. search needs)
+    returns)

@@ -1,9 +1,8 @@
 -- `mavlink_messages::message_202::last_octets` meets its contract, run by run. Assumes nothing.
 use mathlib.Core.List.{[], _∷_, _++_}
-use mir.Syntax.{w16}
 use Rattle.message_formats.specs.Formats.{bodyOf}
 use Rattle.mavlink_messages.specs.Dynamic.{dynamicFormat}
-use Rattle.mavlink_messages.proofs.Signed.{put}
+use Rattle.mavlink_messages.proofs.Signed.{put-16}
 use borrow.Author.Needs.{needs}
 use Rattle.mavlink_messages.proofs.message_202.last_octets.Statement.{statement}
 use Rattle.mavlink_messages.proofs.message_202.last_octets.Tie as tie
@@ -21,9 +20,9 @@ returns c =
     let v = at-vertical .before .args .dynamic in
     λ i. (at-vertical .little-16 .ensures i)
     ++ (at-velocity .little-162 .ensures i)
-    ++ (put w16 2 32768 (v .climb) (record { sfits = at-climb .before .struct-told .given .1 .1 .1 .1 .1 .1 .1 .1 .0 .1 }) (at-climb .signed-16 .ensures) i)
-    ++ (put w16 2 32768 (v .north) (record { sfits = at-north .before .struct-told2 .given .1 .1 .1 .1 .1 .1 .1 .1 .1 .0 .1 }) (at-north .signed-162 .ensures) i)
-    ++ (put w16 2 32768 (v .east) (record { sfits = at-east .before .struct-told3 .given .1 .1 .1 .1 .1 .1 .1 .1 .1 .1 .0 .1 }) (at-east .signed-163 .ensures) i)
+    ++ (put-16 (v .climb) (at-climb .before .struct-told .given .1 .1 .1 .1 .1 .1 .1 .1 .0 .1) (at-climb .signed-16 .ensures) i)
+    ++ (put-16 (v .north) (at-north .before .struct-told2 .given .1 .1 .1 .1 .1 .1 .1 .1 .1 .0 .1) (at-north .signed-162 .ensures) i)
+    ++ (put-16 (v .east) (at-east .before .struct-told3 .given .1 .1 .1 .1 .1 .1 .1 .1 .1 .1 .0 .1) (at-east .signed-163 .ensures) i)
     ++ (at-state .little-163 .ensures i)
     ++ (at-squawk .little-164 .ensures i)
     ++ v .fix
@@ -35,5 +34,12 @@ returns c =
 pub last-octets-spec : {M : Type 1} → statement M
 last-octets-spec =
     tie.close
-    (tie.spec (λ c κs. search needs) (λ c κs. search needs) (λ c κs. search needs) (λ c κs. search needs)
-    (λ c κs. search needs) (λ c κs. search needs) (λ c κs. search needs) returns)
+    (tie.spec
+    (λ c κs. search needs)
+    (λ c κs. search needs)
+    (λ c κs. search needs)
+    (λ c κs. search needs)
+    (λ c κs. search needs)
+    (λ c κs. search needs)
+    (λ c κs. search needs)
+    returns)

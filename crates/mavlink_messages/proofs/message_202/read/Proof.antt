@@ -3,11 +3,10 @@ use mathlib.Core.Path.{_≡_, _∙_}
 use Prim.Native.Nat.{ℕ}
 use denote.Ref.{now}
 use lib.ListN.{getD}
-use mir.Syntax.{w16, w32}
 use Rattle.message_formats.specs.Formats.{valueIn}
 use Rattle.message_formats.proofs.Answers.{by-octets}
 use Rattle.mavlink_messages.specs.Dynamic.{dynamicFormat}
-use Rattle.mavlink_messages.proofs.Signed.{taken}
+use Rattle.mavlink_messages.proofs.Signed.{taken-16, taken-32}
 use borrow.Author.Needs.{needs}
 use Rattle.mavlink_messages.proofs.message_202.read.Statement.{statement}
 use Rattle.mavlink_messages.proofs.message_202.read.Tie as tie
@@ -35,16 +34,16 @@ returns c =
     let s = at-utc .before .before in
     (λ i. record {
       utc = (at-utc .little-32 .ensures) i;
-      latitude = taken w32 2147483648 (at-latitude .signed-32 .ensures) (record { sfits = at-latitude .signed-32 .ok }) (at-latitude .before .little-322 .ensures) i;
-      longitude = taken w32 2147483648 (at-longitude .signed-322 .ensures) (record { sfits = at-longitude .signed-322 .ok }) (at-longitude .before .little-323 .ensures) i;
-      pressure = taken w32 2147483648 (at-pressure .signed-323 .ensures) (record { sfits = at-pressure .signed-323 .ok }) (at-pressure .before .little-324 .ensures) i;
-      gnss = taken w32 2147483648 (at-gnss .signed-324 .ensures) (record { sfits = at-gnss .signed-324 .ok }) (at-gnss .before .little-325 .ensures) i;
+      latitude = taken-32 (at-latitude .signed-32 .ensures) (at-latitude .signed-32 .ok) (at-latitude .before .little-322 .ensures) i;
+      longitude = taken-32 (at-longitude .signed-322 .ensures) (at-longitude .signed-322 .ok) (at-longitude .before .little-323 .ensures) i;
+      pressure = taken-32 (at-pressure .signed-323 .ensures) (at-pressure .signed-323 .ok) (at-pressure .before .little-324 .ensures) i;
+      gnss = taken-32 (at-gnss .signed-324 .ensures) (at-gnss .signed-324 .ok) (at-gnss .before .little-325 .ensures) i;
       horizontal = (at-horizontal .little-326 .ensures) i;
       vertical = (at-vertical .little-16 .ensures) i;
       velocity = (at-velocity .little-162 .ensures) i;
-      climb = taken w16 32768 (at-climb .signed-16 .ensures) (record { sfits = at-climb .signed-16 .ok }) (at-climb .before .little-163 .ensures) i;
-      north = taken w16 32768 (at-north .signed-162 .ensures) (record { sfits = at-north .signed-162 .ok }) (at-north .before .little-164 .ensures) i;
-      east = taken w16 32768 (at-east .signed-163 .ensures) (record { sfits = at-east .signed-163 .ok }) (at-east .before .little-165 .ensures) i;
+      climb = taken-16 (at-climb .signed-16 .ensures) (at-climb .signed-16 .ok) (at-climb .before .little-163 .ensures) i;
+      north = taken-16 (at-north .signed-162 .ensures) (at-north .signed-162 .ok) (at-north .before .little-164 .ensures) i;
+      east = taken-16 (at-east .signed-163 .ensures) (at-east .signed-163 .ok) (at-east .before .little-165 .ensures) i;
       state = (at-state .little-166 .ensures) i;
       squawk = (at-squawk .little-167 .ensures) i;
       fix = (at-fix .octet .ensures) i;
@@ -57,9 +56,29 @@ returns c =
 pub read-spec : {M : Type 1} → statement M
 read-spec =
     tie.close
-    (tie.spec (λ c κs. search needs) (λ c κs. search needs) (λ c κs. search needs) (λ c κs. search needs)
-    (λ c κs. search needs) (λ c κs. search needs) (λ c κs. search needs) (λ c κs. search needs) (λ c κs. search needs)
-    (λ c κs. search needs) (λ c κs. search needs) (λ c κs. search needs) (λ c κs. search needs) (λ c κs. search needs)
-    (λ c κs. search needs) (λ c κs. search needs) (λ c κs. search needs) (λ c κs. search needs) (λ c κs. search needs)
-    (λ c κs. search needs) (λ c κs. search needs) (λ c κs. search needs) (λ c κs. search needs) (λ c κs. search needs)
+    (tie.spec
+    (λ c κs. search needs)
+    (λ c κs. search needs)
+    (λ c κs. search needs)
+    (λ c κs. search needs)
+    (λ c κs. search needs)
+    (λ c κs. search needs)
+    (λ c κs. search needs)
+    (λ c κs. search needs)
+    (λ c κs. search needs)
+    (λ c κs. search needs)
+    (λ c κs. search needs)
+    (λ c κs. search needs)
+    (λ c κs. search needs)
+    (λ c κs. search needs)
+    (λ c κs. search needs)
+    (λ c κs. search needs)
+    (λ c κs. search needs)
+    (λ c κs. search needs)
+    (λ c κs. search needs)
+    (λ c κs. search needs)
+    (λ c κs. search needs)
+    (λ c κs. search needs)
+    (λ c κs. search needs)
+    (λ c κs. search needs)
     returns)

@@ -1,9 +1,8 @@
 -- `mavlink_messages::message_246::first_octets` meets its contract, run by run. Assumes nothing.
 use mathlib.Core.List.{_++_}
-use mir.Syntax.{w32}
 use Rattle.message_formats.specs.Formats.{bodyOf}
 use Rattle.mavlink_messages.specs.Traffic.{trafficFormat}
-use Rattle.mavlink_messages.proofs.Signed.{put}
+use Rattle.mavlink_messages.proofs.Signed.{put-32}
 use borrow.Author.Needs.{needs}
 use Rattle.mavlink_messages.proofs.message_246.first_octets.Statement.{statement}
 use Rattle.mavlink_messages.proofs.message_246.first_octets.Tie as tie
@@ -17,11 +16,16 @@ returns c =
     let at-address = at-latitude .before .before in
     let v = at-address .before .args .traffic in
     λ i. (at-address .little-32 .ensures i)
-    ++ (put w32 4 2147483648 (v .latitude) (record { sfits = at-latitude .before .struct-told .given .1 .0 .1 }) (at-latitude .signed-32 .ensures) i)
-    ++ (put w32 4 2147483648 (v .longitude) (record { sfits = at-longitude .before .struct-told2 .given .1 .1 .0 .1 }) (at-longitude .signed-322 .ensures) i)
-    ++ (put w32 4 2147483648 (v .altitude) (record { sfits = at-altitude .before .struct-told3 .given .1 .1 .1 .0 .1 }) (at-altitude .signed-323 .ensures) i)
+    ++ (put-32 (v .latitude) (at-latitude .before .struct-told .given .1 .0 .1) (at-latitude .signed-32 .ensures) i)
+    ++ (put-32 (v .longitude) (at-longitude .before .struct-told2 .given .1 .1 .0 .1) (at-longitude .signed-322 .ensures) i)
+    ++ (put-32 (v .altitude) (at-altitude .before .struct-told3 .given .1 .1 .1 .0 .1) (at-altitude .signed-323 .ensures) i)
 
 pub first-octets-spec : {M : Type 1} → statement M
 first-octets-spec =
     tie.close
-    (tie.spec (λ c κs. search needs) (λ c κs. search needs) (λ c κs. search needs) (λ c κs. search needs) returns)
+    (tie.spec
+    (λ c κs. search needs)
+    (λ c κs. search needs)
+    (λ c κs. search needs)
+    (λ c κs. search needs)
+    returns)

@@ -1,10 +1,9 @@
 -- `mavlink_messages::message_246::last_octets` meets its contract, run by run. Assumes nothing.
 use mathlib.Core.List.{[], _∷_, _++_}
-use mir.Syntax.{w16}
 use Rattle.message_formats.specs.Formats.{bodyOf}
 use Rattle.octet_fields.specs.Texts.{textOctets}
 use Rattle.mavlink_messages.specs.Traffic.{trafficFormat}
-use Rattle.mavlink_messages.proofs.Signed.{put}
+use Rattle.mavlink_messages.proofs.Signed.{put-16}
 use borrow.Author.Needs.{needs}
 use Rattle.mavlink_messages.proofs.message_246.last_octets.Statement.{statement}
 use Rattle.mavlink_messages.proofs.message_246.last_octets.Tie as tie
@@ -20,7 +19,7 @@ returns c =
     let v = at-heading .before .args .traffic in
     λ i. (at-heading .little-16 .ensures i)
     ++ (at-speed .little-162 .ensures i)
-    ++ (put w16 2 32768 (v .climb) (record { sfits = at-climb .before .struct-told .given .1 .1 .1 .1 .1 .1 .0 .1 }) (at-climb .signed-16 .ensures) i)
+    ++ (put-16 (v .climb) (at-climb .before .struct-told .given .1 .1 .1 .1 .1 .1 .0 .1) (at-climb .signed-16 .ensures) i)
     ++ (at-valid .little-163 .ensures i)
     ++ (at-squawk .little-164 .ensures i)
     ++ v .datum
@@ -33,5 +32,10 @@ returns c =
 pub last-octets-spec : {M : Type 1} → statement M
 last-octets-spec =
     tie.close
-    (tie.spec (λ c κs. search needs) (λ c κs. search needs) (λ c κs. search needs) (λ c κs. search needs)
-    (λ c κs. search needs) returns)
+    (tie.spec
+    (λ c κs. search needs)
+    (λ c κs. search needs)
+    (λ c κs. search needs)
+    (λ c κs. search needs)
+    (λ c κs. search needs)
+    returns)

@@ -1,9 +1,7 @@
 -- `mavlink_messages::message_246::octets` meets its contract: its two parts are the whole. Assumes nothing.
-use mathlib.Core.Path.{ap₂, _∙_}
-use mathlib.Core.List.{_++_}
-use lib.ListN.{take-append-drop}
 use Rattle.message_formats.specs.Formats.{bodyOf}
 use Rattle.mavlink_messages.specs.Traffic.{trafficFormat}
+use Rattle.mavlink_messages.proofs.Parts.{whole}
 use borrow.Author.Needs.{needs}
 use Rattle.mavlink_messages.proofs.message_246.octets.Statement.{statement}
 use Rattle.mavlink_messages.proofs.message_246.octets.Tie as tie
@@ -12,12 +10,16 @@ returns : tie.Need-returns
 returns c =
     let at-last = c .before .before .before .before .before in
     let at-first = at-last .before in
-    c .before .join .ensures
-    ∙ ap₂ _++_ (at-first .first-octets .ensures) (at-last .last-octets .ensures)
-    ∙ take-append-drop 16 (bodyOf trafficFormat (at-first .before .args .traffic))
+    whole 16 (bodyOf trafficFormat (at-first .before .args .traffic)) (c .before .join .ensures) (at-first .first-octets .ensures) (at-last .last-octets .ensures)
 
 pub octets-spec : {M : Type 1} → statement M
 octets-spec =
     tie.close
-    (tie.spec (λ c κs. search needs) (λ c κs. search needs) (λ c. search needs) (λ c. search needs) (λ c. search needs)
-    (λ c κs. search needs) returns)
+    (tie.spec
+    (λ c κs. search needs)
+    (λ c κs. search needs)
+    (λ c. search needs)
+    (λ c. search needs)
+    (λ c. search needs)
+    (λ c κs. search needs)
+    returns)

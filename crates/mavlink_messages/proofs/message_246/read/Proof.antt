@@ -3,11 +3,10 @@ use mathlib.Core.Path.{_≡_, _∙_}
 use Prim.Native.Nat.{ℕ}
 use denote.Ref.{now}
 use lib.ListN.{getD}
-use mir.Syntax.{w16, w32}
 use Rattle.message_formats.specs.Formats.{valueIn}
 use Rattle.message_formats.proofs.Answers.{by-octets}
 use Rattle.mavlink_messages.specs.Traffic.{trafficFormat}
-use Rattle.mavlink_messages.proofs.Signed.{taken}
+use Rattle.mavlink_messages.proofs.Signed.{taken-16, taken-32}
 use borrow.Author.Needs.{needs}
 use Rattle.mavlink_messages.proofs.message_246.read.Statement.{statement}
 use Rattle.mavlink_messages.proofs.message_246.read.Tie as tie
@@ -32,12 +31,12 @@ returns c =
     let s = at-address .before .before in
     (λ i. record {
       address = (at-address .little-32 .ensures) i;
-      latitude = taken w32 2147483648 (at-latitude .signed-32 .ensures) (record { sfits = at-latitude .signed-32 .ok }) (at-latitude .before .little-322 .ensures) i;
-      longitude = taken w32 2147483648 (at-longitude .signed-322 .ensures) (record { sfits = at-longitude .signed-322 .ok }) (at-longitude .before .little-323 .ensures) i;
-      altitude = taken w32 2147483648 (at-altitude .signed-323 .ensures) (record { sfits = at-altitude .signed-323 .ok }) (at-altitude .before .little-324 .ensures) i;
+      latitude = taken-32 (at-latitude .signed-32 .ensures) (at-latitude .signed-32 .ok) (at-latitude .before .little-322 .ensures) i;
+      longitude = taken-32 (at-longitude .signed-322 .ensures) (at-longitude .signed-322 .ok) (at-longitude .before .little-323 .ensures) i;
+      altitude = taken-32 (at-altitude .signed-323 .ensures) (at-altitude .signed-323 .ok) (at-altitude .before .little-324 .ensures) i;
       heading = (at-heading .little-16 .ensures) i;
       speed = (at-speed .little-162 .ensures) i;
-      climb = taken w16 32768 (at-climb .signed-16 .ensures) (record { sfits = at-climb .signed-16 .ok }) (at-climb .before .little-163 .ensures) i;
+      climb = taken-16 (at-climb .signed-16 .ensures) (at-climb .signed-16 .ok) (at-climb .before .little-163 .ensures) i;
       valid = (at-valid .little-164 .ensures) i;
       squawk = (at-squawk .little-165 .ensures) i;
       datum = (at-datum .octet .ensures) i;
@@ -51,7 +50,23 @@ returns c =
 pub read-spec : {M : Type 1} → statement M
 read-spec =
     tie.close
-    (tie.spec (λ c κs. search needs) (λ c κs. search needs) (λ c κs. search needs) (λ c κs. search needs)
-    (λ c κs. search needs) (λ c κs. search needs) (λ c κs. search needs) (λ c κs. search needs) (λ c κs. search needs)
-    (λ c κs. search needs) (λ c κs. search needs) (λ c κs. search needs) (λ c κs. search needs) (λ c κs. search needs)
-    (λ c κs. search needs) (λ c κs. search needs) (λ c κs. search needs) (λ c κs. search needs) returns)
+    (tie.spec
+    (λ c κs. search needs)
+    (λ c κs. search needs)
+    (λ c κs. search needs)
+    (λ c κs. search needs)
+    (λ c κs. search needs)
+    (λ c κs. search needs)
+    (λ c κs. search needs)
+    (λ c κs. search needs)
+    (λ c κs. search needs)
+    (λ c κs. search needs)
+    (λ c κs. search needs)
+    (λ c κs. search needs)
+    (λ c κs. search needs)
+    (λ c κs. search needs)
+    (λ c κs. search needs)
+    (λ c κs. search needs)
+    (λ c κs. search needs)
+    (λ c κs. search needs)
+    returns)

@@ -1,11 +1,11 @@
--- `mavlink_explainer::read_behind` meets its contract. Assumes nothing.
+-- `standard_streams::read_behind` meets its contract. Assumes nothing.
 use denote.Ref.{now}
-use Rattle.mavlink_explainer.proofs.Turns.{read-behind}
+use Rattle.standard_streams.proofs.Turns.{read-behind}
 use lib.ListN.{length, length-take, length-drop}
 use native.Mathlib.Omega.{arith}
 use borrow.Author.Needs.{needs}
-use Rattle.mavlink_explainer.proofs.read_behind.Statement.{statement}
-use Rattle.mavlink_explainer.proofs.read_behind.Tie as tie
+use Rattle.standard_streams.proofs.read_behind.Statement.{statement}
+use Rattle.standard_streams.proofs.read_behind.Tie as tie
 
 returns : tie.Need-returns
 returns c =
@@ -17,5 +17,10 @@ returns c =
 pub read-behind-spec : {M : Type 1} → statement M
 read-behind-spec =
     tie.close
-    (tie.spec (λ c. search needs) (λ c. search needs) (λ c. search needs) (λ c κs. search needs) (λ c. search needs)
+    (tie.spec
+    (λ c. search needs)
+    (λ c. search needs)
+    (λ c. search needs)
+    (λ c κs. search needs)
+    (λ c. search needs)
     returns)
