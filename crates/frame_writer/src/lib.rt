@@ -102,7 +102,7 @@ fn put_octets(output: &mut [u8], at: usize, word: u64) -> usize
 }
 
 // The same, two octets at a time.
-fn fill_pairs(body: &[u8], output: &mut [u8], start: usize, check: u16, at: usize) -> usize
+pub fn fill_pairs(body: &[u8], output: &mut [u8], start: usize, check: u16, at: usize) -> usize
     requires { ⌜ (start ≤ length (now body)) × ((length (now body) - start) % 2 ≡ 0) × (at + length (rest check (drop start (now body))) ≤ length (now output)) ⌝ }
     ensures { λ r. ⌜ Puts (now (output .entry)) at (rest check (drop start (now (body .entry)))) r (now (output .exit)) ⌝ }
 {
@@ -131,7 +131,7 @@ fn close(output: &mut [u8], at: usize, check: u16) -> usize
 }
 
 // Puts two octets, stuffed, at a place of output, and gives the next place.
-fn put_pair(output: &mut [u8], at: usize, first: u8, second: u8) -> usize
+pub fn put_pair(output: &mut [u8], at: usize, first: u8, second: u8) -> usize
     requires { ⌜ at + length (escaped first ++ escaped second) ≤ length (now output) ⌝ }
     ensures { λ r. ⌜ Puts (now (output .entry)) at (escaped first ++ escaped second) r (now (output .exit)) ⌝ }
 {
