@@ -55,7 +55,7 @@ fn put_head(body: &[u8], output: &mut [u8], octets: usize) -> usize
 
 // Puts what is left of a frame at a place of output: the octets of body from start on, an even number of them, and the end.
 // The check is that of the octets before.
-fn fill_words(body: &[u8], output: &mut [u8], start: usize, check: u16, at: usize) -> usize
+pub fn fill_words(body: &[u8], output: &mut [u8], start: usize, check: u16, at: usize) -> usize
     requires { ⌜ (start ≤ length (now body)) × ((length (now body) - start) % 2 ≡ 0) × (at + length (rest check (drop start (now body))) ≤ length (now output)) ⌝ }
     ensures { λ r. ⌜ Puts (now (output .entry)) at (rest check (drop start (now (body .entry)))) r (now (output .exit)) ⌝ }
 {
@@ -102,7 +102,7 @@ fn put_octets(output: &mut [u8], at: usize, word: u64) -> usize
 }
 
 // The same, two octets at a time.
-pub fn fill_pairs(body: &[u8], output: &mut [u8], start: usize, check: u16, at: usize) -> usize
+fn fill_pairs(body: &[u8], output: &mut [u8], start: usize, check: u16, at: usize) -> usize
     requires { ⌜ (start ≤ length (now body)) × ((length (now body) - start) % 2 ≡ 0) × (at + length (rest check (drop start (now body))) ≤ length (now output)) ⌝ }
     ensures { λ r. ⌜ Puts (now (output .entry)) at (rest check (drop start (now (body .entry)))) r (now (output .exit)) ⌝ }
 {

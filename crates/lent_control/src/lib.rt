@@ -245,7 +245,7 @@ fn put_frame(message: &[u8], buffer: &mut [u8]) -> usize
     let next = frame_writer::put_pair(buffer, 1, 45, 1);
     let at = frame_writer::put_pair(buffer, next, state, first);
     let check = frame_check::next_check_pair(frame_check::next_check_pair(0, 45, 1), state, first);
-    frame_writer::fill_pairs(&message[9..23], buffer, 0, check, at)
+    frame_writer::fill_words(&message[9..23], buffer, 0, check, at)
 }
 
 fn send(message: &[u8], buffer: &mut [u8]) -> OstrogoszWritten

@@ -52,21 +52,21 @@ put-pair-requires-2 c κs =
     let s = k .before .before .before in
     second-room (now (s .args .message)) (s .pre .0) (λ i. k .before .before .shared-slice-known .given i .fits) (k .state .result) (k .state .ensures) (now (s .args .buffer)) (s .pre .2) (c .before .before .before .put-pair .ensures)
 
-fill-pairs-requires : tie.Need-fill-pairs-requires
-fill-pairs-requires c κs =
+fill-words-requires : tie.Need-fill-words-requires
+fill-words-requires c κs =
     let s = c .before .before .before .before .before .before .before .before .before .before .before .before .before .before .before .before in
     let n : length (take 14 (drop 9 (now (s .args .message)))) ≡ 14 = simp (length-take, length-drop) (omega arith) in
     (omega arith, omega arith, last-room (pairs-left (c .before .before)))
 
 same-length : tie.Need-same-length
-same-length c = c .before .before .fill-pairs .kept .1 .0 ∙ c .before .before .before .before .before .before .before .before .before .put-pair2 .kept .0 ∙ c .before .before .before .before .before .before .before .before .before .before .before .before .before .put-pair .kept .0 ∙ simp length-set
+same-length c = c .before .before .fill-words .kept .1 .0 ∙ c .before .before .before .before .before .before .before .before .before .put-pair2 .kept .0 ∙ c .before .before .before .before .before .before .before .before .before .before .before .before .before .put-pair .kept .0 ∙ simp length-set
 
 returns : tie.Need-returns
 returns c =
     let d = c .before .before .before .before .before in
     let k = d .before .before .before .before .before .before .before .before .before .before .before in
     let s = k .before .before .before in
-    filled (now (s .args .message)) (s .pre .0) (λ i. k .before .before .shared-slice-known .given i .fits) (k .state .result) (k .state .ensures) (now (s .args .buffer)) (s .pre .2) (pairs-left d) (c .before .before .fill-pairs .ensures)
+    filled (now (s .args .message)) (s .pre .0) (λ i. k .before .before .shared-slice-known .given i .fits) (k .state .result) (k .state .ensures) (now (s .args .buffer)) (s .pre .2) (pairs-left d) (c .before .before .fill-words .ensures)
 
 pub put-frame-spec : {M : Type 1} → statement M
 put-frame-spec =
@@ -82,6 +82,6 @@ put-frame-spec =
     (λ c. search needs)
     (λ c. search needs)
     (λ c. search needs)
-    fill-pairs-requires
+    fill-words-requires
     same-length
     returns)
