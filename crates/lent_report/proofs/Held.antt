@@ -48,6 +48,14 @@ signs r h =
     let of-longitude = both before-longitude _ (both position _ (of-height .0) .0) in
     (both before-latitude _ (of-longitude .0) .1, of-longitude .1, of-rate .1)
 
+low-octet : (high low : ℕ) → low < 256 → (high * 256 + low) % 4096 % 256 ≡ low
+low-octet high low h = omega arith
+
+-- the body, by the struct's octets
+abbrev pub whole : List ℕ → List ℕ
+whole m =
+    leftOf m ++ (rightOf m ++ (getD m 24 0 ∷ (elements 10 26 m ++ ((getD m 36 0 * 16 + getD m 37 0) ∷ []))))
+
 module _ (m : List ℕ) (n : length m ≡ 40) where
   pub in-range : (ltb (getD m 0 0) 16
       && ltb (getD m 1 0) 16
@@ -91,7 +99,7 @@ module _ (m : List ℕ) (n : length m ≡ 40) where
           spare = at 15;
         }
 
-    pub body-of : Small m → bodyOf (reportFormat 10) (held reportStruct m) ≡ leftOf m .o0 ∷ leftOf m .o1 ∷ leftOf m .o2 ∷ leftOf m .o3 ∷ leftOf m .o4 ∷ leftOf m .o5 ∷ leftOf m .o6 ∷ leftOf m .o7 ∷ rightOf m .o0 ∷ rightOf m .o1 ∷ rightOf m .o2 ∷ rightOf m .o3 ∷ rightOf m .o4 ∷ rightOf m .o5 ∷ rightOf m .o6 ∷ rightOf m .o7 ∷ little16 m 24 % 4096 % 256 ∷ getD m 26 0 ∷ getD m 27 0 ∷ getD m 28 0 ∷ getD m 29 0 ∷ getD m 30 0 ∷ getD m 31 0 ∷ getD m 32 0 ∷ getD m 33 0 ∷ getD m 34 0 ∷ getD m 35 0 ∷ (getD m 36 0 * 16 + getD m 37 0) ∷ []
+    pub body-of : Small m → bodyOf (reportFormat 10) (held reportStruct m) ≡ whole m
     unfolding bodyOf held
     body-of s =
         let lat = s .latitude in
@@ -115,16 +123,13 @@ module _ (m : List ℕ) (n : length m ≡ 40) where
         ∷ (getD m 19 0 * 16 + getD m 20 0)
         ∷ (ap (λ (r : ℕ). x r / 16777216) (s .rate) ∙ v .m0) i
         ∷ (ap (λ (r : ℕ). x r % 16777216 / 65536) (s .rate) ∙ v .m1) i
-        ∷ (ap (λ (r : ℕ). x r % 16777216 % 65536 / 256) (s .rate) ∙ v .m2) i
+        ∷ (ap (λ (r : ℕ). x r % 16777216 % 65536 / 256) (s .rate) ∙ v .m2 ∙ low-octet (getD m 25 0) (getD m 24 0) (is 24)) i
         ∷ (ap (λ (r : ℕ). x r % 16777216 % 65536 % 256) (s .rate) ∙ v .m3) i
-        ∷ getD m 27 0
-        ∷ getD m 28 0 ∷ getD m 29 0 ∷ getD m 30 0 ∷ getD m 31 0 ∷ getD m 32 0 ∷ getD m 33 0 ∷ getD m 34 0 ∷ getD m 35 0
-        ∷ (getD m 36 0 * 16 + getD m 37 0)
-        ∷ [])
+        ∷ (elements 9 27 m ++ ((getD m 36 0 * 16 + getD m 37 0) ∷ [])))
 
-    pub body-put : Small m → (output : List ℕ) {after : List ℕ} → 28 ≤ length output → after ≡ sets output 0 (leftOf m .o0 ∷ leftOf m .o1 ∷ leftOf m .o2 ∷ leftOf m .o3 ∷ leftOf m .o4 ∷ leftOf m .o5 ∷ leftOf m .o6 ∷ leftOf m .o7 ∷ rightOf m .o0 ∷ rightOf m .o1 ∷ rightOf m .o2 ∷ rightOf m .o3 ∷ rightOf m .o4 ∷ rightOf m .o5 ∷ rightOf m .o6 ∷ rightOf m .o7 ∷ little16 m 24 % 4096 % 256 ∷ getD m 26 0 ∷ getD m 27 0 ∷ getD m 28 0 ∷ getD m 29 0 ∷ getD m 30 0 ∷ getD m 31 0 ∷ getD m 32 0 ∷ getD m 33 0 ∷ getD m 34 0 ∷ getD m 35 0 ∷ (getD m 36 0 * 16 + getD m 37 0) ∷ [])
+    pub body-put : Small m → (output : List ℕ) {after : List ℕ} → 28 ≤ length output → after ≡ sets output 0 (whole m)
         → after ≡ bodyOf (reportFormat 10) (held reportStruct m) ++ drop 28 output
     body-put s output room put =
         put
-        ∙ sets-eq (leftOf m .o0 ∷ leftOf m .o1 ∷ leftOf m .o2 ∷ leftOf m .o3 ∷ leftOf m .o4 ∷ leftOf m .o5 ∷ leftOf m .o6 ∷ leftOf m .o7 ∷ rightOf m .o0 ∷ rightOf m .o1 ∷ rightOf m .o2 ∷ rightOf m .o3 ∷ rightOf m .o4 ∷ rightOf m .o5 ∷ rightOf m .o6 ∷ rightOf m .o7 ∷ little16 m 24 % 4096 % 256 ∷ getD m 26 0 ∷ getD m 27 0 ∷ getD m 28 0 ∷ getD m 29 0 ∷ getD m 30 0 ∷ getD m 31 0 ∷ getD m 32 0 ∷ getD m 33 0 ∷ getD m 34 0 ∷ getD m 35 0 ∷ (getD m 36 0 * 16 + getD m 37 0) ∷ []) output 0 room
+        ∙ sets-eq (whole m) output 0 room
         ∙ ap (λ (body : List ℕ). body ++ drop 28 output) (sym (body-of s))

@@ -8,7 +8,6 @@ use Rattle.twos_complement.specs.Signed.{signed, complement}
 use Rattle.octet_fields.specs.declared.Text.{Text}
 use Rattle.octet_fields.specs.Layout.{octets}
 use Rattle.octet_fields.specs.Texts.{textOctets, textAt}
-use Rattle.lent_report.specs.declared.Eight.{Eight}
 use Rattle.lent_answers.specs.Structs.{runs}
 use Rattle.lent_report.specs.Struct.{reportStruct}
 
@@ -63,33 +62,31 @@ pub record Small (m : List ℕ) : Type 0 where
   pub spare : getD m 37 0 < 16
 
 -- octets 0 to 7 of the body, and 8 to 15
-abbrev pub leftOf : List ℕ → Eight
+abbrev pub leftOf : List ℕ → List ℕ
 leftOf m =
     let address = little32 m 4 in
     let latitude = little32 m 8 % 16777216 in
-    record {
-      o0 = 10;
-      o1 = getD m 0 0 * 16 + getD m 1 0;
-      o2 = address / 65536;
-      o3 = address % 65536 / 256;
-      o4 = address % 65536 % 256;
-      o5 = latitude / 65536;
-      o6 = latitude % 65536 / 256;
-      o7 = latitude % 65536 % 256;
-    }
+    10
+    ∷ (getD m 0 0 * 16 + getD m 1 0)
+    ∷ address / 65536
+    ∷ address % 65536 / 256
+    ∷ address % 65536 % 256
+    ∷ latitude / 65536
+    ∷ latitude % 65536 / 256
+    ∷ latitude % 65536 % 256
+    ∷ []
 
-abbrev pub rightOf : List ℕ → Eight
+abbrev pub rightOf : List ℕ → List ℕ
 rightOf m =
     let longitude = little32 m 12 % 16777216 in
     let height = little16 m 16 * 16 + getD m 18 0 in
     let motion = little16 m 22 * 16 + little16 m 24 % 4096 / 256 in
-    record {
-      o0 = longitude / 65536;
-      o1 = longitude % 65536 / 256;
-      o2 = longitude % 65536 % 256;
-      o3 = height / 256;
-      o4 = height % 256;
-      o5 = getD m 19 0 * 16 + getD m 20 0;
-      o6 = motion / 256;
-      o7 = motion % 256;
-    }
+    longitude / 65536
+    ∷ longitude % 65536 / 256
+    ∷ longitude % 65536 % 256
+    ∷ height / 256
+    ∷ height % 256
+    ∷ (getD m 19 0 * 16 + getD m 20 0)
+    ∷ motion / 256
+    ∷ motion % 256
+    ∷ []

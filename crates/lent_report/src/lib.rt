@@ -7,9 +7,8 @@ ghost use Prim.Native.Nat.{ℕ, _+_, _*_, _/_, _%_, _<_, _≤_};
 ghost use lib.ListN.{length, getD, drop};
 ghost use lib.Seq.{sets};
 ghost use Rattle.octet_fields.specs.Numbers.{big16, big24, big32, little16, little32};
-ghost use Rattle.octet_fields.specs.Texts.{textOctets};
 ghost use Rattle.twos_complement.specs.Signed.{signed, complement, holds};
-ghost use Rattle.octet_words.specs.Words.{octetsUp, octetsDown, eight};
+ghost use Rattle.octet_words.specs.Words.{octetsUp, eight};
 ghost use Rattle.message_formats.specs.Formats.{valueIn, bodyOf, fits};
 ghost use Rattle.gdl90_messages.specs.Report.{reportFormat};
 ghost use Rattle.lent_answers.specs.Reads.{ReadsInto};
@@ -257,82 +256,6 @@ fn right_word(longitude: u32, height: u16, integrity: u8, motion: u16) -> u64
         + (height as u64 * 16777216 + (integrity as u64 * 65536 + motion as u64))
 }
 
-// The octets of a number, the least significant first.
-struct Eight {
-    o0: u8,
-    o1: u8,
-    o2: u8,
-    o3: u8,
-    o4: u8,
-    o5: u8,
-    o6: u8,
-    o7: u8,
-}
-
-fn cut(word: u64) -> Eight
-    ensures { λ r. ⌜ octetsUp 8 word ≡ r .o0 ∷ r .o1 ∷ r .o2 ∷ r .o3 ∷ r .o4 ∷ r .o5 ∷ r .o6 ∷ r .o7 ∷ [] ⌝ }
-{
-    let from_1 = word / 256;
-    let from_2 = from_1 / 256;
-    let from_3 = from_2 / 256;
-    let from_4 = from_3 / 256;
-    let from_5 = from_4 / 256;
-    let from_6 = from_5 / 256;
-    let from_7 = from_6 / 256;
-    Eight {
-        o0: (word % 256) as u8,
-        o1: (from_1 % 256) as u8,
-        o2: (from_2 % 256) as u8,
-        o3: (from_3 % 256) as u8,
-        o4: (from_4 % 256) as u8,
-        o5: (from_5 % 256) as u8,
-        o6: (from_6 % 256) as u8,
-        o7: (from_7 % 256) as u8,
-    }
-}
-
-// Puts the octets of a body but the last at the start of output.
-fn put_octets(
-    output: &mut [u8],
-    left: Eight,
-    right: Eight,
-    rate: u8,
-    track: u8,
-    emitter: u8,
-    callsign: Text,
-)
-    requires { ⌜ 28 ≤ length (now output) ⌝ }
-    ensures { λ r. ⌜ now (output .exit) ≡ sets (now (output .entry)) 0 (left .o0 ∷ left .o1 ∷ left .o2 ∷ left .o3 ∷ left .o4 ∷ left .o5 ∷ left .o6 ∷ left .o7 ∷ right .o0 ∷ right .o1 ∷ right .o2 ∷ right .o3 ∷ right .o4 ∷ right .o5 ∷ right .o6 ∷ right .o7 ∷ rate ∷ track ∷ emitter ∷ callsign .c0 ∷ callsign .c1 ∷ callsign .c2 ∷ callsign .c3 ∷ callsign .c4 ∷ callsign .c5 ∷ callsign .c6 ∷ callsign .c7 ∷ []) ⌝ }
-{
-    output[0] = left.o0;
-    output[1] = left.o1;
-    output[2] = left.o2;
-    output[3] = left.o3;
-    output[4] = left.o4;
-    output[5] = left.o5;
-    output[6] = left.o6;
-    output[7] = left.o7;
-    output[8] = right.o0;
-    output[9] = right.o1;
-    output[10] = right.o2;
-    output[11] = right.o3;
-    output[12] = right.o4;
-    output[13] = right.o5;
-    output[14] = right.o6;
-    output[15] = right.o7;
-    output[16] = rate;
-    output[17] = track;
-    output[18] = emitter;
-    output[19] = callsign.c0;
-    output[20] = callsign.c1;
-    output[21] = callsign.c2;
-    output[22] = callsign.c3;
-    output[23] = callsign.c4;
-    output[24] = callsign.c5;
-    output[25] = callsign.c6;
-    output[26] = callsign.c7;
-}
-
 // Two fields of 4 bits.
 fn halves(high: u8, low: u8) -> u8
     requires { ⌜ (high < 16) × (low < 16) ⌝ }
@@ -356,44 +279,49 @@ fn motion_of(speed: u16, rate: u16) -> u16
     speed * 16 + rate / 256
 }
 
-// Octets 0 to 7 of the body, and 8 to 15. A number that is turned round and then cut is stored in one piece.
-fn left_octets(message: &[u8]) -> Eight
+// Octets 0 to 7 of the body as one number, the first least significant, and 8 to 15: a number that is turned round and put is
+// stored in one piece.
+fn left_octets(message: &[u8]) -> u64
     requires { ⌜ (length (now message) ≡ 40) × Small (now message) ⌝ }
-    ensures { λ r. ⌜ r ≡ leftOf (now (message .entry)) ⌝ }
+    ensures { λ r. ⌜ octetsUp 8 r ≡ leftOf (now (message .entry)) ⌝ }
 {
     let first = halves(message[0], message[1]);
     let address = octet_fields::little_32(message, 4);
     let latitude = octet_fields::little_32(message, 8) % 16777216;
-    cut(octet_words::turned(left_word(first, address, latitude)))
+    octet_words::turned(left_word(first, address, latitude))
 }
 
-fn right_octets(message: &[u8]) -> Eight
+fn right_octets(message: &[u8]) -> u64
     requires { ⌜ (length (now message) ≡ 40) × Small (now message) ⌝ }
-    ensures { λ r. ⌜ r ≡ rightOf (now (message .entry)) ⌝ }
+    ensures { λ r. ⌜ octetsUp 8 r ≡ rightOf (now (message .entry)) ⌝ }
 {
     let longitude = octet_fields::little_32(message, 12) % 16777216;
     let height = height_of(octet_fields::little_16(message, 16), message[18]);
     let integrity = halves(message[19], message[20]);
     let rate = octet_fields::little_16(message, 24) % 4096;
     let motion = motion_of(octet_fields::little_16(message, 22), rate);
-    cut(octet_words::turned(right_word(longitude, height, integrity, motion)))
+    octet_words::turned(right_word(longitude, height, integrity, motion))
 }
 
-// Puts the body at the start of output.
+// Puts octets 0 to 15 of the body.
+fn put_numbers(message: &[u8], output: &mut [u8])
+    requires { ⌜ (length (now message) ≡ 40) × Small (now message) × (28 ≤ length (now output)) ⌝ }
+    ensures { λ r. ⌜ now (output .exit) ≡ sets (now (output .entry)) 0 (leftOf (now (message .entry)) ++ rightOf (now (message .entry))) ⌝ }
+{
+    octet_words::put_64(output, 0, left_octets(message));
+    octet_words::put_64(output, 8, right_octets(message));
+}
+
+// Puts the body at the start of output. The callsign goes from one place to the other at once, so that no part of it waits.
 fn put(message: &[u8], output: &mut [u8])
     requires { ⌜ (length (now message) ≡ 40) × Small (now message) × (28 ≤ length (now output)) ⌝ }
     ensures { λ r. ⌜ now (output .exit) ≡ bodyOf (reportFormat 10) (held reportStruct (now (message .entry))) ++ drop 28 (now (output .entry)) ⌝ }
 {
-    let rate = octet_fields::little_16(message, 24) % 4096;
-    put_octets(
-        output,
-        left_octets(message),
-        right_octets(message),
-        (rate % 256) as u8,
-        octet_fields::octet(message, 26),
-        octet_fields::octet(message, 27),
-        octet_fields::text_at(message, 28),
-    );
+    put_numbers(message, output);
+    output[16] = message[24];
+    output[17] = message[26];
+    output[18] = message[27];
+    octet_words::put_64(output, 19, octet_words::little_64(message, 28));
     output[27] = halves(message[36], message[37]);
 }
 

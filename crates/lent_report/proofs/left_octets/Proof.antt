@@ -1,5 +1,6 @@
 -- `lent_report::left_octets` meets its contract, octet by octet. Assumes nothing.
-use mathlib.Core.Path.{_≡_, sym, _∙_}
+use mathlib.Core.Path.{_≡_, _∙_}
+use mathlib.Core.List.{[], _∷_}
 use Prim.Native.Nat.{ℕ, _/_, _%_, _<_}
 use native.Mathlib.Omega.{arith}
 use denote.Ref.{now}
@@ -23,43 +24,30 @@ left-word-requires c κs =
 
 returns : tie.Need-returns
 returns c =
-    let s = c .before .before .before .before .before .before .before .before .before in
+    let s = c .before .before .before .before .before .before .before .before in
     let z = s .pre .1 in
-    let first = c .before .before .before .before .before .halves .ensures in
-    let address = c .before .before .before .before .little-32 .ensures in
-    let latitude = c .before .before .before .little-322 .ensures in
-    let f = c .before .before .before .before .before .halves .result in
-    let a = c .before .before .before .before .little-32 .result in
-    let l = c .before .before .before .little-322 .result % 16777216 in
-    let f-lt : c .before .before .before .before .before .halves .result < 256 = halves-lt first (z .alert) (z .kind) in
-    let a-lt : c .before .before .before .before .little-32 .result < 16777216 = omega (arith, z .address) in
+    let first = c .before .before .before .before .halves .ensures in
+    let address = c .before .before .before .little-32 .ensures in
+    let latitude = c .before .before .little-322 .ensures in
+    let f = c .before .before .before .before .halves .result in
+    let a = c .before .before .before .little-32 .result in
+    let l = c .before .before .little-322 .result % 16777216 in
+    let f-lt : c .before .before .before .before .halves .result < 256 = halves-lt first (z .alert) (z .kind) in
+    let a-lt : c .before .before .before .little-32 .result < 16777216 = omega (arith, z .address) in
     let (a0, a1, a2) = octet-lt a a-lt in
     let (l0, l1, l2) = octet-lt l (omega arith) in
-    let octets = sym (c .cut .ensures)
-    ∙ turned-eight (c .before .before .left-word .result) (c .before .turned .result) (l % 65536 % 256) (l % 65536 / 256) (l / 65536)
-    (a % 65536 % 256) (a % 65536 / 256) (a / 65536) f 10 l2 l1 l0 a2 a1 a0 f-lt (omega arith) (c .before .before .left-word .ensures)
-    (c .before .turned .ensures)
-    in
-    (λ i. record {
-      o0 = getD (octets i) 0 0;
-      o1 = getD (octets i) 1 0;
-      o2 = getD (octets i) 2 0;
-      o3 = getD (octets i) 3 0;
-      o4 = getD (octets i) 4 0;
-      o5 = getD (octets i) 5 0;
-      o6 = getD (octets i) 6 0;
-      o7 = getD (octets i) 7 0;
-    })
-    ∙ (λ i. record {
-      o0 = 10;
-      o1 = first i;
-      o2 = address i / 65536;
-      o3 = address i % 65536 / 256;
-      o4 = address i % 65536 % 256;
-      o5 = latitude i % 16777216 / 65536;
-      o6 = latitude i % 16777216 % 65536 / 256;
-      o7 = latitude i % 16777216 % 65536 % 256;
-    })
+    turned-eight (c .before .left-word .result) (c .turned .result) (l % 65536 % 256) (l % 65536 / 256) (l / 65536)
+    (a % 65536 % 256) (a % 65536 / 256) (a / 65536) f 10 l2 l1 l0 a2 a1 a0 f-lt (omega arith) (c .before .left-word .ensures)
+    (c .turned .ensures)
+    ∙ (λ i. 10
+    ∷ first i
+    ∷ address i / 65536
+    ∷ address i % 65536 / 256
+    ∷ address i % 65536 % 256
+    ∷ latitude i % 16777216 / 65536
+    ∷ latitude i % 16777216 % 65536 / 256
+    ∷ latitude i % 16777216 % 65536 % 256
+    ∷ [])
 
 pub left-octets-spec : {M : Type 1} → statement M
 left-octets-spec =
@@ -71,6 +59,5 @@ left-octets-spec =
     (λ c κs. search needs)
     (λ c κs. search needs)
     left-word-requires
-    (λ c κs. search needs)
     (λ c κs. search needs)
     returns)

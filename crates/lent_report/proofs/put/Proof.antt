@@ -1,72 +1,57 @@
--- `lent_report::put` meets its contract. Assumes nothing.
-use mathlib.Core.Path.{_≡_, _∙_, ap, ap₂}
-use mathlib.Core.List.{List, [], _∷_}
-use Prim.Native.Nat.{ℕ, _%_}
+-- `lent_report::put` meets its contract: the body's octets are put one behind the other. Assumes nothing.
+use mathlib.Core.Path.{_≡_, _∙_}
 use denote.Ref.{now}
 use native.Mathlib.Omega.{arith}
-use lib.ListN.{length, set, length-set}
-use lib.Seq.{sets, length-sets}
+use lib.ListN.{length, getD, set, length-set}
+use lib.Seq.{sets}
+use Rattle.octet_words.proofs.Digits.{eight-from}
 use Rattle.lent_report.proofs.Held.{body-put}
 use borrow.Author.Needs.{needs}
 use Rattle.lent_report.proofs.put.Statement.{statement}
 use Rattle.lent_report.proofs.put.Tie as tie
 
-left-octets-requires : tie.Need-left-octets-requires
-left-octets-requires c κs =
-    let s = c .before .before .before .before in
-    (s .pre .0, s .pre .1)
+kept : (c : tie.After-halves)
+    → length (c .before .before .before .before .before .put-64 .last .0)
+    ≡ length (now (c .before .before .before .before .before .before .before .before .before .before .before .before .before .before .before .before .before .args .output))
+kept c =
+    let k5 = c .before .before .before .before .before in
+    k5 .put-64 .kept .0 ∙ simp length-set (k5 .before .before .before .before .before .before .before .before .put-numbers .kept .1 .0)
 
-right-octets-requires : tie.Need-right-octets-requires
-right-octets-requires c κs =
-    let s = c .before .before .before .before .before in
-    (s .pre .0, s .pre .1)
-
-put-octets-requires : tie.Need-put-octets-requires
-put-octets-requires c κs = c .before .before .before .before .before .before .before .before .before .pre .2
-
-shared-slice-read-halves : tie.Need-shared-slice-read-halves
-shared-slice-read-halves c = omega (arith, c .before .before .before .before .before .before .before .before .before .before .before .before .before .pre .0)
-
-shared-slice-read-halves-2 : tie.Need-shared-slice-read-halves-2
-shared-slice-read-halves-2 c = omega (arith, c .before .before .before .before .before .before .before .before .before .before .before .before .before .before .pre .0)
-
-halves-requires : tie.Need-halves-requires
-halves-requires c κs =
-    let s = c .before .before .before .before .before .before .before .before .before .before .before .before .before .before in
-    (s .pre .1 .emergency, s .pre .1 .spare)
-
-slice-write-output : tie.Need-slice-write-output
-slice-write-output c = omega (arith, c .before .before .before .before .before .put-octets .kept .0, c .before .before .before .before .before .before .before .before .before .before .before .before .before .before .before .pre .2)
-
-same-length : tie.Need-same-length
-same-length c = simp length-set (c .before .before .before .before .before .put-octets .kept .0)
+slice-write-output-4 : tie.Need-slice-write-output-4
+slice-write-output-4 c =
+    omega (arith, kept c, c .before .before .before .before .before .before .before .before .before .before .before .before .before .before .before .before .before .pre .2)
 
 returns : tie.Need-returns
 returns c =
-    let s = c .before .before .before .before .before .before .before .before .before .before .before .before .before .before .before in
-    let output = now (s .args .output) in
-    let left = c .before .before .before .before .before .before .before .before .before .before .left-octets .ensures in
-    let right = c .before .before .before .before .before .before .before .before .before .right-octets .ensures in
-    let text = c .before .before .before .before .before .before .text-at .ensures in
-    let others = c .before .before .before .before .before .put-octets .ensures ∙ (λ i. sets output 0 (left i .o0 ∷ left i .o1 ∷ left i .o2 ∷ left i .o3 ∷ left i .o4 ∷ left i .o5 ∷ left i .o6 ∷ left i .o7 ∷ right i .o0 ∷ right i .o1 ∷ right i .o2 ∷ right i .o3 ∷ right i .o4 ∷ right i .o5 ∷ right i .o6 ∷ right i .o7 ∷ c .before .before .before .before .before .before .before .before .before .before .before .before .little-16 .ensures i % 4096 % 256 ∷ c .before .before .before .before .before .before .before .before .octet .ensures i ∷ c .before .before .before .before .before .before .before .octet2 .ensures i ∷ text i .c0 ∷ text i .c1 ∷ text i .c2 ∷ text i .c3 ∷ text i .c4 ∷ text i .c5 ∷ text i .c6 ∷ text i .c7 ∷ [])) in
-    body-put (now (s .args .message)) (s .pre .0) (λ i. c .before .before .before .before .before .before .before .before .before .before .before .before .before .before .shared-slice-known .given i .fits) (s .pre .1) output (s .pre .2)
-    (ap₂ (λ (l : List ℕ) (x : ℕ). set l 27 x) others (c .halves .ensures))
+    let k5 = c .before .before .before .before .before in
+    let k6 = k5 .before in
+    let k13 = k6 .before .before .before .before .before .before .before in
+    let s = k13 .before .before .before .before in
+    let m = now (s .args .message) in
+    let numbers = k13 .put-numbers .ensures in
+    let callsign = k6 .little-64 .ensures ∙ eight-from m 28 (omega (arith, s .pre .0)) in
+    let others = k5 .put-64 .ensures
+    ∙ (λ i. sets (set (set (set (numbers i) 16 (getD m 24 0)) 17 (getD m 26 0)) 18 (getD m 27 0)) 19 (callsign i))
+    in
+    body-put m (s .pre .0) (λ i. k13 .before .before .before .shared-slice-known .given i .fits) (s .pre .1) (now (s .args .output)) (s .pre .2)
+    (λ i. set (others i) 27 (c .halves .ensures i))
 
 pub put-spec : {M : Type 1} → statement M
 put-spec =
     tie.close
     (tie.spec
     (λ c κs. search needs)
-    left-octets-requires
-    right-octets-requires
+    (λ c. search needs)
+    (λ c. search needs)
+    (λ c. search needs)
+    (λ c. simp length-set (search needs))
+    (λ c. search needs)
+    (λ c. simp length-set (search needs))
+    (λ c κs. search needs)
+    (λ c κs. simp length-set (search needs))
+    (λ c. search needs)
     (λ c. search needs)
     (λ c κs. search needs)
-    (λ c κs. search needs)
-    (λ c κs. search needs)
-    put-octets-requires
-    shared-slice-read-halves
-    shared-slice-read-halves-2
-    halves-requires
-    slice-write-output
-    same-length
+    slice-write-output-4
+    (λ c. simp length-set (kept c))
     returns)
