@@ -5,8 +5,8 @@ use mathlib.Core.List.{List, [], _∷_, _++_}
 use Prim.Native.Nat.{ℕ, _<_, _≤_}
 use native.Mathlib.Omega.{arith}
 use lib.Dec.{ltb}
-use lib.ListN.{getD, length, take, drop, set}
-use lib.Seq.{sets, sets-eq}
+use lib.ListN.{getD, length, take, drop, set, length-drop}
+use lib.Seq.{sets, sets-eq, drop-drop}
 use Rattle.binary_polynomial.specs.Bits.{Octets}
 use Rattle.octet_fields.specs.Numbers.{little16}
 use Rattle.octet_fields.specs.Texts.{textOctets, textAt}
@@ -61,13 +61,17 @@ module _ (message : List ℕ) (n : length message ≡ 24) where
         → bodyOf controlFormat (held controlStruct message) ≡ 45 ∷ 1 ∷ s ∷ elements 15 8 message
     body-found e = rw e (body-held message is n)
 
-    -- the body is put, octet by octet
+    -- the body is put: three octets, and two words of which the second starts with the last octet of the first
     pub body-put : {s : ℕ} (output : List ℕ) {after : List ℕ} → s ≡ stateOf (held controlStruct message) → 18 ≤ length output
-        → after ≡ sets (set (set (set output 0 45) 1 1) 2 s) 3 (elements 15 8 message)
+        → after ≡ sets (sets (set (set (set output 0 45) 1 1) 2 s) 3 (elements 8 8 message)) 10 (elements 8 15 message)
         → after ≡ bodyOf controlFormat (held controlStruct message) ++ drop 18 output
     body-put {s} output e room put =
+        let first : List ℕ = 45 ∷ 1 ∷ s ∷ elements 8 8 message in
+        let wide : 18 ≤ length (first ++ drop 11 output) = simp length-drop (omega arith) in
         put
-        ∙ sets-eq (45 ∷ 1 ∷ s ∷ elements 15 8 message) output 0 room
+        ∙ ap (λ (l : List ℕ). sets l 10 (elements 8 15 message)) (sets-eq first output 0 (omega arith))
+        ∙ sets-eq (elements 8 15 message) (first ++ drop 11 output) 10 wide
+        ∙ ap (λ (l : List ℕ). (45 ∷ 1 ∷ s ∷ elements 15 8 message) ++ l) (drop-drop 7 11 output)
         ∙ ap (λ (body : List ℕ). body ++ drop 18 output) (sym (body-found e))
 
   -- the body's octets from 4 on

@@ -3,10 +3,9 @@ use writer_answers::OstrogoszWritten;
 ghost use mathlib.Core.Path.{_≡_};
 ghost use mathlib.Core.Bool.{_&&_};
 ghost use lib.Dec.{ltb};
-ghost use mathlib.Core.List.{[], _∷_, _++_};
+ghost use mathlib.Core.List.{_++_};
 ghost use Prim.Native.Nat.{_<_, _≤_};
 ghost use lib.ListN.{length, getD, drop};
-ghost use lib.Seq.{sets};
 ghost use Rattle.field_rules.specs.Codes.{isSquawk};
 ghost use Rattle.frame_format.specs.Frame.{frame};
 ghost use Rattle.octet_fields.specs.Numbers.{little16};
@@ -129,45 +128,6 @@ fn numbers_fit(message: &[u8]) -> bool
     (message[5] < 4) & field_rules::is_squawk(octet_fields::little_16(message, 12))
 }
 
-// Puts fifteen octets from 3 on: all are read before the first is stored, so that they go in words.
-fn put_from_3(
-    output: &mut [u8],
-    a: u8,
-    b: u8,
-    c: u8,
-    d: u8,
-    e: u8,
-    f: u8,
-    g: u8,
-    h: u8,
-    i: u8,
-    j: u8,
-    k: u8,
-    l: u8,
-    m: u8,
-    n: u8,
-    o: u8,
-)
-    requires { ⌜ 18 ≤ length (now output) ⌝ }
-    ensures { λ r. ⌜ now (output .exit) ≡ sets (now (output .entry)) 3 (a ∷ b ∷ c ∷ d ∷ e ∷ f ∷ g ∷ h ∷ i ∷ j ∷ k ∷ l ∷ m ∷ n ∷ o ∷ []) ⌝ }
-{
-    output[3] = a;
-    output[4] = b;
-    output[5] = c;
-    output[6] = d;
-    output[7] = e;
-    output[8] = f;
-    output[9] = g;
-    output[10] = h;
-    output[11] = i;
-    output[12] = j;
-    output[13] = k;
-    output[14] = l;
-    output[15] = m;
-    output[16] = n;
-    output[17] = o;
-}
-
 // Puts the body at the start of output.
 fn put(message: &[u8], output: &mut [u8])
     requires { ⌜ (length (now message) ≡ 24) × (getD (now message) 5 0 < 4) × (18 ≤ length (now output)) ⌝ }
@@ -178,24 +138,9 @@ fn put(message: &[u8], output: &mut [u8])
     output[0] = 45;
     output[1] = 1;
     output[2] = state;
-    put_from_3(
-        output,
-        message[8],
-        message[9],
-        message[10],
-        message[11],
-        message[12],
-        message[13],
-        message[14],
-        message[15],
-        message[16],
-        message[17],
-        message[18],
-        message[19],
-        message[20],
-        message[21],
-        message[22],
-    );
+    // Fifteen octets in two words: the first of the identity is put twice.
+    octet_words::put_64(output, 3, octet_words::little_64(message, 8));
+    octet_words::put_64(output, 10, octet_words::little_64(message, 15));
 }
 
 fn write(message: &[u8], output: &mut [u8]) -> OstrogoszWritten
