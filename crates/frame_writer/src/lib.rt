@@ -55,7 +55,7 @@ fn put_head(body: &[u8], output: &mut [u8], octets: usize) -> usize
 
 // Puts what is left of a frame at a place of output: the octets of body from start on, an even number of them, and the end.
 // The check is that of the octets before.
-fn fill_words(body: &[u8], output: &mut [u8], start: usize, check: u16, at: usize) -> usize
+pub fn fill_words(body: &[u8], output: &mut [u8], start: usize, check: u16, at: usize) -> usize
     requires { ⌜ (start ≤ length (now body)) × ((length (now body) - start) % 2 ≡ 0) × (at + length (rest check (drop start (now body))) ≤ length (now output)) ⌝ }
     ensures { λ r. ⌜ Puts (now (output .entry)) at (rest check (drop start (now (body .entry)))) r (now (output .exit)) ⌝ }
 {
@@ -131,7 +131,7 @@ fn close(output: &mut [u8], at: usize, check: u16) -> usize
 }
 
 // Puts two octets, stuffed, at a place of output, and gives the next place.
-fn put_pair(output: &mut [u8], at: usize, first: u8, second: u8) -> usize
+pub fn put_pair(output: &mut [u8], at: usize, first: u8, second: u8) -> usize
     requires { ⌜ at + length (escaped first ++ escaped second) ≤ length (now output) ⌝ }
     ensures { λ r. ⌜ Puts (now (output .entry)) at (escaped first ++ escaped second) r (now (output .exit)) ⌝ }
 {

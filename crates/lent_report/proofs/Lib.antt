@@ -1,0 +1,5 @@
+pub mod Words
+pub mod Numbers
+pub mod Bodies
+pub mod Held
+pub mod Agree
