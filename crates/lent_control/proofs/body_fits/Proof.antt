@@ -9,9 +9,6 @@ use borrow.Author.Needs.{needs}
 use Rattle.lent_control.proofs.body_fits.Statement.{statement}
 use Rattle.lent_control.proofs.body_fits.Tie as tie
 
-is-padded-at-requires : tie.Need-is-padded-at-requires
-is-padded-at-requires c κs = omega arith
-
 returns : tie.Need-returns
 returns c =
     let s = c .before .before .before .before in
@@ -19,10 +16,4 @@ returns c =
     ∙ in-range (now (s .args .body)) (s .pre)
 
 pub body-fits-spec : {M : Type 1} → statement M
-body-fits-spec =
-    tie.close
-    (tie.spec
-    (λ c κs. search needs)
-    (λ c κs. search needs)
-    is-padded-at-requires
-    returns)
+body-fits-spec = tie.close (tie.spec (λ c κs. search needs) (λ c κs. search needs) (λ c κs. omega arith) returns)

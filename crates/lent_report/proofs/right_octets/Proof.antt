@@ -28,9 +28,6 @@ motion-of-requires c κs =
     let e = c .little-163 .ensures in
     (omega (arith, s .pre .1 .speed), omega arith)
 
-right-word-requires : tie.Need-right-word-requires
-right-word-requires c κs = omega arith
-
 returns : tie.Need-returns
 returns c =
     let k5 = c .before .before .before .before .before in
@@ -71,17 +68,6 @@ returns c =
 pub right-octets-spec : {M : Type 1} → statement M
 right-octets-spec =
     tie.close
-    (tie.spec
-    (λ c κs. search needs)
-    (λ c κs. search needs)
-    (λ c. search needs)
-    height-of-requires
-    (λ c. search needs)
-    (λ c. search needs)
-    halves-requires
-    (λ c κs. search needs)
-    (λ c κs. search needs)
-    motion-of-requires
-    right-word-requires
-    (λ c κs. search needs)
-    returns)
+    (tie.spec (λ c κs. search needs) (λ c κs. search needs) (λ c. search needs) height-of-requires (λ c. search needs)
+    (λ c. search needs) halves-requires (λ c κs. search needs) (λ c κs. search needs) motion-of-requires
+    (λ c κs. omega arith) (λ c κs. search needs) returns)
