@@ -1,30 +1,17 @@
 -- The text of a listing (document 01, "Frames to try", the line lister), as lists of character codes. Assumes nothing.
-use mathlib.Core.Bool.{cond}
 use mathlib.Core.List.{List, [], _∷_, _++_}
-use Prim.Native.Nat.{ℕ, zero, suc, _+_, _/_, _%_, _^_}
-use lib.Dec.{ltb}
+use Prim.Native.Nat.{ℕ, _+_, _%_, _^_}
 use lib.ListN.{length}
 use Rattle.frame_format.specs.Stretch.{Verdict, silent, refused, delivered}
+use Rattle.frame_format.specs.Frame.{longestBody}
 use Rattle.byte_account.specs.declared.Counts.{Counts}
 use Rattle.text_output.specs.declared.Spelling.the-variants.{Hex}
-use Rattle.text_output.specs.Text.{spelledOctet, spelled}
+use Rattle.text_output.specs.Text.{spelledOctet, spelled, natural}
 
 -- ---- numbers
 
--- the code of a decimal digit: '0' is 48
-abbrev pub digit : ℕ → ℕ
-digit d = 48 + d
-
--- a number in decimal, the most significant digit first, where `most` digits hold it
-unfoldable pub decimalWithin : ℕ → ℕ → List ℕ
-decimalWithin zero n = []
-decimalWithin (suc most) n =
-    let more = decimalWithin most (n / 10) ++ (digit (n % 10) ∷ []) in
-    cond (ltb n 10) (digit n ∷ []) more
-
--- no digit more than needed; n + 1 digits hold n
-unfoldable pub decimal : ℕ → List ℕ
-decimal n = decimalWithin (suc n) n
+abbrev pub decimal : ℕ → List ℕ
+decimal = natural
 
 -- an octet in hexadecimal, with a space before it
 abbrev pub hexOctet : ℕ → List ℕ
@@ -60,9 +47,9 @@ lineOf silent = []
 lineOf (refused number) = noLine number
 lineOf (delivered body) = okLine body
 
--- a body has at most 436 octets, and its line "ok 436", 3 octets for each, and a newline
+-- the longest body fits; its line has "ok 436", 3 octets for each of its octets, and a newline
 abbrev pub bodyRoom : ℕ
-bodyRoom = 436
+bodyRoom = longestBody
 
 abbrev pub longestLine : ℕ
 longestLine = 1317
