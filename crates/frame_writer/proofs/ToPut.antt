@@ -1,16 +1,12 @@
 -- Octets still to put at a place of the output. Assumes nothing.
 use mathlib.Core.Path.{_≡_, sym, _∙_, ap, ap₂}
-use mathlib.Core.List.{List, [], _∷_, _++_}
-use Prim.Native.Nat.{ℕ, suc, _+_, _≤_}
-use native.Mathlib.Nat.{add-zero, add-suc, suc-add}
+use mathlib.Core.List.{List, _++_}
+use Prim.Native.Nat.{ℕ, _+_, _≤_}
 use native.Mathlib.Omega.{arith}
-use lib.ListN.{length, set, length-append}
+use lib.ListN.{length, length-append}
 use lib.Seq.{sets, length-sets}
+use Rattle.octet_words.proofs.Sets.{sets-append}
 use Rattle.frame_writer.specs.Puts.{Puts}
-
-pub sets-append : (l : List ℕ) (i : ℕ) (us vs : List ℕ) → sets l i (us ++ vs) ≡ sets (sets l i us) (i + length us) vs
-sets-append l i [] vs = rw add-zero
-sets-append l i (u ∷ us) vs = sets-append (set l i u) (suc i) us vs ∙ rw (suc-add, add-suc)
 
 -- there is room for them, they end at `end`, and once they are put the output is `final`
 pub record ToPut (output : List ℕ) (at : ℕ) (octets : List ℕ) (end : ℕ) (final : List ℕ) : Type 0 where

@@ -1,30 +1,17 @@
 -- The text of a listing (document 01, "Frames to try", the line lister), as lists of character codes. Assumes nothing.
-use mathlib.Core.Bool.{cond}
-use mathlib.Core.List.{List, [], _∷_, _++_}
-use Prim.Native.Nat.{ℕ, zero, suc, _+_, _/_, _%_, _^_}
-use lib.Dec.{ltb}
+use mathlib.Core.List.{List, [], _++_}
+use Prim.Native.Nat.{ℕ, _+_, _%_, _^_}
 use lib.ListN.{length}
 use Rattle.frame_format.specs.Stretch.{Verdict, silent, refused, delivered}
+use Rattle.frame_format.specs.Frame.{longestBody}
 use Rattle.byte_account.specs.declared.Counts.{Counts}
 use Rattle.text_output.specs.declared.Spelling.the-variants.{Hex}
-use Rattle.text_output.specs.Text.{spelledOctet, spelled}
+use Rattle.text_output.specs.Text.{codes, spelledOctet, spelled, natural}
 
 -- ---- numbers
 
--- the code of a decimal digit: '0' is 48
-abbrev pub digit : ℕ → ℕ
-digit d = 48 + d
-
--- a number in decimal, the most significant digit first, where `most` digits hold it
-unfoldable pub decimalWithin : ℕ → ℕ → List ℕ
-decimalWithin zero n = []
-decimalWithin (suc most) n =
-    let more = decimalWithin most (n / 10) ++ (digit (n % 10) ∷ []) in
-    cond (ltb n 10) (digit n ∷ []) more
-
--- no digit more than needed; n + 1 digits hold n
-unfoldable pub decimal : ℕ → List ℕ
-decimal n = decimalWithin (suc n) n
+abbrev pub decimal : ℕ → List ℕ
+decimal = natural
 
 -- an octet in hexadecimal, with a space before it
 abbrev pub hexOctet : ℕ → List ℕ
@@ -36,15 +23,13 @@ hexOctets = spelled Hex
 -- ---- lines
 
 abbrev pub newline : List ℕ
-newline = 10 ∷ []
+newline = codes "\n"
 
--- "ok "
 abbrev pub okWord : List ℕ
-okWord = 111 ∷ 107 ∷ 32 ∷ []
+okWord = codes "ok "
 
--- "no "
 abbrev pub noWord : List ℕ
-noWord = 110 ∷ 111 ∷ 32 ∷ []
+noWord = codes "no "
 
 -- a delivered body: its length, and each octet
 unfoldable pub okLine : List ℕ → List ℕ
@@ -60,38 +45,32 @@ lineOf silent = []
 lineOf (refused number) = noLine number
 lineOf (delivered body) = okLine body
 
--- a body has at most 436 octets, and its line "ok 436", 3 octets for each, and a newline
+-- the longest body fits; its line has "ok 436", 3 octets for each of its octets, and a newline
 abbrev pub bodyRoom : ℕ
-bodyRoom = 436
+bodyRoom = longestBody
 
 abbrev pub longestLine : ℕ
 longestLine = 1317
 
 -- ---- the closing line
 
--- "bytes "
 abbrev pub bytesWord : List ℕ
-bytesWord = 98 ∷ 121 ∷ 116 ∷ 101 ∷ 115 ∷ 32 ∷ []
+bytesWord = codes "bytes "
 
--- " flags "
 abbrev pub flagsWord : List ℕ
-flagsWord = 32 ∷ 102 ∷ 108 ∷ 97 ∷ 103 ∷ 115 ∷ 32 ∷ []
+flagsWord = codes " flags "
 
--- " delivered "
 abbrev pub deliveredWord : List ℕ
-deliveredWord = 32 ∷ 100 ∷ 101 ∷ 108 ∷ 105 ∷ 118 ∷ 101 ∷ 114 ∷ 101 ∷ 100 ∷ 32 ∷ []
+deliveredWord = codes " delivered "
 
--- " refused "
 abbrev pub refusedWord : List ℕ
-refusedWord = 32 ∷ 114 ∷ 101 ∷ 102 ∷ 117 ∷ 115 ∷ 101 ∷ 100 ∷ 32 ∷ []
+refusedWord = codes " refused "
 
--- " skipped "
 abbrev pub skippedWord : List ℕ
-skippedWord = 32 ∷ 115 ∷ 107 ∷ 105 ∷ 112 ∷ 112 ∷ 101 ∷ 100 ∷ 32 ∷ []
+skippedWord = codes " skipped "
 
--- " open "
 abbrev pub openWord : List ℕ
-openWord = 32 ∷ 111 ∷ 112 ∷ 101 ∷ 110 ∷ 32 ∷ []
+openWord = codes " open "
 
 -- a count with its word
 unfoldable pub counted : List ℕ → ℕ → List ℕ

@@ -1,15 +1,13 @@
 -- The lines that the code holds are the rows. Assumes nothing.
-use mathlib.Core.Path.{_≡_, refl, ap, sym, _∙_}
+use mathlib.Core.Path.{_≡_, refl, ap, _∙_}
 use mathlib.Core.Bool.{Bool, true, false, cond, not, _&&_}
 use mathlib.Core.List.{List, [], _∷_, _++_}
-use Prim.Native.Nat.{ℕ, _+_, _<_, _≤_}
+use Prim.Native.Nat.{ℕ, _+_, _<_}
 use native.Mathlib.Omega.{arith}
 use lib.Dec.{eqb}
 use borrow.Author.Tests.{eq-eqb, ne-eqb}
-use lib.ListN.{length, getD, drop, drop-of-length-le}
-use Rattle.text_output.specs.Clips.{Clips}
-use Rattle.text_output.proofs.Clipped.{then}
-use Rattle.text_output.proofs.Spelled.{Left, drop-next}
+use lib.ListN.{length, getD, drop}
+use Rattle.text_output.proofs.Spelled.{drop-next}
 use Rattle.refusal_text.specs.Lines.{line, seek}
 use Rattle.refusal_text.specs.Refusals.{Row, rows, noRow, wordsIn, reason}
 

@@ -4,7 +4,7 @@ use text_output::put_octet;
 use text_output::put_word;
 ghost use mathlib.Core.Path.{_≡_};
 ghost use mathlib.Core.Bool.{false};
-ghost use lib.ListN.{length, drop};
+ghost use lib.ListN.{drop};
 ghost use Rattle.text_output.specs.Clips.{Clips};
 ghost use Rattle.refusal_text.specs.Lines.{line, seek};
 ghost use Rattle.refusal_text.specs.Refusals.{reason, refusal};

@@ -1,6 +1,6 @@
 -- `line_lister::list_block` meets its contract. The loop's invariant: the record behind the block is the one behind the octets
 -- that are left, from the present record on. Assumes nothing.
-use mathlib.Core.Path.{_≡_, refl, sym, _∙_, ap}
+use mathlib.Core.Path.{_≡_, refl, sym, _∙_}
 use Prim.Native.Nat.{_+_, _-_, _<_, _≤_}
 use native.Mathlib.Omega.{arith}
 use denote.Ref.{now}

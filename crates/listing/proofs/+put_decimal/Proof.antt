@@ -10,8 +10,8 @@ use lib.Seq.{sets}
 use borrow.Fn.Kinds.{In}
 use borrow.Fn.PlainCycle.{Measures, is, falls, and}
 use Rattle.frame_writer.proofs.ToPut.{ToPut, first-room, first-put}
-use Rattle.listing.specs.Listing.{digit, decimal}
-use Rattle.listing.proofs.Decimal.{digit-room, digit-put, digits-left}
+use Rattle.listing.specs.Listing.{decimal}
+use Rattle.listing.proofs.Decimal.{digit, digit-room, digit-put, digits-left}
 use Rattle.listing.proofs.put_decimal.Reads as put-decimal
 use Rattle.listing.proofs.put_decimal.Kinds as put-decimal-kinds
 use Rattle.listing.proofs.+put_decimal.Lts-put_decimal as put-decimal-lts
@@ -35,7 +35,7 @@ put-decimal-slice-write-text : (t : ℕ) → put-decimal-lts.Need-slice-write-te
 ) (put-decimal-at t) put-decimal.Post
 put-decimal-slice-write-text t c =
     let s = c .before .before in
-    digit-room (now (s .args .text)) (s .args .at) (s .args .n) (s .pre .1) (c .if1 .taken)
+    digit-room (now (s .args .text)) (s .args .at) (s .args .n) (omega arith) (s .pre .1) (c .if1 .taken)
 
 put-decimal-add-result : (t : ℕ) → put-decimal-lts.Need-add-result (
   put-decimal-below t,
@@ -43,7 +43,7 @@ put-decimal-add-result : (t : ℕ) → put-decimal-lts.Need-add-result (
 ) (put-decimal-at t) put-decimal.Post
 put-decimal-add-result t c =
     let s = c .before .before in
-    omega (arith, digit-room (now (s .args .text)) (s .args .at) (s .args .n) (s .pre .1) (c .if1 .taken))
+    omega (arith, digit-room (now (s .args .text)) (s .args .at) (s .args .n) (omega arith) (s .pre .1) (c .if1 .taken))
 
 put-decimal-returns : (t : ℕ) → put-decimal-lts.Need-returns (
   put-decimal-below t,
@@ -51,7 +51,7 @@ put-decimal-returns : (t : ℕ) → put-decimal-lts.Need-returns (
 ) (put-decimal-at t) put-decimal.Post
 put-decimal-returns t c =
     let s = c .before .before in
-    digit-put (now (s .args .text)) (s .args .at) (s .args .n) (s .pre .1) (c .if1 .taken)
+    digit-put (now (s .args .text)) (s .args .at) (s .args .n) (omega arith) (s .pre .1) (c .if1 .taken)
 
 put-decimal-put-decimal-requires : (t : ℕ) → put-decimal-lts.Need-put-decimal-requires (
   put-decimal-below t,
@@ -59,7 +59,7 @@ put-decimal-put-decimal-requires : (t : ℕ) → put-decimal-lts.Need-put-decima
 ) (put-decimal-at t) put-decimal.Post
 put-decimal-put-decimal-requires t c κs =
     let s = c .before .before .before in
-    (omega (arith, s .pre .0), first-room (decimal (s .args .n / 10)) _ (digits-left (now (s .args .text)) (s .args .at) (s .args .n) (s .pre .1) (c .before .if1 .left)))
+    (omega (arith, s .pre .0), first-room (decimal (s .args .n / 10)) _ (digits-left (now (s .args .text)) (s .args .at) (s .args .n) (omega arith) (s .pre .1) (c .before .if1 .left)))
 
 -- the last digit is left to put
 last-left : (t : ℕ) (c : put-decimal-lts.After-put-decimal (put-decimal-below t, put-decimal.Post) (put-decimal-at t) put-decimal.Post)
@@ -69,7 +69,7 @@ last-left : (t : ℕ) (c : put-decimal-lts.After-put-decimal (put-decimal-below 
 last-left t c =
     let s = c .before .before .before .before in
     first-put (decimal (s .args .n / 10)) (digit (s .args .n % 10) ∷ [])
-    (digits-left (now (s .args .text)) (s .args .at) (s .args .n) (s .pre .1) (c .before .before .if1 .left))
+    (digits-left (now (s .args .text)) (s .args .at) (s .args .n) (omega arith) (s .pre .1) (c .before .before .if1 .left))
     (c .put-decimal .ensures)
 
 put-decimal-slice-write-text-2 : (t : ℕ) → put-decimal-lts.Need-slice-write-text-2 (

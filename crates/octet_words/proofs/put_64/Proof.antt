@@ -3,7 +3,7 @@ use Prim.Native.Nat.{_/_, _%_}
 use denote.Ref.{now}
 use lib.ListN.{length-set}
 use Rattle.octet_words.specs.Words.{octetsUp}
-use Rattle.octet_words.proofs.Digits.{eight-put}
+use Rattle.octet_words.proofs.Sets.{stored}
 use borrow.Author.Needs.{needs}
 use Rattle.octet_words.proofs.put_64.Statement.{statement}
 use Rattle.octet_words.proofs.put_64.Tie as tie
@@ -12,8 +12,7 @@ returns : tie.Need-returns
 unfolding octetsUp
 returns c =
     let w = c .args .word in
-    eight-put (now (c .args .output)) (c .args .at) (w % 256) (w / 256 % 256) (w / 256 / 256 % 256) (w / 256 / 256 / 256 % 256)
-    (w / 256 / 256 / 256 / 256 % 256) (w / 256 / 256 / 256 / 256 / 256 % 256) (w / 256 / 256 / 256 / 256 / 256 / 256 % 256) (w / 256 / 256 / 256 / 256 / 256 / 256 / 256 % 256)
+    stored (now (c .args .output)) (c .args .at) (w % 256) (octetsUp 7 (w / 256))
 
 pub put-64-spec : {M : Type 1} → statement M
 put-64-spec =

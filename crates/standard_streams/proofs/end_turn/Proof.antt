@@ -1,5 +1,4 @@
 -- `standard_streams::end_turn` meets its contract. Assumes nothing.
-use mathlib.Core.Path.{refl}
 use borrow.Author.Tests.{eq-eqb, ne-eqb}
 use borrow.Author.Needs.{needs}
 use Rattle.standard_streams.proofs.end_turn.Statement.{statement}

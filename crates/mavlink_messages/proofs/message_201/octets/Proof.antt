@@ -2,7 +2,6 @@
 use mathlib.Core.List.{[], _∷_, _++_}
 use Rattle.message_formats.specs.Formats.{bodyOf}
 use Rattle.octet_fields.specs.Texts.{textOctets}
-use Rattle.mavlink_messages.specs.Static.{staticFormat}
 use borrow.Author.Needs.{needs}
 use Rattle.mavlink_messages.proofs.message_201.octets.Statement.{statement}
 use Rattle.mavlink_messages.proofs.message_201.octets.Tie as tie

@@ -2,7 +2,6 @@
 use mathlib.Core.List.{[], _∷_, _++_}
 use Rattle.message_formats.specs.Formats.{bodyOf}
 use Rattle.octet_fields.specs.Texts.{textOctets}
-use Rattle.mavlink_messages.specs.Traffic.{trafficFormat}
 use Rattle.mavlink_messages.proofs.Signed.{put-16}
 use borrow.Author.Needs.{needs}
 use Rattle.mavlink_messages.proofs.message_246.last_octets.Statement.{statement}

@@ -1,7 +1,6 @@
 -- `mavlink_messages::message_66::octets` meets its contract, run by run. Assumes nothing.
 use mathlib.Core.List.{[], _∷_, _++_}
 use Rattle.message_formats.specs.Formats.{bodyOf}
-use Rattle.mavlink_messages.specs.DataStream.{dataStreamFormat}
 use borrow.Author.Needs.{needs}
 use Rattle.mavlink_messages.proofs.message_66.octets.Statement.{statement}
 use Rattle.mavlink_messages.proofs.message_66.octets.Tie as tie
