@@ -149,6 +149,7 @@ fn fill(body: &[u8], message: &mut [u8; 40])
     requires { ⌜ length (now body) ≡ 28 ⌝ }
     ensures { λ r. ⌜ now (message .exit) ≡ stored reportStruct (valueIn (reportFormat 10) (now (body .entry))) ⌝ }
 {
+    // Zeros for the padding first: every part then reads the body anew, and holds little at a time.
     *message = [0; 40];
     put_left(body, message);
     put_right(body, message);
