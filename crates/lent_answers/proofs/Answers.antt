@@ -1,6 +1,6 @@
 -- What a reader of one kind answers, test by test. Assumes nothing.
 use mathlib.Core.Path.{_≡_, refl}
-use mathlib.Core.Bool.{Bool, true, false}
+use mathlib.Core.Bool.{true, false}
 use mathlib.Core.List.{List}
 use Prim.Native.Nat.{ℕ}
 use native.Mathlib.Omega.{arith}
@@ -9,7 +9,7 @@ use lib.ListN.{length, getD, drop}
 use Rattle.message_formats.specs.Formats.{Format, standAt, size, valueIn, refusalOf}
 use Rattle.message_formats.proofs.Refusals.{exactly-11, exactly-12, exactly-13, exactly-0}
 use Rattle.lent_answers.specs.Structs.{Struct, stored}
-use Rattle.lent_answers.specs.Reads.{hasId, refusalAs, Reading, ReadsInto}
+use Rattle.lent_answers.specs.Reads.{hasId, refusalAs, ReadsInto}
 
 pub its-id : (id : ℕ) (body : List ℕ) → (length body ≡ 0 → ⊥) → getD body 0 0 ≡ id → hasId id body ≡ true
 its-id id body some is = rw (lt-ltb 0 (length body) (omega arith), eq-eqb _ _ is)

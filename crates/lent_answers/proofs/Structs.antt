@@ -8,7 +8,6 @@ use lib.ListN.{drop, replicate}
 use Rattle.octet_fields.specs.Digits.{Within, bitOf}
 use Rattle.octet_fields.specs.Layout.{Run, octet as octetRun, layoutWidths, Whole}
 use Rattle.octet_fields.proofs.RoundTrips.{fields-octets}
-use Rattle.octet_fields.specs.declared.Text.{Text}
 use Rattle.message_formats.specs.Columns.{Sort, field, Number, numberTo, numberOf, tested, Typed, Sound, _&_, Row, made, RowTyped, rowTested, RowSound}
 use Rattle.message_formats.proofs.Columns.{row-before, row-within, row-back}
 use Rattle.lent_answers.specs.Structs.{isYes, Member, bool, low, text, padding, runs, columns, rowOf, rowTo, rowFrom, Struct, RightStruct, stored, held, TypedIn}

@@ -1,6 +1,6 @@
 -- The frame of the message that a struct holds, pair by pair. Assumes nothing.
 use mathlib.Core.Path.{_≡_, refl, sym, ap, _∙_, subst}
-use mathlib.Core.List.{List, [], _∷_, _++_}
+use mathlib.Core.List.{List, _∷_, _++_}
 use Prim.Native.Nat.{ℕ, _+_, _≤_}
 use native.Mathlib.Omega.{arith}
 use lib.ListN.{getD, length, take, drop, set, length-set}
@@ -11,7 +11,7 @@ use Rattle.octet_fields.proofs.Spelled.{elements}
 use Rattle.frame_format.specs.Stuffing.{flag, escaped}
 use Rattle.frame_format.specs.Frame.{frame}
 use Rattle.frame_writer.specs.Puts.{Puts, rest}
-use Rattle.frame_writer.proofs.ToPut.{ToPut, all-to-put, last-room, last-put}
+use Rattle.frame_writer.proofs.ToPut.{ToPut, all-to-put, last-put}
 use Rattle.frame_writer.proofs.Rest.{frame-rest, frame-put, pair-room, pair-put}
 use Rattle.message_formats.specs.Formats.{bodyOf}
 use Rattle.control_messages.specs.Control.{controlFormat}

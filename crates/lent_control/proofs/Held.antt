@@ -1,7 +1,7 @@
 -- What a struct holds, by its octets. Assumes nothing.
-use mathlib.Core.Path.{_≡_, refl, sym, ap, _∙_, subst}
-use mathlib.Core.Bool.{Bool, true, false, cond, _&&_}
-use mathlib.Core.List.{List, [], _∷_, _++_}
+use mathlib.Core.Path.{_≡_, refl, sym, ap, _∙_}
+use mathlib.Core.Bool.{Bool, true, false, _&&_}
+use mathlib.Core.List.{List, _∷_, _++_}
 use Prim.Native.Nat.{ℕ, _<_, _≤_}
 use native.Mathlib.Omega.{arith}
 use lib.Dec.{ltb}
@@ -16,7 +16,6 @@ use Rattle.text_rules.specs.Text.{isPadded}
 use Rattle.frame_format.specs.Frame.{frame}
 use Rattle.frame_format.proofs.Frame.{frame-length-most}
 use Rattle.frame_room.proofs.Due.{due-accepted}
-use Rattle.writer_answers.specs.Numbers.{WritingNumbers}
 use Rattle.control_messages.specs.declared.Control.{Control}
 use Rattle.message_formats.specs.Formats.{bodyOf, fits}
 use Rattle.message_formats.proofs.Formats.{fitting, bound}

@@ -33,8 +33,7 @@ fn fill(body: &[u8], message: &mut [u8; 24])
     requires { ⌜ length (now body) ≡ 18 ⌝ }
     ensures { λ r. ⌜ now (message .exit) ≡ stored controlStruct (valueIn controlFormat (now (body .entry))) ⌝ }
 {
-    // Behind a store the compiler reads the body anew. Else it keeps the text from its test in a register of vectors, and
-    // copies it by way of the stack.
+    // Behind a store the compiler reads the body anew. Else it keeps the text from its test, and copies it by way of the stack.
     *message = [0; 24];
     let state = body[2];
     let from_6 = state % 128;

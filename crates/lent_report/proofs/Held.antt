@@ -1,6 +1,6 @@
 -- What a struct holds, by its octets. Assumes nothing.
-use mathlib.Core.Path.{_≡_, refl, sym, ap, _∙_, subst}
-use mathlib.Core.Bool.{Bool, true, _&&_}
+use mathlib.Core.Path.{_≡_, refl, sym, ap, _∙_}
+use mathlib.Core.Bool.{true, _&&_}
 use mathlib.Core.List.{List, [], _∷_, _++_}
 use Prim.Native.Nat.{ℕ, _+_, _*_, _/_, _%_, _<_, _≤_}
 use native.Mathlib.Omega.{arith}
@@ -10,7 +10,7 @@ use lib.Seq.{sets, sets-eq}
 use Rattle.binary_polynomial.specs.Bits.{Octets}
 use Rattle.octet_fields.specs.Numbers.{little16, little32}
 use Rattle.octet_fields.proofs.Spelled.{elements, spelled}
-use Rattle.twos_complement.specs.Signed.{signed, complement, holds}
+use Rattle.twos_complement.specs.Signed.{signed, holds}
 use Rattle.message_answers.proofs.Both.{both}
 use Rattle.gdl90_messages.specs.declared.Report.{Report}
 use Rattle.message_formats.specs.Formats.{bodyOf, fits}
@@ -20,7 +20,7 @@ use Rattle.gdl90_messages.proofs.Formats.{report-right}
 use Rattle.lent_answers.specs.Structs.{held}
 use Rattle.lent_report.specs.Struct.{reportStruct}
 use Rattle.lent_report.specs.Parts.{Small, leftOf, rightOf}
-use Rattle.lent_report.proofs.Numbers.{cut-24, cut-12, moves, Moves}
+use Rattle.lent_report.proofs.Numbers.{cut-24, cut-12, moves}
 
 pub body-length : (r : Report) → length (bodyOf (reportFormat 10) r) ≡ 28
 unfolding bodyOf

@@ -1,49 +1,46 @@
 -- What the parts of the reader and of the writer do. Assumes nothing.
 use mathlib.Core.Path.{_≡_}
-use mathlib.Core.List.{List, [], _∷_, _++_}
+use mathlib.Core.List.{List, [], _∷_}
 use Prim.Native.Nat.{ℕ, _+_, _*_, _/_, _%_, _<_}
-use lib.ListN.{getD}
+use lib.ListN.{getD, set}
+use lib.Seq.{sets}
 use Rattle.octet_fields.specs.Numbers.{big16, big24, big32, little16, little32}
 use Rattle.twos_complement.specs.Signed.{signed, complement}
-use Rattle.octet_fields.specs.declared.Text.{Text}
-use Rattle.octet_fields.specs.Layout.{octets}
 use Rattle.octet_fields.specs.Texts.{textOctets, textAt}
-use Rattle.lent_answers.specs.Structs.{runs}
-use Rattle.lent_report.specs.Struct.{reportStruct}
 
--- the struct's octets from the numbers that a body has together
-abbrev pub structOf : ℕ → ℕ → ℕ → ℕ → ℕ → ℕ → ℕ → ℕ → ℕ → ℕ → Text → ℕ → List ℕ
-structOf first address latitude longitude height integrity speed rate track emitter callsign last =
-    octets (runs (reportStruct .members))
-    (first / 16
-    ∷ first % 16
-    ∷ 0
-    ∷ 0
-    ∷ address
-    ∷ latitude
-    ∷ longitude
-    ∷ height / 16
-    ∷ height % 16
-    ∷ integrity / 16
-    ∷ integrity % 16
-    ∷ 0
-    ∷ speed
-    ∷ rate
-    ∷ track
-    ∷ emitter
-    ∷ textOctets callsign
-    ++ last / 16
-    ∷ last % 16
-    ∷ 0
-    ∷ 0
-    ∷ [])
+-- ---- numbers in a struct: two fields of 4 bits, 16 bits, and 32
+abbrev pub halvesOf : ℕ → List ℕ
+halvesOf n = n / 16 ∷ n % 16 ∷ []
 
--- the struct's octets from a body's, but for its last octet
-abbrev pub structIn : List ℕ → ℕ → List ℕ
-structIn body last =
-    structOf (getD body 1 0) (big24 body 2) (complement 2147483648 (signed 8388608 (big24 body 5)))
-    (complement 2147483648 (signed 8388608 (big24 body 8))) (big16 body 11) (getD body 13 0) (big16 body 14 / 16)
-    (complement 32768 (signed 2048 (big32 body 14 % 1048576 / 256))) (getD body 17 0) (getD body 18 0) (textAt body 19) last
+abbrev pub twoOf : ℕ → List ℕ
+twoOf n = n % 256 ∷ n / 256 ∷ []
+
+abbrev pub fourOf : ℕ → List ℕ
+fourOf n = n % 16777216 % 65536 % 256 ∷ n % 16777216 % 65536 / 256 ∷ n % 16777216 / 65536 ∷ n / 16777216 ∷ []
+
+-- ---- a signed number of 24 bits as one of 32, and of 12 as one of 16
+abbrev pub wide24 : ℕ → ℕ
+wide24 n = complement 2147483648 (signed 8388608 n)
+
+abbrev pub wide12 : ℕ → ℕ
+wide12 n = complement 32768 (signed 2048 n)
+
+-- ---- the struct's octets behind what octets 1 to 7 of a body put there, 8 to 15, and the others
+abbrev pub leftStored : List ℕ → List ℕ → List ℕ
+leftStored body l =
+    sets (sets (sets l 0 (halvesOf (getD body 1 0))) 4 (fourOf (big24 body 2))) 8 (fourOf (wide24 (big24 body 5)))
+
+abbrev pub rightStored : List ℕ → List ℕ → List ℕ
+rightStored body l =
+    let position = sets l 12 (fourOf (wide24 (big24 body 8))) in
+    let height = set (sets position 16 (twoOf (big16 body 11 / 16))) 18 (big16 body 11 % 16) in
+    sets (sets height 19 (halvesOf (getD body 13 0))) 22 (twoOf (big32 body 14 / 1048576))
+
+abbrev pub othersStored : List ℕ → List ℕ → List ℕ
+othersStored body l =
+    let rate = sets l 24 (twoOf (wide12 (big32 body 14 % 1048576 / 256))) in
+    let codes = set (set rate 26 (big32 body 14 % 1048576 % 256)) 27 (getD body 18 0) in
+    sets (sets codes 28 (textOctets (textAt body 19))) 36 (halvesOf (getD body 27 0))
 
 -- what holds of a struct's octets whose fields fit a body
 pub record Small (m : List ℕ) : Type 0 where

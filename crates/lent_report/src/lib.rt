@@ -1,12 +1,11 @@
 // Message 10, Ownship report, for C: the message lies in the caller's struct, which is lent as its octets.
-use octet_fields::Text;
 use writer_answers::OstrogoszWritten;
 ghost use mathlib.Core.Path.{_≡_};
-ghost use mathlib.Core.List.{[], _∷_, _++_};
-ghost use Prim.Native.Nat.{ℕ, _+_, _*_, _/_, _%_, _<_, _≤_};
+ghost use mathlib.Core.List.{_++_};
+ghost use Prim.Native.Nat.{_+_, _*_, _/_, _%_, _<_, _≤_};
 ghost use lib.ListN.{length, getD, drop};
 ghost use lib.Seq.{sets};
-ghost use Rattle.octet_fields.specs.Numbers.{big16, big24, big32, little16, little32};
+ghost use Rattle.octet_fields.specs.Numbers.{big16, big24, big32};
 ghost use Rattle.twos_complement.specs.Signed.{signed, complement, holds};
 ghost use Rattle.octet_words.specs.Words.{octetsUp, eight};
 ghost use Rattle.message_formats.specs.Formats.{valueIn, bodyOf, fits};
@@ -15,7 +14,7 @@ ghost use Rattle.lent_answers.specs.Reads.{ReadsInto};
 ghost use Rattle.lent_answers.specs.Writes.{WritesBody};
 ghost use Rattle.lent_answers.specs.Structs.{stored, held};
 ghost use Rattle.lent_report.specs.Struct.{reportStruct};
-ghost use Rattle.lent_report.specs.Parts.{structOf, structIn, Small, leftOf, rightOf};
+ghost use Rattle.lent_report.specs.Parts.{halvesOf, twoOf, fourOf, leftStored, rightStored, othersStored, Small, leftOf, rightOf};
 
 // ---- reading
 
@@ -47,7 +46,7 @@ struct RightPart {
 
 fn right(body: &[u8]) -> RightPart
     requires { ⌜ length (now body) ≡ 28 ⌝ }
-    ensures { λ r. ⌜ (r .longitude ≡ big24 (now (body .entry)) 8) × (r .longitude < 16777216) × (r .height ≡ big16 (now (body .entry)) 11) × (r .integrity ≡ getD (now (body .entry)) 13 0) × (r .speed ≡ big16 (now (body .entry)) 14 / 16) ⌝ }
+    ensures { λ r. ⌜ (r .longitude ≡ big24 (now (body .entry)) 8) × (r .longitude < 16777216) × (r .height ≡ big16 (now (body .entry)) 11) × (r .integrity ≡ getD (now (body .entry)) 13 0) × (r .speed ≡ big32 (now (body .entry)) 14 / 1048576) ⌝ }
 {
     let word = octet_words::big_64(body, 8);
     let upper = word / 65536;
@@ -78,106 +77,83 @@ fn extended_12(bits: u32) -> u16
     ((over + 63488) % 65536) as u16
 }
 
-fn struct_of(
-    first: u8,
-    address: u32,
-    latitude: u32,
-    longitude: u32,
-    height: u16,
-    integrity: u8,
-    speed: u16,
-    rate: u16,
-    track: u8,
-    emitter: u8,
-    callsign: Text,
-    last: u8,
-) -> [u8; 40]
-    ensures { λ r. ⌜ r ≡ structOf first address latitude longitude height integrity speed rate track emitter callsign last ⌝ }
+// Two fields of 4 bits, each in its octet.
+fn put_halves(message: &mut [u8], at: usize, octet: u8)
+    requires { ⌜ at + 2 ≤ length (now message) ⌝ }
+    ensures { λ r. ⌜ now (message .exit) ≡ sets (now (message .entry)) at (halvesOf octet) ⌝ }
 {
-    let low = address % 16777216 % 65536;
-    let south = latitude % 16777216 % 65536;
-    let west = longitude % 16777216 % 65536;
-    let altitude = height / 16;
-    [
-        first / 16,
-        first % 16,
-        0,
-        0,
-        (low % 256) as u8,
-        (low / 256) as u8,
-        (address % 16777216 / 65536) as u8,
-        (address / 16777216) as u8,
-        (south % 256) as u8,
-        (south / 256) as u8,
-        (latitude % 16777216 / 65536) as u8,
-        (latitude / 16777216) as u8,
-        (west % 256) as u8,
-        (west / 256) as u8,
-        (longitude % 16777216 / 65536) as u8,
-        (longitude / 16777216) as u8,
-        (altitude % 256) as u8,
-        (altitude / 256) as u8,
-        (height % 16) as u8,
-        integrity / 16,
-        integrity % 16,
-        0,
-        (speed % 256) as u8,
-        (speed / 256) as u8,
-        (rate % 256) as u8,
-        (rate / 256) as u8,
-        track,
-        emitter,
-        callsign.c0,
-        callsign.c1,
-        callsign.c2,
-        callsign.c3,
-        callsign.c4,
-        callsign.c5,
-        callsign.c6,
-        callsign.c7,
-        last / 16,
-        last % 16,
-        0,
-        0,
-    ]
+    message[at] = octet / 16;
+    message[at + 1] = octet % 16;
 }
 
-// The struct without what the last octet of a body holds.
-fn numbers_in(body: &[u8]) -> [u8; 40]
-    requires { ⌜ length (now body) ≡ 28 ⌝ }
-    ensures { λ r. ⌜ r ≡ structIn (now (body .entry)) 0 ⌝ }
+// A number of 16 bits, and one of 32, least significant octet first.
+fn put_16(message: &mut [u8], at: usize, number: u16)
+    requires { ⌜ at + 2 ≤ length (now message) ⌝ }
+    ensures { λ r. ⌜ now (message .exit) ≡ sets (now (message .entry)) at (twoOf number) ⌝ }
+{
+    message[at] = (number % 256) as u8;
+    message[at + 1] = (number / 256) as u8;
+}
+
+fn put_32(message: &mut [u8], at: usize, number: u32)
+    requires { ⌜ at + 4 ≤ length (now message) ⌝ }
+    ensures { λ r. ⌜ now (message .exit) ≡ sets (now (message .entry)) at (fourOf number) ⌝ }
+{
+    let low = number % 16777216 % 65536;
+    message[at] = (low % 256) as u8;
+    message[at + 1] = (low / 256) as u8;
+    message[at + 2] = (number % 16777216 / 65536) as u8;
+    message[at + 3] = (number / 16777216) as u8;
+}
+
+// What octets 1 to 7 of a body hold, 8 to 15, and the others.
+fn put_left(body: &[u8], message: &mut [u8])
+    requires { ⌜ (length (now body) ≡ 28) × (length (now message) ≡ 40) ⌝ }
+    ensures { λ r. ⌜ now (message .exit) ≡ leftStored (now (body .entry)) (now (message .entry)) ⌝ }
 {
     let left = left(body);
-    let right = right(body);
-    let motion = octet_fields::big_32(body, 14);
     let latitude = extended_24(left.latitude);
+    put_halves(message, 0, octet_fields::octet(body, 1));
+    put_32(message, 4, left.address);
+    put_32(message, 8, latitude);
+}
+
+fn put_right(body: &[u8], message: &mut [u8])
+    requires { ⌜ (length (now body) ≡ 28) × (length (now message) ≡ 40) ⌝ }
+    ensures { λ r. ⌜ now (message .exit) ≡ rightStored (now (body .entry)) (now (message .entry)) ⌝ }
+{
+    let right = right(body);
     let longitude = extended_24(right.longitude);
+    put_32(message, 12, longitude);
+    put_16(message, 16, right.height / 16);
+    message[18] = (right.height % 16) as u8;
+    put_halves(message, 19, right.integrity);
+    put_16(message, 22, right.speed);
+}
+
+fn put_others(body: &[u8], message: &mut [u8])
+    requires { ⌜ (length (now body) ≡ 28) × (length (now message) ≡ 40) ⌝ }
+    ensures { λ r. ⌜ now (message .exit) ≡ othersStored (now (body .entry)) (now (message .entry)) ⌝ }
+{
+    let motion = octet_fields::big_32(body, 14);
     let rate = extended_12(motion % 1048576 / 256);
-    struct_of(
-        octet_fields::octet(body, 1),
-        left.address,
-        latitude,
-        longitude,
-        right.height,
-        right.integrity,
-        right.speed,
-        rate,
-        octet_fields::octet(body, 17),
-        octet_fields::octet(body, 18),
-        octet_fields::text_at(body, 19),
-        0,
-    )
+    put_16(message, 24, rate);
+    message[26] = body[17];
+    message[27] = body[18];
+    // The callsign goes from one place to the other at once, so that no part of it waits on the stack.
+    octet_words::put_64(message, 28, octet_words::little_64(body, 19));
+    put_halves(message, 36, octet_fields::octet(body, 27));
 }
 
 fn fill(body: &[u8], message: &mut [u8; 40])
     requires { ⌜ length (now body) ≡ 28 ⌝ }
     ensures { λ r. ⌜ now (message .exit) ≡ stored reportStruct (valueIn (reportFormat 10) (now (body .entry))) ⌝ }
 {
-    *message = numbers_in(body);
-    // Read behind the store: with one octet more in registers the compiler puts some of the callsign on the stack.
-    let last = octet_fields::octet(body, 27);
-    message[36] = last / 16;
-    message[37] = last % 16;
+    // Zeros for the padding first: every part then reads the body anew, and holds little at a time.
+    *message = [0; 40];
+    put_left(body, message);
+    put_right(body, message);
+    put_others(body, message);
 }
 
 // Reads a body into the struct: 0, or the refusal that is due, 10 or 11, and then the struct is as it was.
@@ -312,7 +288,7 @@ fn put_numbers(message: &[u8], output: &mut [u8])
     octet_words::put_64(output, 8, right_octets(message));
 }
 
-// Puts the body at the start of output. The callsign goes from one place to the other at once, so that no part of it waits.
+// Puts the body at the start of output. The callsign goes at once, as in `put_others`.
 fn put(message: &[u8], output: &mut [u8])
     requires { ⌜ (length (now message) ≡ 40) × Small (now message) × (28 ≤ length (now output)) ⌝ }
     ensures { λ r. ⌜ now (output .exit) ≡ bodyOf (reportFormat 10) (held reportStruct (now (message .entry))) ++ drop 28 (now (output .entry)) ⌝ }

@@ -4,7 +4,6 @@ use mathlib.Core.Bool.{Bool, not}
 use native.Mathlib.Omega.{arith}
 use borrow.Author.Tests.{eq-eqb, ne-eqb}
 use Rattle.octet_fields.specs.Digits.{bitOf}
-use borrow.Author.Needs.{needs}
 use Rattle.lent_control.proofs.bit.Statement.{statement}
 use Rattle.lent_control.proofs.bit.Tie as tie
 

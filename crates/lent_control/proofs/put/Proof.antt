@@ -1,8 +1,8 @@
 -- `lent_control::put` meets its contract: three octets are put, and two words. Assumes nothing.
-use mathlib.Core.Path.{_≡_, _∙_}
+use mathlib.Core.Path.{_∙_}
 use denote.Ref.{now}
 use native.Mathlib.Omega.{arith}
-use lib.ListN.{length, set, length-set}
+use lib.ListN.{set, length-set}
 use lib.Seq.{sets}
 use Rattle.octet_words.proofs.Digits.{eight-from}
 use Rattle.lent_control.proofs.Held.{body-put}

@@ -1,10 +1,8 @@
 -- `lent_control::put_frame` meets its contract: the flag is put, two pairs, and the pairs of the struct. Assumes nothing.
 use mathlib.Core.Path.{_≡_, _∙_, ap}
-use mathlib.Core.List.{_∷_}
 use denote.Ref.{now}
 use native.Mathlib.Omega.{arith}
 use lib.ListN.{length, take, drop, length-set, length-take, length-drop}
-use Rattle.binary_polynomial.specs.Bits.{Octets}
 use Rattle.message_formats.specs.Formats.{bodyOf}
 use Rattle.control_messages.specs.Control.{controlFormat}
 use Rattle.frame_writer.specs.Puts.{rest}

@@ -3,7 +3,6 @@ use mathlib.Core.Path.{_≡_, _∙_, ap₂}
 use mathlib.Core.Bool.{_&&_}
 use denote.Ref.{now}
 use native.Mathlib.Omega.{arith}
-use lib.ListN.{length}
 use Rattle.message_formats.specs.Formats.{fits}
 use Rattle.control_messages.specs.Control.{controlFormat}
 use Rattle.lent_answers.proofs.Writers.{fitting, not-fitting, no-field, no-room, written}

@@ -1,8 +1,7 @@
--- `lent_report::fill` meets its contract: the last octet of the body behind the others. Assumes nothing.
-use mathlib.Core.Path.{_≡_, _∙_}
-use Prim.Native.Nat.{_/_, _%_}
+-- `lent_report::fill` meets its contract: the three parts behind zeros. Assumes nothing.
+use mathlib.Core.Path.{_∙_}
 use denote.Ref.{now}
-use lib.ListN.{set}
+use Rattle.lent_report.specs.Parts.{rightStored, othersStored}
 use Rattle.lent_report.proofs.Bodies.{of-body}
 use borrow.Author.Needs.{needs}
 use Rattle.lent_report.proofs.fill.Statement.{statement}
@@ -10,10 +9,12 @@ use Rattle.lent_report.proofs.fill.Tie as tie
 
 returns : tie.Need-returns
 returns c =
-    let s = c .before .before .before in
-    let last = c .octet .ensures in
-    (λ i. set (set (c .before .numbers-in .ensures i) 36 (last i / 16)) 37 (last i % 16))
-    ∙ of-body (now (s .args .body)) (λ i. c .before .before .shared-slice-known .given i .fits) (s .pre)
+    let k2 = c .before .before in
+    let k4 = k2 .before .before in
+    let s = k4 .before .before .before .before in
+    let body = now (s .args .body) in
+    let numbers = k2 .put-right .ensures ∙ (λ i. rightStored body (k4 .put-left .ensures i)) in
+    c .put-others .ensures ∙ (λ i. othersStored body (numbers i)) ∙ of-body body (s .pre)
 
 pub fill-spec : {M : Type 1} → statement M
 fill-spec =
@@ -21,6 +22,5 @@ fill-spec =
     (tie.spec
     (λ c κs. search needs)
     (λ c κs. search needs)
-    (λ c. search needs)
-    (λ c. search needs)
+    (λ c κs. search needs)
     returns)

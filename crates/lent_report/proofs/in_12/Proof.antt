@@ -1,6 +1,5 @@
 -- `lent_report::in_12` meets its contract. Assumes nothing.
 use Rattle.lent_report.proofs.Numbers.{held-12}
-use borrow.Author.Needs.{needs}
 use Rattle.lent_report.proofs.in_12.Statement.{statement}
 use Rattle.lent_report.proofs.in_12.Tie as tie
 

@@ -1,6 +1,5 @@
 -- `lent_report::in_24` meets its contract. Assumes nothing.
 use Rattle.lent_report.proofs.Numbers.{held-24}
-use borrow.Author.Needs.{needs}
 use Rattle.lent_report.proofs.in_24.Statement.{statement}
 use Rattle.lent_report.proofs.in_24.Tie as tie
 

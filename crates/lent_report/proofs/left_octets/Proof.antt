@@ -1,11 +1,8 @@
 -- `lent_report::left_octets` meets its contract, octet by octet. Assumes nothing.
-use mathlib.Core.Path.{_≡_, _∙_}
+use mathlib.Core.Path.{_∙_}
 use mathlib.Core.List.{[], _∷_}
-use Prim.Native.Nat.{ℕ, _/_, _%_, _<_}
+use Prim.Native.Nat.{_/_, _%_, _<_}
 use native.Mathlib.Omega.{arith}
-use denote.Ref.{now}
-use lib.ListN.{getD}
-use Rattle.octet_fields.specs.Numbers.{little32}
 use Rattle.lent_report.proofs.Words.{turned-eight}
 use Rattle.lent_report.proofs.Numbers.{octet-lt, halves-lt}
 use borrow.Author.Needs.{needs}

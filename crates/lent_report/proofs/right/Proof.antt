@@ -1,7 +1,12 @@
 -- `lent_report::right` meets its contract, by the number that the octets make. Assumes nothing.
+use mathlib.Core.Path.{_≡_, _∙_}
+use Prim.Native.Nat.{_/_, _%_}
 use native.Mathlib.Omega.{arith}
 use denote.Ref.{now}
+use lib.ListN.{getD}
 use Rattle.binary_polynomial.specs.Bits.{Octets}
+use Rattle.octet_fields.specs.Numbers.{big16}
+use Rattle.lent_report.proofs.Numbers.{read-speed}
 use Rattle.lent_report.proofs.Words.{number-from}
 use borrow.Author.Needs.{needs}
 use Rattle.lent_report.proofs.right.Statement.{statement}
@@ -16,7 +21,8 @@ returns c =
       omega arith,
       omega (arith, o 11, o 12, o 13, o 14, o 15),
       omega (arith, o 13, o 14, o 15),
-      omega (arith, o 14, o 15),
+      let speed : c .big-64 .result % 65536 / 16 ≡ big16 (now (c .before .before .args .body)) 14 / 16 = omega (arith, o 14, o 15) in
+          speed ∙ read-speed (getD body 14 0) (getD body 15 0) (getD body 16 0) (getD body 17 0) (o 16) (o 17),
     )
 
 pub right-spec : {M : Type 1} → statement M

@@ -1,7 +1,6 @@
 -- `lent_report::write` meets its contract, by its three ways. Assumes nothing.
 use denote.Ref.{now}
 use native.Mathlib.Omega.{arith}
-use lib.ListN.{length}
 use Rattle.gdl90_messages.specs.Report.{reportFormat}
 use Rattle.lent_answers.proofs.Writers.{fitting, not-fitting, no-field, no-room, written}
 use Rattle.lent_answers.specs.Structs.{held}

@@ -1,7 +1,7 @@
 -- `text_pairs::is_padded_at` meets its contract, octet by octet. Assumes nothing.
 use mathlib.Core.Path.{_∙_}
-use mathlib.Core.List.{List, [], _∷_}
-use Prim.Native.Nat.{ℕ, _+_}
+use mathlib.Core.List.{[], _∷_}
+use Prim.Native.Nat.{_+_}
 use denote.Ref.{now}
 use lib.ListN.{getD}
 use Rattle.text_pairs.proofs.Steps.{then, last}
