@@ -1,7 +1,7 @@
 -- What lies just past the strength. Assumes nothing.
 use mathlib.Core.Path.{_≡_, refl, sym, ap, _∙_}
 use mathlib.Core.Bool.{Bool, true, false, xor, false≢true}
-use mathlib.Core.List.{List, [], _∷_, _++_, append-assoc, append-nil}
+use mathlib.Core.List.{List, [], _∷_, _++_, append-nil}
 use Prim.Native.Nat.{ℕ, zero, suc, _+_, _*_, _/_, _%_, _<_, _≤_}
 use native.Mathlib.Omega.{arith}
 use lib.ListN.{length, getD, drop, replicate}
@@ -11,6 +11,7 @@ use Rattle.binary_polynomial.specs.Division.{divided, step, reduced}
 use Rattle.binary_polynomial.proofs.Xor.{xor-assoc}
 use Rattle.binary_polynomial.proofs.Laws.{sum, divided-append}
 use Rattle.frame_check.specs.Check.{frameCheck, tableEntry}
+use Rattle.frame_check.proofs.Eight.{bits-append}
 use Rattle.frame_check.proofs.Step.{table-step, frame-check-lt}
 use Rattle.check_strength.specs.BitNumbers.{differAt, differBelow}
 use Rattle.check_limits.specs.Limits.{farApart, allZero, TwoBitsUnseen, oneBody, otherBody, FourBitsUnseen, LastBit, LeadingZero}
@@ -51,11 +52,6 @@ two-bits-unseen =
     record { lengths = (refl, refl); bits = count farApart allZero refl ∙ refl; check = refl }
 
 -- ---- the last bit
-bits-append : (xs ys : List ℕ) → bits (xs ++ ys) ≡ bits xs ++ bits ys
-unfolding bits
-bits-append [] ys = refl
-bits-append (x ∷ xs) ys = ap (λ (l : List Bool). bitsOf 8 x ++ l) (bits-append xs ys) ∙ sym (append-assoc (bitsOf 8 x) (bits xs) (bits ys))
-
 last-octet : (body : List ℕ) (x : ℕ) → frameCheck (body ++ (x ∷ [])) ≡ divided (frameCheck body) (bitsOf 8 x)
 unfolding frameCheck bits
 last-octet body x =

@@ -2,12 +2,13 @@
 use mathlib.Core.Path.{_≡_, refl, sym, ap, ap₂, _∙_}
 use mathlib.Core.Bool.{Bool}
 use mathlib.Core.List.{List, [], _∷_, _++_, append-assoc}
-use Prim.Native.Nat.{ℕ, zero, suc, _+_, _*_, _/_, _%_, _^_, _<_, _≤_}
+use Prim.Native.Nat.{ℕ, zero, suc, _+_, _/_, _%_, _^_, _<_}
 use native.Mathlib.Omega.{arith}
-use lib.ListN.{length, take, drop, take-append-drop}
+use lib.ListN.{take, drop, take-append-drop}
 use lib.Seq.{drop-drop}
 use lib.Bits.{bitXor}
 use lib.Pow.{shr-shr}
+use Rattle.octet_words.proofs.Pairs.{double, two-of}
 use Rattle.octet_words.specs.Words.{octetsDown}
 use Rattle.binary_polynomial.specs.Bits.{bitsOf, bits}
 use Rattle.binary_polynomial.specs.Division.{divided}
@@ -15,13 +16,6 @@ use Rattle.binary_polynomial.proofs.Laws.{divided-append}
 use Rattle.binary_polynomial.proofs.Shifts.{left}
 use Rattle.frame_check_words.proofs.Words.{eight, eight-pairs, pairs, pairs-lt}
 use Rattle.frame_check.proofs.Pair.{pair-step}
-
-double : ℕ → ℕ
-double zero = zero
-double (suc k) = suc (suc (double k))
-
-two-of : (word : ℕ) → word % 65536 ≡ word / 256 % 256 * 256 + word % 256
-two-of word = omega arith
 
 -- two octets, and then others
 two-first : (check x y : ℕ) (others : List ℕ)
@@ -50,7 +44,7 @@ pub eight-step : (check word : ℕ) → check < 65536 → word < 2 ^ 64 → eigh
 unfolding double bits divided
 eight-step check word hc hw = eight-pairs check word hc hw ∙ sym (pairs-step 4 check word [] hc)
 
-bits-append : (xs ys : List ℕ) → bits (xs ++ ys) ≡ bits xs ++ bits ys
+pub bits-append : (xs ys : List ℕ) → bits (xs ++ ys) ≡ bits xs ++ bits ys
 unfolding bits
 bits-append [] ys = refl
 bits-append (x ∷ xs) ys =

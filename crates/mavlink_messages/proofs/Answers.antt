@@ -1,5 +1,5 @@
 -- What a reader answers, by its tests. Assumes nothing.
-use mathlib.Core.Path.{_≡_, refl, sym, ap, _∙_}
+use mathlib.Core.Path.{_≡_, sym, ap, _∙_}
 use mathlib.Core.Bool.{Bool, true, false, cond, _&&_}
 use mathlib.Core.List.{List}
 use Prim.Native.Nat.{ℕ, _-_, _≤_}
@@ -16,11 +16,8 @@ use Rattle.mavlink_reader.specs.declared.Found.the-variants.{Frame}
 use Rattle.mavlink_frame.specs.Kinds.{kind, kindOf}
 use Rattle.mavlink_reader.specs.Reads.{found}
 use Rattle.mavlink_reader.proofs.Accepted.{Accepted, accepted}
+use Rattle.message_answers.proofs.Both.{both}
 use Rattle.mavlink_messages.specs.Messages.{payloadRead, readBy, readDue, ofLength, ofItsKind}
-
-pub both : (a b : Bool) → (a && b) ≡ true → (a ≡ true) × (b ≡ true)
-both true b e = (refl, e)
-both false b e = let z : _≡_ {A = ℕ} 0 1 = cc in absurd (omega arith)
 
 pub tested : (id i n l : ℕ) → (eqb id i && eqb n l) ≡ true → (id ≡ i) × (n ≡ l)
 tested id i n l e = let h = both (eqb id i) (eqb n l) e in (eqb-true id i (h .0), eqb-true n l (h .1))

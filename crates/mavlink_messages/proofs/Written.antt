@@ -17,12 +17,7 @@ use Rattle.mavlink_writer.specs.Writes as frame-writes
 use Rattle.mavlink_messages.specs.declared.Static as static-as
 use Rattle.mavlink_messages.specs.declared.Message.{Message}
 use Rattle.mavlink_messages.specs.declared.Message.the-variants.{DataStream, Static, Dynamic, Status, Traffic}
-use Rattle.mavlink_messages.specs.DataStream.{dataStreamFormat}
-use Rattle.mavlink_messages.specs.Static.{staticFormat}
-use Rattle.mavlink_messages.specs.Dynamic.{dynamicFormat}
-use Rattle.mavlink_messages.specs.Status.{statusFormat}
-use Rattle.mavlink_messages.specs.Traffic.{trafficFormat}
-use Rattle.mavlink_messages.proofs.Answers.{both}
+use Rattle.message_answers.proofs.Both.{both}
 use Rattle.mavlink_messages.specs.Messages.{idOf, octetsOf, inRange, writeDue, messageFrame}
 
 pub refused : (m : Message) (h : Header) (output : List ℕ) → inRange m ≡ false

@@ -1,9 +1,8 @@
 -- The lines that the code holds are the rows. Assumes nothing.
 use mathlib.Core.Path.{_≡_, refl, ap, _∙_}
-use mathlib.Core.Bool.{Bool, true, false, cond, not, _&&_}
+use mathlib.Core.Bool.{Bool, true, false, cond, not, _&&_, false≢true, and-eq-true-iff}
 use mathlib.Core.List.{List, [], _∷_, _++_}
 use Prim.Native.Nat.{ℕ, _+_, _<_}
-use native.Mathlib.Omega.{arith}
 use lib.Dec.{eqb}
 use borrow.Author.Tests.{eq-eqb, ne-eqb}
 use lib.ListN.{length, getD, drop}
@@ -29,13 +28,6 @@ abbrev allWhole : List Row → Bool
 allWhole [] = true
 allWhole (r ∷ rs) = whole (r .words) && allWhole rs
 
-never : {A : Type 0} → false ≡ true → A
-never e = absurd (let z : _≡_ {A = ℕ} 0 1 = cc in omega arith)
-
-both : (a b : Bool) → (a && b) ≡ true → (a ≡ true) × (b ≡ true)
-both true b e = (refl, e)
-both false b e = never e
-
 line-words : (xs rest : List ℕ) → whole xs ≡ true → line (xs ++ (10 ∷ rest)) ≡ xs
 unfolding line
 line-words [] rest h = refl
@@ -43,7 +35,7 @@ line-words (x ∷ xs) rest h = go (eqb x 10) (line-words xs rest) h
   where
     go : (b : Bool) → (whole xs ≡ true → line (xs ++ (10 ∷ rest)) ≡ xs)
         → (not b && whole xs) ≡ true → cond b [] (x ∷ line (xs ++ (10 ∷ rest))) ≡ x ∷ xs
-    go true more h = never h
+    go true more h = absurd (false≢true h)
     go false more h = ap (λ (l : List ℕ). x ∷ l) (more h)
 
 module _ (n : ℕ) (none : List ℕ) where
@@ -54,14 +46,14 @@ module _ (n : ℕ) (none : List ℕ) where
     where
       go : (b : Bool) → (whole xs ≡ true → seek false n none (xs ++ (10 ∷ rest)) ≡ seek true n none rest)
           → (not b && whole xs) ≡ true → seek b n none (xs ++ (10 ∷ rest)) ≡ seek true n none rest
-      go true more h = never h
+      go true more h = absurd (false≢true h)
       go false more h = more h
 
   seek-lines : line none ≡ noRow → (rs : List Row) → allWhole rs ≡ true → line (seek true n none (lines rs)) ≡ wordsIn rs n
   unfolding seek
   seek-lines e [] h = e
   seek-lines e (r ∷ rs) h =
-      let w = both (whole (r .words)) (allWhole rs) h in
+      let w = and-eq-true-iff (whole (r .words)) (allWhole rs) .0 h in
       go (eqb n (r .number)) (line-words (r .words) (lines rs) (w .0)) (ap line (seek-words (r .words) (lines rs) (w .0)) ∙ seek-lines e rs (w .1))
     where
       go : (b : Bool) → line (r .words ++ (10 ∷ lines rs)) ≡ r .words → line (seek false n none (r .words ++ (10 ∷ lines rs))) ≡ wordsIn rs n

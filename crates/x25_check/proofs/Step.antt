@@ -18,6 +18,7 @@ use Rattle.binary_polynomial.proofs.Laws.{coefficient-xor, coefficient-lt, step
 use Rattle.binary_polynomial.proofs.Linear.{Linear, Linear16, times, agree}
 use Rattle.x25_shifts.proofs.Shifts.{shifted, shifted-linear, paired, paired-linear, paired-twice, paired-above, two-at-once}
 use Rattle.x25_words.proofs.Words.{eight, eight-pairs, pairs}
+use Rattle.octet_words.proofs.Pairs.{double, two-of}
 use Rattle.octet_words.specs.Words.{octetsUp}
 use Rattle.x25_check.specs.Check.{bitsUp, wireBits, next, register, mirrored, x25, x25From}
 
@@ -224,13 +225,6 @@ from-append check xs ys =
 from-none : (check : ℕ) → check < degree16 → check ≡ x25From check []
 unfolding x25From wireBits register
 from-none check h = sym (mirrored-back check h)
-
-double : ℕ → ℕ
-double zero = zero
-double (suc k) = suc (suc (double k))
-
-two-of : (word : ℕ) → word % 65536 ≡ word / 256 % 256 * 256 + word % 256
-two-of word = omega arith
 
 pairs-step : (k check word : ℕ) → check < degree16 → pairs k check word ≡ x25From check (octetsUp (double k) word)
 unfolding octetsUp double
