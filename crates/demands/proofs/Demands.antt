@@ -4,42 +4,42 @@ use mathlib.Core.List.{List}
 use Prim.Native.Nat.{ℕ, _≤_}
 use native.Mathlib.Omega.{arith}
 use lib.ListN.{length}
-use Rattle.frame_format.specs.Frame.{frame}
-use Rattle.frame_format.specs.Stretch.{Verdict, silent, refused, delivered}
-use Rattle.frame_format.proofs.Frame.{frame-length-longest}
-use Rattle.writer_answers.specs.Answers.{outputAfter}
-use Rattle.mavlink_round_trips.proofs.RoundTrips as mavlink-trips
-use Rattle.message_delivery.proofs.Delivery.{sent-is-delivered}
-use Rattle.message_round_trips.proofs.ReadBack as message-read
-use Rattle.message_round_trips.proofs.WriteBack as message-write
+use Rattle.ucp_frame.specs.Frame.{frame}
+use Rattle.ucp_frame.specs.Stretch.{Verdict, silent, refused, delivered}
+use Rattle.ucp_frame.proofs.Frame.{frame-length-longest}
+use Rattle.output_writing.specs.Answers.{outputAfter}
+use Rattle.thm_mavlink_messages.proofs.RoundTrips as mavlink-trips
+use Rattle.thm_ucp_messages.proofs.Delivery.{sent-is-delivered}
+use Rattle.thm_ucp_messages.proofs.ReadBack as message-read
+use Rattle.thm_ucp_messages.proofs.WriteBack as message-write
 use Rattle.ucp_messages.specs.Bodies.{messageFits, messageBody}
 use Rattle.ucp_messages.specs.Kinds.{kindIn}
 use Rattle.demands.proofs.MessageRefusals.{tabled-message, message-refused, mavlink-refused, tabled-mavlink}
-use Rattle.frame_room.proofs.Due.{refused-so, refused-7, refused-8, due-accepted}
-use Rattle.closing_flag.specs.Answers as receiver-answers
-use Rattle.closing_flag.specs.Answers.{nothing, refusal, told}
-use Rattle.receiver.specs.Step.{answerDue}
-use Rattle.check_strength.proofs.Caught.{strength}
-use Rattle.writer_history.proofs.Calls.{writer-lists}
-use Rattle.receiver_history.specs.Line.{Line}
-use Rattle.receiver_history.proofs.Promises.{answers, counts, every-octet-counted, store-clean, flag-clears, later-only}
-use Rattle.receiver_history.proofs.Slice.{line-of-slices, slice-is-call}
-use Rattle.receiver_history.proofs.Stretch.{stretch-is-answered}
-use Rattle.receiver_history.proofs.Frames.{put-out-is-frame, frame-is-put-out, wrong-check-refused}
+use Rattle.ucp_writer.proofs.room.Due.{refused-so, refused-7, refused-8, due-accepted}
+use Rattle.ucp_receiver.specs.Answers as receiver-answers
+use Rattle.ucp_receiver.specs.Answers.{nothing, refusal, answerFor}
+use Rattle.ucp_receiver.specs.Octet.{verdictDue}
+use Rattle.crc_gdl90_strength.proofs.Caught.{strength}
+use Rattle.thm_ucp_writer.proofs.Calls.{writer-lists}
+use Rattle.thm_ucp_receiver.specs.Line.{Line}
+use Rattle.thm_ucp_receiver.proofs.Promises.{answers, counts, every-octet-counted, store-clean, flag-clears, later-only}
+use Rattle.thm_ucp_receiver.proofs.Slice.{line-of-slices, slice-is-call}
+use Rattle.thm_ucp_receiver.proofs.Stretch.{stretch-is-answered}
+use Rattle.thm_ucp_receiver.proofs.Frames.{put-out-is-frame, frame-is-put-out, wrong-check-refused}
 use Rattle.demands.specs.Demands.{Demand1, Demand2, Demand3, ReceiverLists}
 use Rattle.demands.proofs.Refusals.{Tabled, quiet, numbered, whole, tabled}
 
 -- ---- one call of the receiver
 
-told-refusal : (v : Verdict) (n : ℕ) (output : List ℕ) → Tabled v → told v ≡ refusal n
-    → (1 ≤ n) × (n ≤ 6) × (receiver-answers.outputAfter v output ≡ output)
+told-refusal : (v : Verdict) (n : ℕ) (output : List ℕ) → Tabled v → answerFor v ≡ refusal n
+    → (1 ≤ n) × (n ≤ 6) × (receiver-answers.outputAtFlag v output ≡ output)
 told-refusal _ n output quiet e = let z : _≡_ {A = ℕ} 0 1 = cc in absurd (omega arith)
 told-refusal _ n output (numbered m least most) e =
     let same : m ≡ n = cc in
     (omega arith, omega arith, refl)
 told-refusal _ n output (whole octets) e = let z : _≡_ {A = ℕ} 0 1 = cc in absurd (omega arith)
 
-told-nothing : (v : Verdict) (output : List ℕ) → told v ≡ nothing → receiver-answers.outputAfter v output ≡ output
+told-nothing : (v : Verdict) (output : List ℕ) → answerFor v ≡ nothing → receiver-answers.outputAtFlag v output ≡ output
 told-nothing silent output e = refl
 told-nothing (refused n) output e = let z : _≡_ {A = ℕ} 0 1 = cc in absurd (omega arith)
 told-nothing (delivered octets) output e = let z : _≡_ {A = ℕ} 0 1 = cc in absurd (omega arith)
@@ -66,7 +66,7 @@ demand1 =
           let p = told-refusal _ number output (tabled _ octet (length output)) (sym (m .answers) ∙ e) in
           (p .0, p .1, m .puts ∙ p .2);
       receiverIsSilent = λ rest counts store octet output given storeAfter outputThen m e.
-          m .puts ∙ told-nothing (answerDue (record { rest = rest; store = store }) octet (length output)) output (sym (m .answers) ∙ e);
+          m .puts ∙ told-nothing (verdictDue (record { rest = rest; store = store }) octet (length output)) output (sym (m .answers) ∙ e);
       flagClears = flag-clears;
       storeClean = store-clean;
       laterOnly = later-only;

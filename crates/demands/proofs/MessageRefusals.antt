@@ -8,48 +8,48 @@ use native.Mathlib.Omega.{arith}
 use borrow.Author.Tests.{ltb-true, lt-ltb}
 use lib.Dec.{eqb, ltb}
 use lib.ListN.{length, getD}
-use Rattle.message_formats.specs.Formats.{valueIn, refusalOf, reads}
+use Rattle.field_format.specs.Formats.{valueIn, refusalOf, reads}
 use Rattle.ucp_messages.specs.Formats.{Reading, format, uplink, unknown, readingOf}
-use Rattle.writer_answers.specs.Answers.{refused, wrote}
+use Rattle.output_writing.specs.Answers.{refused, wrote}
 use Rattle.ucp_messages.specs.declared.Kind.{Kind}
 use Rattle.ucp_messages.specs.declared.Message.{Message}
 use Rattle.ucp_messages.specs.Reads as Reads
-use Rattle.message_answers.specs.Refusals.{refusalBy}
-use Rattle.ucp_messages.specs.Reads.{given, refusalIn, answerAs}
-use Rattle.message_answers.specs.Writes.{answerDue}
+use Rattle.ucp_answers.specs.Refusals.{refusalBy}
+use Rattle.ucp_messages.specs.Reads.{meansUnlessRefused, refusalIn, answerAs}
+use Rattle.ucp_answers.specs.Writes.{bodyDue}
 use Rattle.mavlink_frame.specs.declared.Kind as kind-as
 use Rattle.mavlink_frame.specs.declared.Header.{Header}
 use Rattle.mavlink_frame.specs.declared.Lookup.{Lookup}
 use Rattle.mavlink_frame.specs.declared.Lookup.the-variants as lookup
-use Rattle.mavlink_reader.specs.declared.Found.{Found}
-use Rattle.mavlink_reader.specs.declared.Found.the-variants as found-as
+use Rattle.mavlink_frame.specs.declared.Found.{Found}
+use Rattle.mavlink_frame.specs.declared.Found.the-variants as found-as
 use Rattle.mavlink_frame.specs.Frame.{start}
-use Rattle.mavlink_frame.specs.Kinds.{kindOf}
-use Rattle.mavlink_reader.specs.Reads.{headerAt, payloadAt, checkAt, checkDue, foundOf, foundBy, found}
+use Rattle.mavlink_frame.specs.Kinds.{mavlinkKind}
+use Rattle.mavlink_frame.specs.Reader.{headerAt, payloadAt, checkAt, checkDue, foundOf, foundBy, found}
 use Rattle.mavlink_messages.specs.declared.Message as mavlink
 use Rattle.mavlink_messages.specs.declared.Message.the-variants as kinds
 use Rattle.mavlink_messages.specs.declared.Read.{Read}
 use Rattle.mavlink_messages.specs.declared.Read.the-variants as read-as
-use Rattle.mavlink_messages.specs.DataStream.{dataStreamFormat}
-use Rattle.mavlink_messages.specs.Static.{staticFormat}
-use Rattle.mavlink_messages.specs.Dynamic.{dynamicFormat}
-use Rattle.mavlink_messages.specs.Status.{statusFormat}
-use Rattle.mavlink_messages.specs.Traffic.{trafficFormat}
-use Rattle.mavlink_messages.specs.Messages.{inRange, failuresOf, judged, payloadRead, readBy, readDue, writeDue, octetsOf}
+use Rattle.mavlink_messages.specs.DataStream66.{dataStreamFormat}
+use Rattle.mavlink_messages.specs.Static201.{staticFormat}
+use Rattle.mavlink_messages.specs.Dynamic202.{dynamicFormat}
+use Rattle.mavlink_messages.specs.Status203.{statusFormat}
+use Rattle.mavlink_messages.specs.Traffic246.{trafficFormat}
+use Rattle.mavlink_messages.specs.Messages.{inRange, failuresOf, messageJudged, payloadRead, readBy, readDue, writeDue, payloadOf}
 
 -- ---- 10 to 13
 abbrev ByTable : ℕ → ℕ → Type 0
 ByTable due n = (n ≡ due) × (10 ≤ n) × (n ≤ 13)
 
 by-tests : (length fixed range : Bool) (m : Message) (n : ℕ)
-    → (given (refusalBy length fixed range) m ≡ Reads.refused n) ↔ ByTable (refusalBy length fixed range) n
+    → (meansUnlessRefused (refusalBy length fixed range) m ≡ Reads.refused n) ↔ ByTable (refusalBy length fixed range) n
 unfolding refusalBy
 by-tests true true true m n = (λ e. let z : _≡_ {A = ℕ} 0 1 = cc in absurd (omega arith), λ t. absurd (omega (arith, t .0, t .1)))
 by-tests true true false m n = (λ e. let z : n ≡ 13 = cc in (z, omega arith, omega arith), λ t. ap Reads.refused (sym (t .0)))
 by-tests true false range m n = (λ e. let z : n ≡ 12 = cc in (z, omega arith, omega arith), λ t. ap Reads.refused (sym (t .0)))
 by-tests false fixed range m n = (λ e. let z : n ≡ 11 = cc in (z, omega arith, omega arith), λ t. ap Reads.refused (sym (t .0)))
 
-by-reading : (r : Reading) (body : List ℕ) (n : ℕ) → (Reads.answerBy r body ≡ Reads.refused n) ↔ ByTable (Reads.refusalBy r body) n
+by-reading : (r : Reading) (body : List ℕ) (n : ℕ) → (Reads.answerBy r body ≡ Reads.refused n) ↔ ByTable (Reads.refusalByReading r body) n
 unfolding reads refusalOf
 by-reading (format f message) body n = by-tests _ _ _ _ n
 by-reading uplink body n = by-tests _ _ _ _ n
@@ -88,13 +88,13 @@ range-or-room number true room octets n = go (ltb room octets) refl
         back (inr h) = let t = lt-ltb room octets (h .2) in let z : _≡_ {A = ℕ} 0 1 = cc in absurd (omega arith)
 
 pub message-refused : (fits : Bool) (body output : List ℕ) (n : ℕ)
-    → (answerDue fits body output ≡ refused n) ↔ RangeOrRoom 13 fits (length output) (length body) n
-unfolding answerDue
+    → (bodyDue fits body output ≡ refused n) ↔ RangeOrRoom 13 fits (length output) (length body) n
+unfolding bodyDue
 message-refused fits body output n = range-or-room 13 fits (length output) (length body) n
 
 pub mavlink-refused : (m : mavlink.Message) (output : List ℕ) (n : ℕ)
-    → (writeDue m output ≡ refused n) ↔ RangeOrRoom 25 (inRange m) (length output) (length (octetsOf m) + 8) n
-mavlink-refused m output n = range-or-room 25 (inRange m) (length output) (length (octetsOf m) + 8) n
+    → (writeDue m output ≡ refused n) ↔ RangeOrRoom 25 (inRange m) (length output) (length (payloadOf m) + 8) n
+mavlink-refused m output n = range-or-room 25 (inRange m) (length output) (length (payloadOf m) + 8) n
 
 -- ---- 20 to 25
 abbrev Tabled : Found → Type 0
@@ -122,17 +122,17 @@ unfolding found
 tabled s = go (eqb (length s) 0) (eqb (getD s 0 0) start) (ltb (length s) 6)
   where
     go : (a b c : Bool)
-        → Tabled (cond a (found-as.Refused 20) (cond b (cond c (found-as.Refused 20) (foundBy (kindOf (getD s 5 0)) s)) (found-as.Refused 21)))
+        → Tabled (cond a (found-as.Refused 20) (cond b (cond c (found-as.Refused 20) (foundBy (mavlinkKind (getD s 5 0)) s)) (found-as.Refused 21)))
     go true b c = (omega arith, omega arith)
     go false false c = (omega arith, omega arith)
     go false true true = (omega arith, omega arith)
-    go false true false = from-22 (kindOf (getD s 5 0)) s
+    go false true false = from-22 (mavlinkKind (getD s 5 0)) s
 
 abbrev InTable : Read → Type 0
 InTable (read-as.Refused n) = (20 ≤ n) × (n ≤ 25)
 InTable (read-as.Message h used m f) = Unit {0}
 
-judged-in : (h : Header) (used : ℕ) (m : mavlink.Message) → InTable (judged h used m)
+judged-in : (h : Header) (used : ℕ) (m : mavlink.Message) → InTable (messageJudged h used m)
 judged-in h used m = go (inRange m)
   where
     go : (right : Bool) → InTable (cond right (read-as.Message h used m (failuresOf m)) (read-as.Refused 25))

@@ -5,12 +5,12 @@ use Prim.Native.Nat.{ℕ, _≤_}
 use native.Mathlib.Omega.{arith}
 use lib.Dec.{eqb, ltb}
 use lib.ListN.{length, take}
-use Rattle.frame_check.specs.Check.{frameCheck}
-use Rattle.frame_format.specs.Stuffing.{flag}
-use Rattle.frame_format.specs.Stretch.{Verdict, silent, refused, delivered, storeOctets, bodyOf, checkSent, atFlag}
-use Rattle.receiver.specs.declared.Phase.{Phase}
-use Rattle.receiver.specs.declared.Phase.the-variants.{Hunting, Reading, Escape, BadEscape, TooLong}
-use Rattle.receiver.specs.Step.{State, closedIn, answerDue}
+use Rattle.crc_gdl90.specs.Check.{frameCheck}
+use Rattle.ucp_frame.specs.Stuffing.{flag}
+use Rattle.ucp_frame.specs.Stretch.{Verdict, silent, refused, delivered, storeOctets, withoutCheck, checkSent, atFlag}
+use Rattle.ucp_receiver.specs.declared.Phase.{Phase}
+use Rattle.ucp_receiver.specs.declared.Phase.the-variants.{Hunting, Reading, Escape, BadEscape, TooLong}
+use Rattle.ucp_receiver.specs.Octet.{State, closedIn, verdictDue}
 
 pub data Tabled : Verdict → Type 0 where
   quiet : Tabled silent
@@ -25,8 +25,8 @@ tabled-at-flag : (octets : List ℕ) (room : ℕ) → Tabled (atFlag octets room
 unfolding atFlag
 tabled-at-flag octets room =
     either (ltb (length octets) 3) (numbered 4 (omega arith) (omega arith))
-    (either (eqb (checkSent octets) (frameCheck (bodyOf octets)))
-    (either (ltb room (length (bodyOf octets))) (numbered 6 (omega arith) (omega arith)) (whole (bodyOf octets)))
+    (either (eqb (checkSent octets) (frameCheck (withoutCheck octets)))
+    (either (ltb room (length (withoutCheck octets))) (numbered 6 (omega arith) (omega arith)) (whole (withoutCheck octets)))
     (numbered 5 (omega arith) (omega arith)))
 
 tabled-in : (p : Phase) (s : State) (room : ℕ) → Tabled (closedIn p s room)
@@ -39,6 +39,6 @@ tabled-in Escape s room = numbered 2 (omega arith) (omega arith)
 tabled-in BadEscape s room = numbered 1 (omega arith) (omega arith)
 tabled-in TooLong s room = numbered 3 (omega arith) (omega arith)
 
-pub tabled : (s : State) (octet room : ℕ) → Tabled (answerDue s octet room)
-unfolding answerDue
+pub tabled : (s : State) (octet room : ℕ) → Tabled (verdictDue s octet room)
+unfolding verdictDue
 tabled s octet room = either (eqb octet flag) (tabled-in (s .rest .phase) s room) quiet

@@ -1,7 +1,7 @@
 -- The tender's demands 1 to 3, in one place. Each is a statement over what the running functions ensure of a call, or over the
--- definitions that their contracts cite, so it holds of what runs: `Writes` of `frame_writer::write_frame`, `Receives` of
--- `receiver::receive` and `Takes` of `receive_slice`; of the messages `Reads`, `Writes` and `Sends` (ucp_messages,
--- message_answers, ucp_send); of MAVLink `readDue` and `writeDue` (mavlink_messages). That every call on every input returns,
+-- definitions that their contracts cite, so it holds of what runs: `WritesFrame` of `ucp_writer::write_frame`, `Receives` of
+-- `ucp_receiver::octet::receive` and `Takes` of `receive_slice`; of the messages `Reads`, `WritesFrame` and `Sends` (ucp_messages,
+-- ucp_answers, ucp_send); of MAVLink `readDue` and `writeDue` (mavlink_messages). That every call on every input returns,
 -- with no undefined step, is what proving a Rattle function means, and no public function asks anything of its caller. Proved
 -- in proofs/Demands.antt. Assumes nothing.
 use mathlib.Core.Path.{_≡_}
@@ -10,35 +10,35 @@ use mathlib.Core.List.{List, [], _∷_, _++_, map}
 use mathlib.Core.Logic.{_⊎_, _↔_}
 use Prim.Native.Nat.{ℕ, _+_, _≤_, _<_}
 use lib.ListN.{length, drop}
-use Rattle.frame_format.specs.Frame.{frame, longestBody, longestFrame}
-use Rattle.writer_answers.specs.declared.Written.{Written}
-use Rattle.writer_answers.specs.Answers.{Answer, refused, wrote, answerOf, Writing}
-use Rattle.frame_writer.specs.Writes.{Writes}
+use Rattle.ucp_frame.specs.Frame.{frame, longestBody, longestFrame}
+use Rattle.output_writing.specs.declared.Written.{Written}
+use Rattle.output_writing.specs.Answers.{WriterAnswer, refused, wrote, writerAnswer, Writing}
+use Rattle.ucp_writer.specs.Writes.{WritesFrame}
 use Rattle.mavlink_frame.specs.declared.Header.{Header}
 use Rattle.mavlink_messages.specs.declared.Message as mavlink
 use Rattle.mavlink_messages.specs.declared.Read.the-variants as mavlink-read
-use Rattle.mavlink_messages.specs.Messages.{readDue, writeDue, messageFrame, inRange, octetsOf}
-use Rattle.mavlink_round_trips.specs.RoundTrips as mavlink-trips
-use Rattle.message_delivery.specs.Delivery.{SentIsDelivered}
-use Rattle.message_round_trips.specs.RoundTrips as message-trips
-use Rattle.receiver.specs.declared.Rest.{Rest}
-use Rattle.byte_account.specs.declared.Counts.{Counts}
-use Rattle.receiver.specs.declared.Received.{Received}
-use Rattle.closing_flag.specs.Answers as receiver-answers
-use Rattle.closing_flag.specs.Answers.{nothing, refusal}
-use Rattle.receiver.specs.Step.{Receives}
-use Rattle.line_history.specs.History.{answer}
-use Rattle.check_strength.specs.Strength.{TwoBodies, AtMostThreeBits, Within16Bits, Strength}
+use Rattle.mavlink_messages.specs.Messages.{readDue, writeDue, messageFrame, inRange, payloadOf}
+use Rattle.thm_mavlink_messages.specs.RoundTrips as mavlink-trips
+use Rattle.thm_ucp_messages.specs.Delivery.{SentIsDelivered}
+use Rattle.thm_ucp_messages.specs.RoundTrips as message-trips
+use Rattle.ucp_receiver.specs.declared.Rest.{Rest}
+use Rattle.ucp_receiver.specs.declared.Counts.{Counts}
+use Rattle.ucp_receiver.specs.declared.Received.{Received}
+use Rattle.ucp_receiver.specs.Answers as receiver-answers
+use Rattle.ucp_receiver.specs.Answers.{nothing, refusal}
+use Rattle.ucp_receiver.specs.Octet.{Receives}
+use Rattle.ucp_history.specs.History.{answer}
+use Rattle.crc_gdl90_strength.specs.Strength.{TwoBodies, AtMostThreeBits, Within16Bits, Strength}
 use Rattle.ucp_messages.specs.declared.Message as ucp
 use Rattle.ucp_messages.specs.declared.Read as ucp-read
 use Rattle.ucp_messages.specs.Bodies.{messageFits, messageBody}
 use Rattle.ucp_messages.specs.Kinds.{kindIn}
 use Rattle.ucp_messages.specs.Reads as Reads
-use Rattle.message_answers.specs.Writes as Message
-use Rattle.writer_history.specs.Calls.{WriterLists}
-use Rattle.receiver_history.specs.Line.{Observed, callOf, upTo, Line}
-use Rattle.receiver_history.specs.Slice.{LineOfSlices, SliceIsCall}
-use Rattle.receiver_history.specs.Promises.{AnswersAs, AnswersByHistory, StretchIsAnswered, CountsByHistory, EveryOctetCounted, StoreClean, FlagClears, LaterOnly, PutOutIsFrame, FrameIsPutOut, EndsIn, carrying}
+use Rattle.ucp_answers.specs.Writes as Message
+use Rattle.thm_ucp_writer.specs.Calls.{WriterLists}
+use Rattle.thm_ucp_receiver.specs.Line.{Observed, callOf, upTo, Line}
+use Rattle.thm_ucp_receiver.specs.Slice.{LineOfSlices, SliceIsCall}
+use Rattle.thm_ucp_receiver.specs.Promises.{AnswersAs, AnswersByHistory, StretchIsAnswered, CountsByHistory, EveryOctetCounted, StoreClean, FlagClears, LaterOnly, PutOutIsFrame, FrameIsPutOut, EndsIn, carrying}
 
 -- Demand 1. Bad input gets a numbered refusal under the conditions of document 01 and no others (the receiver's conditions are
 -- `answersByHistory` of demand 2, the message reader's are `refusalIn`, the MAVLink reader's its definition, `readDue`), and a
@@ -47,26 +47,26 @@ use Rattle.receiver_history.specs.Promises.{AnswersAs, AnswersByHistory, Stretc
 -- the same room lent.
 pub record Demand1 : Type 0 where
   pub writerRefuses7 :
-      (body output after : List ℕ) (r : Written) → Writes body output r after
-      → (answerOf r ≡ refused 7) ↔ ((length body ≡ 0) ⊎ (longestBody < length body))
+      (body output after : List ℕ) (r : Written) → WritesFrame body output r after
+      → (writerAnswer r ≡ refused 7) ↔ ((length body ≡ 0) ⊎ (longestBody < length body))
   pub writerRefuses8 :
-      (body output after : List ℕ) (r : Written) → Writes body output r after
-      → (answerOf r ≡ refused 8)
+      (body output after : List ℕ) (r : Written) → WritesFrame body output r after
+      → (writerAnswer r ≡ refused 8)
       ↔ ((1 ≤ length body) × (length body ≤ longestBody) × (length output < length (frame body)))
   pub writerRefuses :
-      (body output after : List ℕ) (r : Written) (number : ℕ) → Writes body output r after → answerOf r ≡ refused number
+      (body output after : List ℕ) (r : Written) (number : ℕ) → WritesFrame body output r after → writerAnswer r ≡ refused number
       → ((number ≡ 7) ⊎ (number ≡ 8)) × (after ≡ output)
   pub refusalWritesNothing :
-      (due : Answer) (octets output after : List ℕ) (r : Written) (number : ℕ) → Writing due octets output r after
-      → answerOf r ≡ refused number → after ≡ output
+      (due : WriterAnswer) (octets output after : List ℕ) (r : Written) (number : ℕ) → Writing due octets output r after
+      → writerAnswer r ≡ refused number → after ≡ output
   pub messageReaderRefuses :
       (body : List ℕ) (r : ucp-read.Read) (number : ℕ) → Reads.Reads body r
-      → (Reads.answerOf r ≡ Reads.refused number)
+      → (Reads.readerAnswer r ≡ Reads.refused number)
       ↔ ((number ≡ Reads.refusalIn (kindIn body) body) × (10 ≤ number) × (number ≤ 13))
   pub messageWriterRefuses :
       (m : ucp.Message) (payload output after : List ℕ) (r : Written) (number : ℕ)
-      → Message.Writes (messageFits m payload) (messageBody m payload) output r after
-      → (answerOf r ≡ refused number)
+      → Message.WritesBody (messageFits m payload) (messageBody m payload) output r after
+      → (writerAnswer r ≡ refused number)
       ↔ (((number ≡ 13) × (messageFits m payload ≡ false))
       ⊎ ((number ≡ 8) × (messageFits m payload ≡ true) × (length output < length (messageBody m payload))))
   pub mavlinkReaderRefuses :
@@ -74,19 +74,19 @@ pub record Demand1 : Type 0 where
   pub mavlinkWriterRefuses :
       (m : mavlink.Message) (h : Header) (output after : List ℕ) (r : Written) (number : ℕ)
       → Writing (writeDue m output) (messageFrame m h) output r after
-      → (answerOf r ≡ refused number)
+      → (writerAnswer r ≡ refused number)
       ↔ (((number ≡ 25) × (inRange m ≡ false))
-      ⊎ ((number ≡ 8) × (inRange m ≡ true) × (length output < length (octetsOf m) + 8)))
+      ⊎ ((number ≡ 8) × (inRange m ≡ true) × (length output < length (payloadOf m) + 8)))
   pub receiverRefuses :
       (rest : Rest) (counts : Counts) (store : List ℕ) (octet : ℕ) (output : List ℕ) (given : Received)
       (storeAfter outputThen : List ℕ) (number : ℕ)
       → Receives rest counts store octet output given storeAfter outputThen
-      → receiver-answers.answerOf (given .answer) ≡ refusal number → (1 ≤ number) × (number ≤ 6) × (outputThen ≡ output)
+      → receiver-answers.receiverAnswer (given .answer) ≡ refusal number → (1 ≤ number) × (number ≤ 6) × (outputThen ≡ output)
   pub receiverIsSilent :
       (rest : Rest) (counts : Counts) (store : List ℕ) (octet : ℕ) (output : List ℕ) (given : Received)
       (storeAfter outputThen : List ℕ)
       → Receives rest counts store octet output given storeAfter outputThen
-      → receiver-answers.answerOf (given .answer) ≡ nothing → outputThen ≡ output
+      → receiver-answers.receiverAnswer (given .answer) ≡ nothing → outputThen ≡ output
   pub flagClears : FlagClears
   pub storeClean : StoreClean
   pub laterOnly : LaterOnly
@@ -99,9 +99,9 @@ pub record Demand1 : Type 0 where
 -- is delivered, and means the same.
 pub record Demand2 : Type 0 where
   pub writes :
-      (body output after : List ℕ) (r : Written) → Writes body output r after
+      (body output after : List ℕ) (r : Written) → WritesFrame body output r after
       → 1 ≤ length body → length body ≤ longestBody → length (frame body) ≤ length output
-      → (answerOf r ≡ wrote (length (frame body)))
+      → (writerAnswer r ≡ wrote (length (frame body)))
       × (after ≡ frame body ++ drop (length (frame body)) output)
       × (length (frame body) ≤ longestFrame)
   pub answersByHistory : AnswersByHistory
@@ -112,12 +112,12 @@ pub record Demand2 : Type 0 where
   pub everyOctetCounted : EveryOctetCounted
   pub slicesAreCalls : LineOfSlices
   pub sliceEndsAsCall : SliceIsCall
-  pub messageReadsBack : message-trips.WrittenReadsBack
-  pub messageWritesBack : message-trips.AcceptedWritesBack
+  pub messageReadsBack : message-trips.MessageReadsBack
+  pub messageWritesBack : message-trips.MessageWritesBack
   pub uplinkReadsBack : message-trips.UplinkReadsBack
   pub sentIsDelivered : SentIsDelivered
-  pub mavlinkReadsBack : mavlink-trips.WrittenReadsBack
-  pub mavlinkWritesBack : mavlink-trips.AcceptedWritesBack
+  pub mavlinkReadsBack : mavlink-trips.MavlinkReadsBack
+  pub mavlinkWritesBack : mavlink-trips.MavlinkWritesBack
 
 -- The receiver's part of demand 3, one claim about whole lists: from a fresh receiver every call answers as the rules say, and
 -- where the list ends in the frame carrying one of two such bodies with the other's check, the last call answers 5.
@@ -129,7 +129,7 @@ ReceiverLists =
     × ((before : List Observed) (last : Observed) → calls ≡ before ++ last ∷ []
     → (a b : List ℕ) → TwoBodies a b → 1 ≤ length a → length a ≤ longestBody → AtMostThreeBits a b ⊎ Within16Bits a b
     → EndsIn (carrying a b) (upTo before last)
-    → receiver-answers.answerOf (last .given .answer) ≡ refusal 5)
+    → receiver-answers.receiverAnswer (last .given .answer) ≡ refusal 5)
 
 -- Demand 3. The check's strength, and with it the receiver's lists and the writer's.
 pub record Demand3 : Type 0 where

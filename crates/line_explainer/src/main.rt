@@ -1,17 +1,17 @@
 // The line explainer: reads standard input to its end, and writes a line for each answer of the receiver that says what it
-// means, and a last line with the counts. `explanation` has the text, `standard_streams` the reading and the writing. What a
+// means, and a last line with the counts. `text_ucp_explanation` has the text, `io_streams` the reading and the writing. What a
 // block leaves of the receiver's record is proved (`Leaves`); that the record goes on from block to block is tested.
 //
 // Where a read or a write fails the line lister's rules hold: what was explained has been written out, the failure is said on
 // standard error, and no closing line follows.
-ghost use Rattle.receiver.specs.Step.{stateOf};
-ghost use Rattle.listing.specs.Lists.{behindAll};
-ghost use Rattle.line_streams.specs.Records.{Leaves};
-ghost use Rattle.standard_streams.specs.Blocks.{Zeroed};
-use byte_account::Counts;
-use line_streams::Progress;
-use receiver::Rest;
-use standard_streams::Input;
+ghost use Rattle.ucp_receiver.specs.Octet.{stateOf};
+ghost use Rattle.text_ucp_listing.specs.Lists.{behindAll};
+ghost use Rattle.io_ucp.specs.Records.{Leaves};
+ghost use Rattle.io_streams.specs.Blocks.{Zeroed};
+use io_streams::Input;
+use io_ucp::Progress;
+use ucp_receiver::Counts;
+use ucp_receiver::Rest;
 
 // Explains the octets of a block, and writes each line out.
 fn explain_block(
@@ -28,13 +28,20 @@ fn explain_block(
     let mut counts = counts;
     let mut taken = 0;
     while taken < block.len() {
-        let explained = explanation::explain_next(rest, counts, store, room, &block[taken..], text);
+        let explained = text_ucp_explanation::explain_next(
+            rest,
+            counts,
+            store,
+            room,
+            &block[taken..],
+            text,
+        );
         let more = explained.taken;
         rest = more.rest;
         counts = more.counts;
         taken += more.taken;
         let n = explained.written;
-        if !standard_streams::write_first(text, n) {
+        if !io_streams::write_first(text, n) {
             return Progress {
                 rest: rest,
                 counts: counts,
@@ -56,19 +63,19 @@ fn explain_input(
     block: &mut [u8],
     text: &mut [u8; 1536],
 ) -> bool {
-    let mut rest = receiver::fresh_rest();
-    let mut counts = byte_account::zero_counts();
-    let mut turn = standard_streams::first_turn(block);
+    let mut rest = ucp_receiver::octet::fresh_rest();
+    let mut counts = ucp_receiver::account::zero_counts();
+    let mut turn = io_streams::first_turn(block);
     while turn.left > 0 {
         let end = turn.octets;
         let progress = explain_block(rest, counts, store, room, &block[..end], text);
         rest = progress.rest;
         counts = progress.counts;
         let told = progress.input;
-        turn = standard_streams::next_turn(told, block, 0, turn.left);
+        turn = io_streams::next_turn(told, block, 0, turn.left);
     }
     let input = turn.input;
-    line_streams::write_ending(input, text, counts)
+    io_ucp::write_ending(input, text, counts)
 }
 
 // Frames, and what they say, passed through all of these.
@@ -78,7 +85,7 @@ fn clear_lent(store: &mut [u8; 438], room: &mut [u8; 436], block: &mut [u8], tex
     ensures { λ r. ⌜ Zeroed (now (block .entry)) (now (block .exit)) ⌝ }
     ensures { λ r. ⌜ Zeroed (now (text .entry)) (now (text .exit)) ⌝ }
 {
-    line_streams::clear_lent(store, room, block, text);
+    io_ucp::clear_lent(store, room, block, text);
 }
 
 fn main() {
@@ -89,6 +96,6 @@ fn main() {
     let whole = explain_input(&mut store, &mut room, &mut block, &mut text);
     clear_lent(&mut store, &mut room, &mut block, &mut text);
     if whole {
-        standard_streams::close_output();
+        io_streams::close_output();
     }
 }

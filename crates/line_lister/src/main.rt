@@ -1,5 +1,5 @@
 // The line lister: reads standard input to its end, and writes a line for each answer of the receiver and a last line with
-// the counts. `listing` has the text; here are only the reading and the writing. What a block leaves of the receiver's record
+// the counts. `text_ucp_listing` has the text; here are only the reading and the writing. What a block leaves of the receiver's record
 // is proved (`Leaves`); that the record goes on from block to block is tested.
 //
 // Where a read fails, what was listed so far has been written out already, the failure is said on standard error, and no
@@ -7,14 +7,14 @@
 // nothing more is written. A pipe that is closed behind the program ends it by a signal, and nothing is said.
 ghost use Prim.Native.Nat.{_≤_};
 ghost use lib.ListN.{length};
-ghost use Rattle.listing.specs.Listing.{longestLine};
-ghost use Rattle.receiver.specs.Step.{stateOf};
-ghost use Rattle.listing.specs.Lists.{behindAll};
-ghost use Rattle.line_streams.specs.Records.{Leaves};
-use byte_account::Counts;
-use line_streams::Progress;
-use receiver::Rest;
-use standard_streams::Input;
+ghost use Rattle.text_ucp_listing.specs.Listing.{longestLine};
+ghost use Rattle.ucp_receiver.specs.Octet.{stateOf};
+ghost use Rattle.text_ucp_listing.specs.Lists.{behindAll};
+ghost use Rattle.io_ucp.specs.Records.{Leaves};
+use io_streams::Input;
+use io_ucp::Progress;
+use ucp_receiver::Counts;
+use ucp_receiver::Rest;
 
 // Lists the octets of a block, and writes the text out each time that it is full, and at the block's end.
 fn list_block(
@@ -32,12 +32,12 @@ fn list_block(
     let mut counts = counts;
     let mut taken = 0;
     while taken < block.len() {
-        let listed = listing::list_some(rest, counts, store, room, &block[taken..], text);
+        let listed = text_ucp_listing::list_some(rest, counts, store, room, &block[taken..], text);
         rest = listed.rest;
         counts = listed.counts;
         taken += listed.taken;
         let n = listed.written;
-        if !standard_streams::write_out(&text[..n]) {
+        if !io_streams::write_out(&text[..n]) {
             return Progress {
                 rest: rest,
                 counts: counts,
@@ -61,19 +61,19 @@ fn list_input(
 ) -> bool
     requires { ⌜ longestLine ≤ length (now text) ⌝ }
 {
-    let mut rest = receiver::fresh_rest();
-    let mut counts = byte_account::zero_counts();
-    let mut turn = standard_streams::first_turn(block);
+    let mut rest = ucp_receiver::octet::fresh_rest();
+    let mut counts = ucp_receiver::account::zero_counts();
+    let mut turn = io_streams::first_turn(block);
     while turn.left > 0 {
         let end = turn.octets;
         let progress = list_block(rest, counts, store, room, &block[..end], text);
         rest = progress.rest;
         counts = progress.counts;
         let told = progress.input;
-        turn = standard_streams::next_turn(told, block, 0, turn.left);
+        turn = io_streams::next_turn(told, block, 0, turn.left);
     }
     let input = turn.input;
-    line_streams::write_ending(input, text, counts)
+    io_ucp::write_ending(input, text, counts)
 }
 
 fn main() {
@@ -82,8 +82,8 @@ fn main() {
     let mut block = io::large_buffer();
     let mut text = io::large_buffer();
     let whole = list_input(&mut store, &mut room, &mut block, &mut text);
-    line_streams::clear_lent(&mut store, &mut room, &mut block, &mut text);
+    io_ucp::clear_lent(&mut store, &mut room, &mut block, &mut text);
     if whole {
-        standard_streams::close_output();
+        io_streams::close_output();
     }
 }

@@ -8,18 +8,18 @@ use native.Mathlib.Numerals.{add-one}
 use native.Mathlib.Omega.{arith}
 use lib.ListN.{length, set, getD, drop, length-drop}
 use lib.Seq.{paste, paste-suc, drop-paste, getD-drop, drop-drop}
-use Rattle.standard_streams.specs.declared.Input.the-variants.{More, Ended}
-use Rattle.mavlink_explanation.specs.declared.Explained.{Explained}
+use Rattle.io_streams.specs.declared.Input.the-variants.{More, Ended}
+use Rattle.text_mavlink_explanation.specs.declared.Explained.{Explained}
 use Rattle.mavlink_messages.specs.Messages.{readDue}
-use Rattle.mavlink_explanation.specs.Explanation.{isRefused}
-use Rattle.mavlink_explanation.specs.Calls.{Explains}
-use Rattle.mavlink_explanation.specs.Decided.{frameRoom}
-use Rattle.mavlink_explanation.proofs.Used.{used-within, used-some}
-use Rattle.mavlink_explainer.specs.Blocks.{Carries, Walks, few, stops, onward, tells, UnlessFailed, Explores}
+use Rattle.text_mavlink_explanation.specs.Explanation.{isRefused}
+use Rattle.text_mavlink_explanation.specs.Calls.{ExplainsFrame}
+use Rattle.text_mavlink_explanation.specs.Decided.{frameRoom}
+use Rattle.text_mavlink_explanation.proofs.Used.{used-within, used-some}
+use Rattle.mavlink_explainer.specs.Blocks.{Carries, Walks, few, stops, onward, explains, UnlessFailed, Explores}
 
 -- ---- explaining
 
-module _ {input text : List ℕ} {given : Explained} {after : List ℕ} (e : Explains input text given after) where
+module _ {input text : List ℕ} {given : Explained} {after : List ℕ} (e : ExplainsFrame input text given after) where
   pub turn-within : given .used ≤ length input
   turn-within = omega (arith, e .used, used-within input)
 
@@ -50,7 +50,7 @@ module _ (least : ℕ) (block : List ℕ) (count left : ℕ) (h : left ≤ lengt
   long : left ≡ length (drop (length block - left) block)
   long = simp length-drop (omega arith)
 
-  pub next-frame : {text : List ℕ} {given : Explained} {after : List ℕ} → Explains (drop (length block - left) block) text given after
+  pub next-frame : {text : List ℕ} {given : Explained} {after : List ℕ} → ExplainsFrame (drop (length block - left) block) text given after
       → least ≤ left → given .refused ≡ false → Onward least block (count + 1) (left - given .used)
   next-frame {text} {given} e enough r n l q w =
       let within : given .used ≤ left = omega (arith, turn-within e, long) in
@@ -71,13 +71,13 @@ module _ (least : ℕ) (block : List ℕ) (count left : ℕ) (h : left ≤ lengt
         subst (λ (k : ℕ). Walks (cond last 1 frameRoom) block k left r) all (subst (λ (m : ℕ). Walks m block (0 + count) left r) same (on 0 left r w))
 
     pub at-refused : least ≤ left → isRefused (readDue (drop (length block - left) block)) ≡ true
-        → Explores last block frames bytes (tells frames bytes count (length block - left) left Ended)
+        → Explores last block frames bytes (explains frames bytes count (length block - left) left Ended)
     at-refused enough r = record {
       leaves = record { carries = tt; within = h };
       explored = record { count = count; refused = true; walks = walked true (stops long enough r); counts = refl };
     }
 
-    pub at-end : left < least → Explores last block frames bytes (tells frames bytes count (length block - left) left (cond last Ended More))
+    pub at-end : left < least → Explores last block frames bytes (explains frames bytes count (length block - left) left (cond last Ended More))
     at-end less = record {
       leaves = record { carries = few-left last left (omega (arith, same)); within = h };
       explored = goes-on last (record { count = count; refused = false; walks = walked false (few long less); counts = refl });

@@ -4,13 +4,13 @@ use mathlib.Core.Bool.{Bool, true, false, cond}
 use mathlib.Core.List.{List}
 use Prim.Native.Nat.{ℕ, _+_, _-_, _%_, _^_, _<_, _≤_}
 use lib.ListN.{length, drop}
-use Rattle.standard_streams.specs.declared.Input.{Input}
-use Rattle.standard_streams.specs.declared.Input.the-variants.{More, Ended, Failed}
+use Rattle.io_streams.specs.declared.Input.{Input}
+use Rattle.io_streams.specs.declared.Input.the-variants.{More, Ended, Failed}
 use Rattle.mavlink_explainer.specs.declared.Progress.{Progress}
 use Rattle.mavlink_messages.specs.Messages.{readDue}
-use Rattle.mavlink_explanation.specs.Explanation.{usedBy, isRefused, closingLine}
-use Rattle.mavlink_explanation.specs.Calls.{Whole}
-use Rattle.mavlink_explanation.specs.Decided.{frameRoom}
+use Rattle.text_mavlink_explanation.specs.Explanation.{usedBy, isRefused, framesLine}
+use Rattle.text_mavlink_explanation.specs.Calls.{WholeFrame}
+use Rattle.text_mavlink_explanation.specs.Decided.{frameRoom}
 
 -- where the input goes on, fewer octets are carried over than decide a frame
 abbrev pub Carries : Input → ℕ → Type 0
@@ -19,7 +19,7 @@ Carries Ended left = Unit {0}
 Carries Failed left = Unit {0}
 
 -- octets that are left of a block are within it
-pub record Leaves (input : Input) (left block : ℕ) : Type 0 where
+pub record FramesLeave (input : Input) (left block : ℕ) : Type 0 where
   pub carries : Carries input left
   pub within : left ≤ block
 
@@ -34,8 +34,8 @@ pub data Walks : ℕ → List ℕ → ℕ → ℕ → Bool → Type 0 where
       → Walks least (drop (usedBy (readDue s)) s) n left refused → Walks least s (n + 1) left refused
 
 -- so many frames more, of so many octets; the counts run round
-abbrev pub tells : ℕ → ℕ → ℕ → ℕ → ℕ → Input → Progress
-tells frames bytes count used left input =
+abbrev pub explains : ℕ → ℕ → ℕ → ℕ → ℕ → Input → Progress
+explains frames bytes count used left input =
     record { frames = (frames + count) % 2 ^ 64; bytes = (bytes + used) % 2 ^ 64; left = left; input = input }
 
 -- a refused frame ends the input, and so does its end
@@ -47,7 +47,7 @@ pub record Explored (last : Bool) (block : List ℕ) (frames bytes : ℕ) (given
   pub count : ℕ
   pub refused : Bool
   pub walks : Walks (cond last 1 frameRoom) block count (given .left) refused
-  pub counts : given ≡ tells frames bytes count (length block - given .left) (given .left) (inputAfter last refused)
+  pub counts : given ≡ explains frames bytes count (length block - given .left) (given .left) (inputAfter last refused)
 
 abbrev pub UnlessFailed : Input → Type 0 → Type 0
 UnlessFailed More told = told
@@ -55,12 +55,12 @@ UnlessFailed Ended told = told
 UnlessFailed Failed told = Unit {0}
 
 pub record Explores (last : Bool) (block : List ℕ) (frames bytes : ℕ) (given : Progress) : Type 0 where
-  pub leaves : Leaves (given .input) (given .left) (length block)
+  pub leaves : FramesLeave (given .input) (given .left) (length block)
   pub explored : UnlessFailed (given .input) (Explored last block frames bytes given)
 
 -- ---- the closing line
 
 -- the closing line stands at the start of the text
-pub record Closed (frames bytes : ℕ) (before after : List ℕ) : Type 0 where
+pub record FramesClosed (frames bytes : ℕ) (before after : List ℕ) : Type 0 where
   pub written : ℕ
-  pub line : Whole before (closingLine frames bytes) written after
+  pub line : WholeFrame before (framesLine frames bytes) written after

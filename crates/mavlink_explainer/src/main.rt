@@ -1,6 +1,6 @@
 // The MAVLink explainer: reads standard input, frames back to back, to its end or to the first frame that is refused, and writes
 // a line for each frame that says what it means. It closes with how many frames were explained and the octets that they used.
-// `mavlink_explanation` has the text, `standard_streams` the reading and the writing. What the frames of one block are is proved
+// `text_mavlink_explanation` has the text, `io_streams` the reading and the writing. What the frames of one block are is proved
 // (`Explores`); that octets and counts go on from block to block is tested.
 //
 // Where a read or a write fails the line lister's rules hold: what was explained has been written out, the failure is said on
@@ -10,13 +10,13 @@ ghost use mathlib.Core.Bool.{cond};
 ghost use Prim.Native.Nat.{_-_, _≤_};
 ghost use lib.ListN.{length, drop};
 ghost use lib.Seq.{paste};
-ghost use Rattle.standard_streams.specs.declared.Input.the-variants.{More, Ended};
-ghost use Rattle.standard_streams.specs.Blocks.{Zeroed};
-ghost use Rattle.mavlink_explanation.specs.Decided.{frameRoom};
-ghost use Rattle.mavlink_explainer.specs.Blocks.{tells, Explores, Closed};
-use standard_streams::Input;
+ghost use Rattle.io_streams.specs.declared.Input.the-variants.{More, Ended};
+ghost use Rattle.io_streams.specs.Blocks.{Zeroed};
+ghost use Rattle.text_mavlink_explanation.specs.Decided.{frameRoom};
+ghost use Rattle.mavlink_explainer.specs.Blocks.{explains, Explores, FramesClosed};
+use io_streams::Input;
 
-// How far the frames are told: how many, the octets that they used, and how many octets behind them are left of the block.
+// How far the frames are explained: how many, the octets that they used, and how many octets behind them are left of the block.
 // The input has ended where it is at its end or a frame was refused.
 struct Progress {
     frames: u64,
@@ -45,8 +45,15 @@ fn goes_on(last: bool) -> Input
 }
 
 // So many frames more, of so many octets.
-fn told(frames: u64, bytes: u64, count: usize, used: usize, left: usize, input: Input) -> Progress
-    ensures { λ r. ⌜ r ≡ tells frames bytes count used left input ⌝ }
+fn progress(
+    frames: u64,
+    bytes: u64,
+    count: usize,
+    used: usize,
+    left: usize,
+    input: Input,
+) -> Progress
+    ensures { λ r. ⌜ r ≡ explains frames bytes count used left input ⌝ }
 {
     Progress {
         frames: std::num::wrapping_add_u64(frames, count as u64),
@@ -72,18 +79,18 @@ fn explain_block(
     let least = least_octets(last);
     while least <= left {
         let used = block.len() - left;
-        let explained = mavlink_explanation::explain_frame(&block[used..], text);
+        let explained = text_mavlink_explanation::explain_frame(&block[used..], text);
         let n = explained.written;
-        if !standard_streams::write_first(text, n) {
-            return told(frames, bytes, count, used, left, Input::Failed);
+        if !io_streams::write_first(text, n) {
+            return progress(frames, bytes, count, used, left, Input::Failed);
         }
         if explained.refused {
-            return told(frames, bytes, count, used, left, Input::Ended);
+            return progress(frames, bytes, count, used, left, Input::Ended);
         }
         count += 1;
         left -= explained.used;
     }
-    told(
+    progress(
         frames,
         bytes,
         count,
@@ -107,10 +114,10 @@ fn carry(block: &mut [u8], from: usize, end: usize)
 
 // The closing line, and whether it was written.
 fn write_closing(text: &mut [u8; 1536], frames: u64, bytes: u64) -> bool
-    ensures { λ r. ⌜ Closed frames bytes (now (text .entry)) (now (text .exit)) ⌝ }
+    ensures { λ r. ⌜ FramesClosed frames bytes (now (text .entry)) (now (text .exit)) ⌝ }
 {
-    let n = mavlink_explanation::put_closing(text, frames, bytes);
-    standard_streams::write_first(text, n)
+    let n = text_mavlink_explanation::put_closing(text, frames, bytes);
+    io_streams::write_first(text, n)
 }
 
 // Explains all of the input, and answers whether it came to its end or to a refused frame, and all was written. Octets that do
@@ -118,21 +125,21 @@ fn write_closing(text: &mut [u8; 1536], frames: u64, bytes: u64) -> bool
 fn explain_input(block: &mut [u8], text: &mut [u8; 1536]) -> bool {
     let mut frames: u64 = 0;
     let mut bytes: u64 = 0;
-    let mut turn = standard_streams::first_turn(block);
+    let mut turn = io_streams::first_turn(block);
     while turn.left > 0 {
         let end = turn.octets;
         let input = turn.input;
-        let last = standard_streams::has_ended(input);
+        let last = io_streams::has_ended(input);
         let progress = explain_block(frames, bytes, last, &block[..end], text);
         let held = progress.left;
         carry(block, end - held, end);
         frames = progress.frames;
         bytes = progress.bytes;
         let told = progress.input;
-        turn = standard_streams::next_turn(told, block, held, turn.left);
+        turn = io_streams::next_turn(told, block, held, turn.left);
     }
     let input = turn.input;
-    if !standard_streams::has_ended(input) {
+    if !io_streams::has_ended(input) {
         return false;
     }
     write_closing(text, frames, bytes)
@@ -143,8 +150,8 @@ fn clear_lent(block: &mut [u8], text: &mut [u8; 1536])
     ensures { λ r. ⌜ Zeroed (now (block .entry)) (now (block .exit)) ⌝ }
     ensures { λ r. ⌜ Zeroed (now (text .entry)) (now (text .exit)) ⌝ }
 {
-    standard_streams::clear(block);
-    standard_streams::clear(text);
+    io_streams::clear(block);
+    io_streams::clear(text);
 }
 
 fn main() {
@@ -153,6 +160,6 @@ fn main() {
     let whole = explain_input(&mut block, &mut text);
     clear_lent(&mut block, &mut text);
     if whole {
-        standard_streams::close_output();
+        io_streams::close_output();
     }
 }

@@ -8,13 +8,13 @@ use lib.ListN.{length, drop, getD}
 use lib.Seq.{drop-cons}
 use Rattle.mavlink_frame.specs.declared.Kind.{Kind}
 use Rattle.mavlink_frame.specs.declared.Lookup.the-variants.{Known}
-use Rattle.mavlink_frame.specs.Kinds.{kindIn}
+use Rattle.mavlink_frame.specs.Kinds.{kindAmong}
 
 module _ (ks : List Kind) (i id : ℕ) (d : Kind) (h : i < length ks) where
   -- it ends at the kind that has the ID
-  pub here : id ≡ getD ks i d .id → kindIn (drop i ks) id ≡ Known (getD ks i d)
+  pub here : id ≡ getD ks i d .id → kindAmong (drop i ks) id ≡ Known (getD ks i d)
   here e = rw (drop-cons ks i d, eq-eqb _ _ e)
 
   -- and passes one that has another
-  pub past : (id ≡ getD ks i d .id → ⊥) → kindIn (drop i ks) id ≡ kindIn (drop (i + 1) ks) id
+  pub past : (id ≡ getD ks i d .id → ⊥) → kindAmong (drop i ks) id ≡ kindAmong (drop (i + 1) ks) id
   past e = rw (add-one, drop-cons ks i d, ne-eqb _ _ e)

@@ -13,10 +13,10 @@ kind id length extra = record { id = id; length = length; extra = extra }
 abbrev pub kinds : List Kind
 kinds = kind 66 6 148 ∷ kind 201 19 126 ∷ kind 202 42 7 ∷ kind 203 1 85 ∷ kind 246 38 184 ∷ []
 
-abbrev pub kindIn : List Kind → ℕ → Lookup
-kindIn [] id = Unknown
-kindIn (k ∷ ks) id = cond (eqb id (k .id)) (Known k) (kindIn ks id)
+abbrev pub kindAmong : List Kind → ℕ → Lookup
+kindAmong [] id = Unknown
+kindAmong (k ∷ ks) id = cond (eqb id (k .id)) (Known k) (kindAmong ks id)
 
 -- the kind that has a message ID
-unfoldable pub kindOf : ℕ → Lookup
-kindOf id = kindIn kinds id
+unfoldable pub mavlinkKind : ℕ → Lookup
+mavlinkKind id = kindAmong kinds id

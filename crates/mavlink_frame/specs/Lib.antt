@@ -1,2 +1,4 @@
 pub mod Kinds
 pub mod Frame
+pub mod Reader
+pub mod Writer

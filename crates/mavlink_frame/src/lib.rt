@@ -1,6 +1,17 @@
 // MAVLink version 1 frames: the table of the kinds, and what a frame says of its sender.
+pub mod reader;
+pub mod writer;
+
 ghost use mathlib.Core.Path.{_≡_};
-ghost use Rattle.mavlink_frame.specs.Kinds.{kindOf};
+ghost use Rattle.mavlink_frame.specs.Kinds.{mavlinkKind};
+
+// What stands at the start of an input.
+pub enum Found {
+    // A frame with its check right: its message ID, its header, and how many octets it has. Its payload is from 6 on.
+    Frame(u8, Header, usize),
+    // Refused, by its number: 20 to 24.
+    Refused(u8),
+}
 
 // What a kind has: its message ID, the length of its payload, and the extra octet of its check.
 pub struct Kind {
@@ -54,7 +65,7 @@ const KINDS: [Kind; 5] = [
 
 // The kind that has a message ID.
 pub fn kind_of(id: u8) -> Lookup
-    ensures { λ r. ⌜ r ≡ kindOf id ⌝ }
+    ensures { λ r. ⌜ r ≡ mavlinkKind id ⌝ }
 {
     let kinds = KINDS;
     let mut i = 0;

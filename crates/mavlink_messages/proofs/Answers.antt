@@ -12,11 +12,11 @@ use Rattle.mavlink_frame.specs.declared.Header.{Header}
 use Rattle.mavlink_frame.specs.declared.Kind.{Kind}
 use Rattle.mavlink_frame.specs.declared.Lookup.{Lookup}
 use Rattle.mavlink_frame.specs.declared.Lookup.the-variants.{Known, Unknown}
-use Rattle.mavlink_reader.specs.declared.Found.the-variants.{Frame}
-use Rattle.mavlink_frame.specs.Kinds.{kind, kindOf}
-use Rattle.mavlink_reader.specs.Reads.{found}
-use Rattle.mavlink_reader.proofs.Accepted.{Accepted, accepted}
-use Rattle.message_answers.proofs.Both.{both}
+use Rattle.mavlink_frame.specs.declared.Found.the-variants.{Frame}
+use Rattle.mavlink_frame.specs.Kinds.{kind, mavlinkKind}
+use Rattle.mavlink_frame.specs.Reader.{found}
+use Rattle.mavlink_frame.proofs.reader.Accepted.{Accepted, accepted}
+use Rattle.ucp_answers.proofs.Conjunction.{both}
 use Rattle.mavlink_messages.specs.Messages.{payloadRead, readBy, readDue, ofLength, ofItsKind}
 
 pub tested : (id i n l : ℕ) → (eqb id i && eqb n l) ≡ true → (id ≡ i) × (n ≡ l)
@@ -31,7 +31,7 @@ past false k rest n h e = h
 -- a length that is right for the ID is that of one of the five kinds
 pub no-kind : (id n : ℕ) → ofItsKind id n ≡ true → (eqb id 66 && eqb n 6) ≡ false → (eqb id 201 && eqb n 19) ≡ false
     → (eqb id 202 && eqb n 42) ≡ false → (eqb id 203 && eqb n 1) ≡ false → (eqb id 246 && eqb n 38) ≡ false → ⊥
-unfolding kindOf
+unfolding mavlinkKind
 no-kind id n h a b c d e =
     let fifth =
     past (eqb id 246) (kind 246 38 184) Unknown n

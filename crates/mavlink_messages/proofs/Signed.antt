@@ -7,8 +7,8 @@ use lib.Signed.{mag}
 use mir.Syntax.{Width, w16, w32}
 use mir.Val.{SFits, toZ, ofZ, hbits}
 use mir.ValLaws.{toZ-ofZ}
-use Rattle.octet_fields.specs.Layout.{low, runOctets}
-use Rattle.twos_complement.specs.Signed.{signed, complement}
+use Rattle.field_layout.specs.Layout.{low, runOctets}
+use Rattle.field_signed.specs.Signed.{signed, complement}
 
 -- put into a struct
 pub taken : (w : Width) (half : ℕ) {a b : ℕ} {z : ℤ} → z ≡ signed half a → SFits w z → a ≡ b → toZ w (ofZ w z) ≡ signed half b

@@ -2,7 +2,7 @@
 use mathlib.Core.List.{List, [], _∷_}
 use Prim.Native.Nat.{ℕ}
 use lib.ListN.{length}
-use Rattle.status_failures.specs.Failures.{failureBits}
+use Rattle.mavlink_messages.specs.FailureBits.{failureBits}
 use Rattle.mavlink_messages.specs.declared.Lowest.{Lowest}
 use Rattle.mavlink_messages.specs.declared.Lowest.the-variants.{Bit, None}
 use Rattle.mavlink_messages.specs.declared.Failures.{Failures}

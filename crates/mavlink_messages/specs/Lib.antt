@@ -1,8 +1,10 @@
-pub mod Octets
-pub mod DataStream
-pub mod Static
-pub mod Dynamic
-pub mod Status
-pub mod Traffic
+pub mod Steps
+pub mod DataStream66
+pub mod Static201
+pub mod Dynamic202
+pub mod Status203
+pub mod Traffic246
 pub mod Failures
 pub mod Messages
+pub mod Ranges
+pub mod FailureBits

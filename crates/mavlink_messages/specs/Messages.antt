@@ -5,26 +5,26 @@ use mathlib.Core.List.{List}
 use Prim.Native.Nat.{ℕ, _+_, _-_}
 use lib.Dec.{eqb}
 use lib.ListN.{length}
-use Rattle.message_formats.specs.Formats.{bodyOf, valueIn}
-use Rattle.writer_answers.specs.Answers.{Answer, refused}
+use Rattle.field_format.specs.Formats.{bodyOf, valueIn}
+use Rattle.output_writing.specs.Answers.{WriterAnswer, refused}
 use Rattle.mavlink_frame.specs.declared.Header.{Header}
 use Rattle.mavlink_frame.specs.declared.Lookup.{Lookup}
 use Rattle.mavlink_frame.specs.declared.Lookup.the-variants.{Known, Unknown}
-use Rattle.mavlink_reader.specs.declared.Found.{Found}
-use Rattle.mavlink_reader.specs.declared.Found.the-variants as found-as
-use Rattle.mavlink_frame.specs.Kinds.{kindOf}
-use Rattle.mavlink_reader.specs.Reads.{payloadAt, found}
-use Rattle.mavlink_writer.specs.Writes.{roomFor, frameOf}
+use Rattle.mavlink_frame.specs.declared.Found.{Found}
+use Rattle.mavlink_frame.specs.declared.Found.the-variants as found-as
+use Rattle.mavlink_frame.specs.Kinds.{mavlinkKind}
+use Rattle.mavlink_frame.specs.Reader.{payloadAt, found}
+use Rattle.mavlink_frame.specs.Writer.{roomFor, frameOf}
 use Rattle.mavlink_messages.specs.declared.Message.{Message}
 use Rattle.mavlink_messages.specs.declared.Message.the-variants.{DataStream, Static, Dynamic, Status, Traffic}
 use Rattle.mavlink_messages.specs.declared.Failures.{Failures}
 use Rattle.mavlink_messages.specs.declared.Read.{Read}
 use Rattle.mavlink_messages.specs.declared.Read.the-variants as read-as
-use Rattle.mavlink_messages.specs.DataStream.{dataStreamFormat}
-use Rattle.mavlink_messages.specs.Static.{staticFormat}
-use Rattle.mavlink_messages.specs.Dynamic.{dynamicFormat}
-use Rattle.mavlink_messages.specs.Status.{statusFormat}
-use Rattle.mavlink_messages.specs.Traffic.{trafficFormat}
+use Rattle.mavlink_messages.specs.DataStream66.{dataStreamFormat}
+use Rattle.mavlink_messages.specs.Static201.{staticFormat}
+use Rattle.mavlink_messages.specs.Dynamic202.{dynamicFormat}
+use Rattle.mavlink_messages.specs.Status203.{statusFormat}
+use Rattle.mavlink_messages.specs.Traffic246.{trafficFormat}
 use Rattle.mavlink_messages.specs.Failures.{failuresIn, noFailures}
 
 abbrev pub idOf : Message → ℕ
@@ -34,12 +34,12 @@ idOf (Dynamic d) = 202
 idOf (Status s) = 203
 idOf (Traffic t) = 246
 
-abbrev pub octetsOf : Message → List ℕ
-octetsOf (DataStream d) = bodyOf dataStreamFormat d
-octetsOf (Static s) = bodyOf staticFormat s
-octetsOf (Dynamic d) = bodyOf dynamicFormat d
-octetsOf (Status s) = bodyOf statusFormat s
-octetsOf (Traffic t) = bodyOf trafficFormat t
+abbrev pub payloadOf : Message → List ℕ
+payloadOf (DataStream d) = bodyOf dataStreamFormat d
+payloadOf (Static s) = bodyOf staticFormat s
+payloadOf (Dynamic d) = bodyOf dynamicFormat d
+payloadOf (Status s) = bodyOf statusFormat s
+payloadOf (Traffic t) = bodyOf trafficFormat t
 
 abbrev pub inRange : Message → Bool
 inRange (DataStream d) = true
@@ -60,17 +60,17 @@ failuresOf (Traffic t) = noFailures
 abbrev pub judgedBy : Bool → Header → ℕ → Message → Read
 judgedBy fits h used m = cond fits (read-as.Message h used m (failuresOf m)) (read-as.Refused 25)
 
-abbrev pub judged : Header → ℕ → Message → Read
-judged h used m = judgedBy (inRange m) h used m
+abbrev pub messageJudged : Header → ℕ → Message → Read
+messageJudged h used m = judgedBy (inRange m) h used m
 
 -- a payload by its message ID; the frame has refused an ID that no kind has
 abbrev pub payloadRead : ℕ → Header → ℕ → List ℕ → Read
 payloadRead id h used p =
-    cond (eqb id 66) (judged h used (DataStream (valueIn dataStreamFormat p)))
-    (cond (eqb id 201) (judged h used (Static (valueIn staticFormat p)))
-    (cond (eqb id 202) (judged h used (Dynamic (valueIn dynamicFormat p)))
-    (cond (eqb id 203) (judged h used (Status (valueIn statusFormat p)))
-    (cond (eqb id 246) (judged h used (Traffic (valueIn trafficFormat p)))
+    cond (eqb id 66) (messageJudged h used (DataStream (valueIn dataStreamFormat p)))
+    (cond (eqb id 201) (messageJudged h used (Static (valueIn staticFormat p)))
+    (cond (eqb id 202) (messageJudged h used (Dynamic (valueIn dynamicFormat p)))
+    (cond (eqb id 203) (messageJudged h used (Status (valueIn statusFormat p)))
+    (cond (eqb id 246) (messageJudged h used (Traffic (valueIn trafficFormat p)))
     (read-as.Refused 22)))))
 
 abbrev pub readBy : Found → List ℕ → Read
@@ -86,11 +86,11 @@ ofLength (Known k) n = eqb n (k .length)
 ofLength Unknown n = false
 
 abbrev pub ofItsKind : ℕ → ℕ → Bool
-ofItsKind id = ofLength (kindOf id)
+ofItsKind id = ofLength (mavlinkKind id)
 
 -- ---- writing: 25, then 8
-abbrev pub writeDue : Message → List ℕ → Answer
-writeDue m output = cond (inRange m) (roomFor (length (octetsOf m) + 8) output) (refused 25)
+abbrev pub writeDue : Message → List ℕ → WriterAnswer
+writeDue m output = cond (inRange m) (roomFor (length (payloadOf m) + 8) output) (refused 25)
 
 abbrev pub messageFrame : Message → Header → List ℕ
-messageFrame m h = frameOf (idOf m) h (octetsOf m)
+messageFrame m h = frameOf (idOf m) h (payloadOf m)

@@ -1,65 +1,67 @@
 // The five kinds of MAVLink messages, typed: read from a frame, and written as one.
-mod message_201;
-mod message_202;
-mod message_203;
-mod message_246;
-mod message_66;
+mod data_stream_66;
+mod dynamic_202;
+pub mod failure_bits;
 mod numbers;
+pub mod ranges;
+mod static_201;
+mod status_203;
+mod traffic_246;
 
+use field_layout::Text;
+use mavlink_frame::Found;
 use mavlink_frame::Header;
-use mavlink_reader::Found;
-use octet_fields::Text;
-use writer_answers::Written;
+use output_writing::Written;
 ghost use mathlib.Core.Path.{_≡_};
 ghost use mathlib.Core.Bool.{true};
 ghost use lib.ListN.{length};
-ghost use Rattle.writer_answers.specs.Answers.{Writing};
+ghost use Rattle.output_writing.specs.Answers.{Writing};
 ghost use Rattle.mavlink_messages.specs.Failures.{failuresIn, noFailures};
 ghost use Rattle.mavlink_messages.specs.Messages.{inRange, failuresOf, judgedBy, payloadRead, readDue, ofItsKind, writeDue, messageFrame};
 
 // 66: a request for a data stream.
 #[repr(C)]
 pub struct DataStream {
-    pub rate: u16,
-    pub system: u8,
-    pub component: u8,
-    pub stream: u8,
-    pub start: u8,
+    pub req_message_rate: u16,
+    pub target_system: u8,
+    pub target_component: u8,
+    pub req_stream_id: u8,
+    pub start_stop: u8,
 }
 
 // 201: the static data of an aircraft.
 #[repr(C)]
 pub struct Static {
-    pub address: u32,
+    pub icao: u32,
     pub integrity: u8,
-    pub stall: u16,
+    pub stall_speed: u16,
     pub callsign: Text,
     pub capability: u8,
     pub emitter: u8,
-    pub size: u8,
-    pub lateral: u8,
-    pub longitudinal: u8,
+    pub alw_encode: u8,
+    pub gps_lat_offs: u8,
+    pub gps_lon_offs: u8,
 }
 
 // 202: the dynamic data of an aircraft.
 #[repr(C)]
 pub struct Dynamic {
-    pub utc: u32,
+    pub utc_time: u32,
     pub latitude: i32,
     pub longitude: i32,
-    pub pressure: i32,
-    pub gnss: i32,
-    pub horizontal: u32,
-    pub vertical: u16,
-    pub velocity: u16,
-    pub climb: i16,
-    pub north: i16,
-    pub east: i16,
+    pub alt_pres: i32,
+    pub alt_gnss: i32,
+    pub acc_horiz: u32,
+    pub acc_vert: u16,
+    pub acc_vel: u16,
+    pub vel_vert: i16,
+    pub ns_vog: i16,
+    pub ew_vog: i16,
     pub state: u16,
     pub squawk: u16,
-    pub fix: u8,
-    pub satellites: u8,
-    pub emergency: u8,
+    pub fix_type: u8,
+    pub num_sats: u8,
+    pub em_status: u8,
     pub control: u8,
 }
 
@@ -72,20 +74,20 @@ pub struct Status {
 // 246: a report of traffic.
 #[repr(C)]
 pub struct Traffic {
-    pub address: u32,
-    pub latitude: i32,
-    pub longitude: i32,
+    pub icao_address: u32,
+    pub lat: i32,
+    pub lon: i32,
     pub altitude: i32,
     pub heading: u16,
-    pub speed: u16,
-    pub climb: i16,
-    pub valid: u16,
+    pub hor_velocity: u16,
+    pub ver_velocity: i16,
+    pub valid_flags: u16,
     pub squawk: u16,
-    pub datum: u8,
+    pub altitude_type: u8,
     pub callsign: Text,
-    pub ninth: u8,
-    pub emitter: u8,
-    pub age: u8,
+    pub callsign_ninth: u8,
+    pub emitter_type: u8,
+    pub tslc: u8,
 }
 
 // A message of one of the five kinds.
@@ -125,10 +127,10 @@ fn in_range(message: Message) -> bool
 {
     match message {
         Message::DataStream(_) => true,
-        Message::Static(static_data) => message_201::in_range(static_data),
-        Message::Dynamic(dynamic) => message_202::in_range(dynamic),
+        Message::Static(static_data) => static_201::in_range(static_data),
+        Message::Dynamic(dynamic) => dynamic_202::in_range(dynamic),
         Message::Status(_) => true,
-        Message::Traffic(traffic) => message_246::in_range(traffic),
+        Message::Traffic(traffic) => traffic_246::in_range(traffic),
     }
 }
 
@@ -136,11 +138,11 @@ fn in_range(message: Message) -> bool
 fn failures_of(status: u8) -> Failures
     ensures { λ r. ⌜ r ≡ failuresIn status ⌝ }
 {
-    let count = status_failures::count_failures(status);
+    let count = failure_bits::count_failures(status);
     if count == 0 {
         return no_failures();
     }
-    let lowest = status_failures::lowest_failure(status);
+    let lowest = failure_bits::lowest_failure(status);
     Failures {
         count,
         lowest: Lowest::Bit(lowest),
@@ -176,24 +178,24 @@ pub fn write_message(message: Message, header: Header, output: &mut [u8]) -> Wri
     }
     match message {
         Message::DataStream(data_stream) => {
-            let payload = message_66::octets(data_stream);
-            mavlink_writer::write_frame(66, header, &payload, output)
+            let payload = data_stream_66::octets(data_stream);
+            mavlink_frame::writer::write_frame(66, header, &payload, output)
         }
         Message::Static(static_data) => {
-            let payload = message_201::octets(static_data);
-            mavlink_writer::write_frame(201, header, &payload, output)
+            let payload = static_201::octets(static_data);
+            mavlink_frame::writer::write_frame(201, header, &payload, output)
         }
         Message::Dynamic(dynamic) => {
-            let payload = message_202::octets(dynamic);
-            mavlink_writer::write_frame(202, header, &payload, output)
+            let payload = dynamic_202::octets(dynamic);
+            mavlink_frame::writer::write_frame(202, header, &payload, output)
         }
         Message::Status(status) => {
-            let payload = message_203::octets(status);
-            mavlink_writer::write_frame(203, header, &payload, output)
+            let payload = status_203::octets(status);
+            mavlink_frame::writer::write_frame(203, header, &payload, output)
         }
         Message::Traffic(traffic) => {
-            let payload = message_246::octets(traffic);
-            mavlink_writer::write_frame(246, header, &payload, output)
+            let payload = traffic_246::octets(traffic);
+            mavlink_frame::writer::write_frame(246, header, &payload, output)
         }
     }
 }
@@ -204,7 +206,7 @@ pub fn write_message(message: Message, header: Header, output: &mut [u8]) -> Wri
 pub fn read_message(input: &[u8]) -> Read
     ensures { λ r. ⌜ r ≡ readDue (now (input .entry)) ⌝ }
 {
-    match mavlink_reader::read_frame(input) {
+    match mavlink_frame::reader::read_frame(input) {
         Found::Frame(id, header, used) => {
             let end = used - 2;
             read_payload(id, header, used, &input[6..end])
@@ -221,26 +223,26 @@ fn read_payload(id: u8, header: Header, used: usize, payload: &[u8]) -> Read
 {
     let n = payload.len();
     if (id == 66) & (n == 6) {
-        let data_stream = message_66::read(payload);
+        let data_stream = data_stream_66::read(payload);
         return judge(true, header, used, Message::DataStream(data_stream));
     }
     if (id == 201) & (n == 19) {
-        let static_data = message_201::read(payload);
-        let fits = message_201::in_range(static_data);
+        let static_data = static_201::read(payload);
+        let fits = static_201::in_range(static_data);
         return judge(fits, header, used, Message::Static(static_data));
     }
     if (id == 202) & (n == 42) {
-        let dynamic = message_202::read(payload);
-        let fits = message_202::in_range(dynamic);
+        let dynamic = dynamic_202::read(payload);
+        let fits = dynamic_202::in_range(dynamic);
         return judge(fits, header, used, Message::Dynamic(dynamic));
     }
     if (id == 203) & (n == 1) {
-        let status = message_203::read(payload);
+        let status = status_203::read(payload);
         return judge(true, header, used, Message::Status(status));
     }
     if (id == 246) & (n == 38) {
-        let traffic = message_246::read(payload);
-        let fits = message_246::in_range(traffic);
+        let traffic = traffic_246::read(payload);
+        let fits = traffic_246::in_range(traffic);
         return judge(fits, header, used, Message::Traffic(traffic));
     }
     Read::Refused(22)

@@ -3,9 +3,9 @@ ghost use mathlib.Core.Path.{_≡_};
 ghost use mathlib.Core.List.{[], _∷_, _++_};
 ghost use Prim.Native.Nat.{_<_, _+_};
 ghost use lib.ListN.{length};
-ghost use Rattle.octet_fields.specs.Layout.{low, runOctets};
-ghost use Rattle.twos_complement.specs.Signed.{complement};
-ghost use Rattle.mavlink_messages.specs.Octets.{two, three, four};
+ghost use Rattle.field_layout.specs.Layout.{low, runOctets};
+ghost use Rattle.field_signed.specs.Signed.{complement};
+ghost use Rattle.mavlink_messages.specs.Steps.{two, three, four};
 
 pub struct Two(pub u8, pub u8);
 
@@ -47,13 +47,13 @@ pub fn little_32(number: u32) -> Four
 pub fn signed_16(number: i16) -> Two
     ensures { λ r. ⌜ two r ≡ runOctets (low 2) (complement 32768 number ∷ []) ⌝ }
 {
-    little_16(twos_complement::bits_16(number))
+    little_16(field_signed::bits_16(number))
 }
 
 pub fn signed_32(number: i32) -> Four
     ensures { λ r. ⌜ four r ≡ runOctets (low 4) (complement 2147483648 number ∷ []) ⌝ }
 {
-    little_32(twos_complement::bits_32(number))
+    little_32(field_signed::bits_32(number))
 }
 
 // Puts octets behind others, into an output that has just the room for both.
@@ -62,6 +62,6 @@ pub fn join(first: &[u8], last: &[u8], output: &mut [u8])
     ensures { λ r. ⌜ now (output .exit) ≡ now (first .entry) ++ now (last .entry) ⌝ }
 {
     let n = first.len();
-    octet_fields::store(first, output);
-    octet_fields::store(last, &mut output[n..]);
+    field_layout::store(first, output);
+    field_layout::store(last, &mut output[n..]);
 }

@@ -8,7 +8,7 @@ use lib.Dec.{leb}
 use lib.ListN.{length, length-append}
 use lib.Seq.{sets, length-sets, set-out}
 use borrow.Author.Tests.{leb-true, leb-false}
-use Rattle.octet_words.proofs.Sets.{sets-append}
+use Rattle.field_words.proofs.Sets.{sets-append}
 use Rattle.text_output.specs.Clips.{textRoom, Clips}
 
 -- octets past the end change nothing

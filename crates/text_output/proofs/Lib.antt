@@ -1,5 +1,5 @@
 pub mod Clipped
 pub mod Signs
-pub mod Spelled
+pub mod Printed
 pub mod Numerals
 pub mod Longest

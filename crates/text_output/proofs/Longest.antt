@@ -5,24 +5,24 @@ use Prim.Native.Nat.{ℕ, zero, suc, _+_, _*_, _/_, _%_, _^_, _≤_}
 use native.Mathlib.Omega.{arith}
 use lib.IntN.{ℤ, pos, negsuc, natAbs}
 use lib.ListN.{length, length-append}
-use Rattle.text_output.specs.declared.Spelling.the-variants.{Escaped}
+use Rattle.text_output.specs.declared.Printing.the-variants.{Escaped}
 use Rattle.text_output.specs.declared.Scale.{Scale}
 use Rattle.text_output.specs.declared.Scale.the-variants.{Ones, Hundredths, Thousandths, TenMillionths}
-use Rattle.text_output.specs.Text.{isPlain, escaped, spelled, minus, places, fraction, fixed}
+use Rattle.text_output.specs.Text.{isPlain, backslashed, printed, minus, places, fraction, fixed}
 use Rattle.text_output.proofs.Numerals.{numeral-most}
 
 pub either-most : (b : Bool) (xs ys : List ℕ) {k : ℕ} → length xs ≤ k → length ys ≤ k → length (cond b xs ys) ≤ k
 either-most true xs ys h g = h
 either-most false xs ys h g = g
 
-escaped-most : (x : ℕ) → length (escaped x) ≤ 4
-unfolding escaped
+escaped-most : (x : ℕ) → length (backslashed x) ≤ 4
+unfolding backslashed
 escaped-most x = either-most (isPlain x) _ _ (omega arith) (omega arith)
 
-pub spelled-most : (xs : List ℕ) → length (spelled Escaped xs) ≤ 4 * length xs
-unfolding spelled
-spelled-most [] = omega arith
-spelled-most (x ∷ xs) = simp length-append (omega (arith, escaped-most x, spelled-most xs))
+pub printed-most : (xs : List ℕ) → length (printed Escaped xs) ≤ 4 * length xs
+unfolding printed
+printed-most [] = omega arith
+printed-most (x ∷ xs) = simp length-append (omega (arith, escaped-most x, printed-most xs))
 
 minus-most : (z : ℤ) → length (minus z) ≤ 1
 minus-most (pos n) = omega arith

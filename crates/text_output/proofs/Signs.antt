@@ -8,7 +8,7 @@ use lib.IntN.{ℤ, pos, natAbs}
 use lib.Signed.{mag, ltZ}
 use mir.Syntax.{w64}
 use mir.Val.{SFits, toZ, ofZ}
-use Rattle.twos_complement.proofs.Negative.{below-zero, from-zero}
+use Rattle.field_signed.proofs.Negative.{below-zero, from-zero}
 use Rattle.text_output.specs.Text.{codes, minus}
 
 module _ (z : ℤ) (f : SFits w64 z) where

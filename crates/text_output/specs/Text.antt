@@ -6,8 +6,8 @@ use mathlib.Core.List.{List, [], _∷_, _++_}
 use Prim.Native.Nat.{ℕ, zero, suc, _+_, _-_, _/_, _%_, _^_}
 use lib.Dec.{eqb, leb, ltb}
 use lib.IntN.{ℤ, pos, negsuc, natAbs}
-use Rattle.text_output.specs.declared.Spelling.{Spelling}
-use Rattle.text_output.specs.declared.Spelling.the-variants.{Plain, Escaped, Hex}
+use Rattle.text_output.specs.declared.Printing.{Printing}
+use Rattle.text_output.specs.declared.Printing.the-variants.{Plain, Escaped, Hex}
 use Rattle.text_output.specs.declared.Base.{Base}
 use Rattle.text_output.specs.declared.Base.the-variants.{Decimal, Hexadecimal}
 use Rattle.text_output.specs.declared.Scale.{Scale}
@@ -32,17 +32,17 @@ unfoldable pub isPlain : ℕ → Bool
 isPlain x = leb 0x20 x && leb x 0x7E && not (eqb x 0x22) && not (eqb x 0x5C)
 
 -- as it is, or \xNN
-unfoldable pub escaped : ℕ → List ℕ
-escaped x = cond (isPlain x) (x ∷ []) (codes "\\x" ++ hexPair x)
+unfoldable pub backslashed : ℕ → List ℕ
+backslashed x = cond (isPlain x) (x ∷ []) (codes "\\x" ++ hexPair x)
 
-abbrev pub spelledOctet : Spelling → ℕ → List ℕ
-spelledOctet Plain x = x ∷ []
-spelledOctet Escaped x = escaped x
-spelledOctet Hex x = codes " " ++ hexPair x
+abbrev pub printedOctet : Printing → ℕ → List ℕ
+printedOctet Plain x = x ∷ []
+printedOctet Escaped x = backslashed x
+printedOctet Hex x = codes " " ++ hexPair x
 
-unfoldable pub spelled : Spelling → List ℕ → List ℕ
-spelled s [] = []
-spelled s (x ∷ xs) = spelledOctet s x ++ spelled s xs
+unfoldable pub printed : Printing → List ℕ → List ℕ
+printed s [] = []
+printed s (x ∷ xs) = printedOctet s x ++ printed s xs
 
 -- ---- numbers
 

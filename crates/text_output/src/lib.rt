@@ -6,10 +6,10 @@ ghost use Prim.Native.Nat.{_<_, _≤_, _^_};
 ghost use lib.ListN.{length, drop};
 ghost use lib.IntN.{natAbs};
 ghost use Rattle.text_output.specs.Clips.{textRoom, Clips};
-ghost use Rattle.text_output.specs.Text.{hexDigit, hexPair, isPlain, escaped, spelledOctet, spelled, numeral, natural, radix, padded, minus, places, fraction, fixed};
+ghost use Rattle.text_output.specs.Text.{hexDigit, hexPair, isPlain, backslashed, printedOctet, printed, numeral, natural, radix, padded, minus, places, fraction, fixed};
 
 // How octets are written: as they are; in a text, escaped where they have to be; in hexadecimal, a space before each.
-pub enum Spelling {
+pub enum Printing {
     Plain,
     Escaped,
     Hex,
@@ -90,7 +90,7 @@ fn is_plain(x: u8) -> bool
 }
 
 fn put_escaped(text: &mut [u8; 1536], at: usize, octet: u8) -> usize
-    ensures { λ r. ⌜ Clips (now (text .entry)) at (escaped octet) r (now (text .exit)) ⌝ }
+    ensures { λ r. ⌜ Clips (now (text .entry)) at (backslashed octet) r (now (text .exit)) ⌝ }
 {
     if is_plain(octet) {
         return put_octet(text, at, octet);
@@ -101,36 +101,36 @@ fn put_escaped(text: &mut [u8; 1536], at: usize, octet: u8) -> usize
 }
 
 fn put_hex(text: &mut [u8; 1536], at: usize, octet: u8) -> usize
-    ensures { λ r. ⌜ Clips (now (text .entry)) at (spelledOctet Spelling.Hex octet) r (now (text .exit)) ⌝ }
+    ensures { λ r. ⌜ Clips (now (text .entry)) at (printedOctet Printing.Hex octet) r (now (text .exit)) ⌝ }
 {
     let at = put_octet(text, at, b' ');
     put_pair(text, at, octet)
 }
 
-fn put_spelled_octet(text: &mut [u8; 1536], at: usize, spelling: Spelling, octet: u8) -> usize
-    ensures { λ r. ⌜ Clips (now (text .entry)) at (spelledOctet spelling octet) r (now (text .exit)) ⌝ }
+fn put_printed_octet(text: &mut [u8; 1536], at: usize, printing: Printing, octet: u8) -> usize
+    ensures { λ r. ⌜ Clips (now (text .entry)) at (printedOctet printing octet) r (now (text .exit)) ⌝ }
 {
-    match spelling {
-        Spelling::Plain => put_octet(text, at, octet),
-        Spelling::Escaped => put_escaped(text, at, octet),
-        Spelling::Hex => put_hex(text, at, octet),
+    match printing {
+        Printing::Plain => put_octet(text, at, octet),
+        Printing::Escaped => put_escaped(text, at, octet),
+        Printing::Hex => put_hex(text, at, octet),
     }
 }
 
 // The octets of a slice from a place on.
-pub fn put_spelled(
+pub fn put_printed(
     text: &mut [u8; 1536],
     at: usize,
-    spelling: Spelling,
+    printing: Printing,
     octets: &[u8],
     from: usize,
 ) -> usize
-    ensures { λ r. ⌜ Clips (now (text .entry)) at (spelled spelling (drop from (now (octets .entry)))) r (now (text .exit)) ⌝ }
+    ensures { λ r. ⌜ Clips (now (text .entry)) at (printed printing (drop from (now (octets .entry)))) r (now (text .exit)) ⌝ }
 {
     let mut at = put_nothing(text, at);
     let mut i = from;
     while i < octets.len() {
-        at = put_spelled_octet(text, at, spelling, octets[i]);
+        at = put_printed_octet(text, at, printing, octets[i]);
         i += 1;
     }
     at
@@ -139,7 +139,7 @@ pub fn put_spelled(
 pub fn put_word(text: &mut [u8; 1536], at: usize, word: &[u8]) -> usize
     ensures { λ r. ⌜ Clips (now (text .entry)) at (now (word .entry)) r (now (text .exit)) ⌝ }
 {
-    put_spelled(text, at, Spelling::Plain, word, 0)
+    put_printed(text, at, Printing::Plain, word, 0)
 }
 
 // ---- numbers

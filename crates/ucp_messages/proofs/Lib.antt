@@ -1,2 +1,2 @@
-pub mod Judged
-pub mod Retold
+pub mod BodyKind
+pub mod Readers

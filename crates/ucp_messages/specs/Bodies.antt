@@ -2,8 +2,8 @@
 use mathlib.Core.Bool.{Bool}
 use mathlib.Core.List.{List}
 use Prim.Native.Nat.{ℕ}
-use Rattle.message_formats.specs.Formats.{fits, bodyOf}
-use Rattle.gdl90_messages.specs.Uplink.{uplinkFits, uplinkBody}
+use Rattle.field_format.specs.Formats.{fits, bodyOf}
+use Rattle.ucp_kinds.specs.Uplink7.{uplinkFits, uplinkBody}
 use Rattle.ucp_messages.specs.declared.Message.{Message}
 use Rattle.ucp_messages.specs.Formats.{Carried, value, payload, carriedBy}
 

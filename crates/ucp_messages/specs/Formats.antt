@@ -1,11 +1,11 @@
 -- The formats of the kinds, and of a message's fields. An uplink has none: its payload is carried beside the message. Assumes nothing.
-use Rattle.message_formats.specs.Formats.{Format}
-use Rattle.gdl90_messages.specs.Heartbeat.{heartbeatFormat}
-use Rattle.gdl90_messages.specs.Report.{reportFormat}
-use Rattle.gdl90_messages.specs.GeometricAltitude.{geometricFormat}
-use Rattle.control_messages.specs.Request.{requestFormat}
-use Rattle.control_messages.specs.Control.{controlFormat}
-use Rattle.control_messages.specs.Initialization.{initializationFormat}
+use Rattle.field_format.specs.Formats.{Format}
+use Rattle.ucp_kinds.specs.Heartbeat0.{heartbeatFormat}
+use Rattle.ucp_kinds.specs.Report10.{reportFormat}
+use Rattle.ucp_kinds.specs.GeometricAltitude11.{geometricFormat}
+use Rattle.ucp_kinds.specs.Request44.{requestFormat}
+use Rattle.ucp_kinds.specs.Control45.{controlFormat}
+use Rattle.ucp_kinds.specs.Initialization117.{initializationFormat}
 use Rattle.ucp_messages.specs.declared.Kind.{Kind}
 use Rattle.ucp_messages.specs.declared.Kind.the-variants as kind
 use Rattle.ucp_messages.specs.declared.Message.{Message}

@@ -3,9 +3,9 @@
 use mathlib.Core.Path.{_≡_}
 use mathlib.Core.List.{List}
 use Prim.Native.Nat.{ℕ}
-use Rattle.message_answers.specs.Refusals
-use Rattle.message_formats.specs.Formats.{refusalOf, reads}
-use Rattle.gdl90_messages.specs.Uplink.{uplinkRefusal}
+use Rattle.ucp_answers.specs.Refusals
+use Rattle.field_format.specs.Formats.{refusalOf, reads}
+use Rattle.ucp_kinds.specs.Uplink7.{uplinkRefusal}
 use Rattle.ucp_messages.specs.declared.Kind.{Kind}
 use Rattle.ucp_messages.specs.declared.Message.{Message}
 use Rattle.ucp_messages.specs.declared.Message.the-variants.{Uplink}
@@ -15,39 +15,39 @@ use Rattle.ucp_messages.specs.Kinds.{kindIn}
 use Rattle.ucp_messages.specs.Formats.{Reading, format, uplink, unknown, readingOf}
 
 -- an answer in the paper's terms: a refusal's number, or the message that the body is
-pub data Answer : Type 0 where
-  refused : ℕ → Answer
-  means : Message → Answer
+pub data ReaderAnswer : Type 0 where
+  refused : ℕ → ReaderAnswer
+  means : Message → ReaderAnswer
 
 -- the paper's number and values of each case
-abbrev pub answerOf : Read → Answer
-answerOf (Refused number) = refused number
-answerOf (Means message) = means message
+abbrev pub readerAnswer : Read → ReaderAnswer
+readerAnswer (Refused number) = refused number
+readerAnswer (Means message) = means message
 
 -- the refusal, or the message where there is none
-abbrev pub given : ℕ → Message → Answer
-given refusal message = Refusals.given refused refusal (means message)
+abbrev pub meansUnlessRefused : ℕ → Message → ReaderAnswer
+meansUnlessRefused refusal message = Refusals.unlessRefused refused refusal (means message)
 
-abbrev pub refusalBy : Reading → List ℕ → ℕ
-refusalBy (format f message) body = refusalOf f body
-refusalBy uplink body = uplinkRefusal body
-refusalBy unknown body = 10
+abbrev pub refusalByReading : Reading → List ℕ → ℕ
+refusalByReading (format f message) body = refusalOf f body
+refusalByReading uplink body = uplinkRefusal body
+refusalByReading unknown body = 10
 
-abbrev pub answerBy : Reading → List ℕ → Answer
+abbrev pub answerBy : Reading → List ℕ → ReaderAnswer
 answerBy (format f message) body = reads f refused (λ a. means (message a)) body
-answerBy uplink body = given (uplinkRefusal body) Uplink
+answerBy uplink body = meansUnlessRefused (uplinkRefusal body) Uplink
 answerBy unknown body = refused 10
 
 -- the refusal of a body as a message of a kind, and the answer to it
 unfoldable pub refusalIn : Kind → List ℕ → ℕ
-refusalIn k = refusalBy (readingOf k)
+refusalIn k = refusalByReading (readingOf k)
 
-unfoldable pub answerAs : Kind → List ℕ → Answer
+unfoldable pub answerAs : Kind → List ℕ → ReaderAnswer
 answerAs k = answerBy (readingOf k)
 
 -- one call, whole
-abbrev pub answerDue : List ℕ → Answer
-answerDue body = answerAs (kindIn body) body
+abbrev pub messageDue : List ℕ → ReaderAnswer
+messageDue body = answerAs (kindIn body) body
 
 abbrev pub Reads : List ℕ → Read → Type 0
-Reads body answer = answerOf answer ≡ answerDue body
+Reads body answer = readerAnswer answer ≡ messageDue body

@@ -2,47 +2,47 @@
 use super::Kind;
 use super::Message;
 use super::Read;
-use control_messages::ControlRead;
-use control_messages::InitializationRead;
-use control_messages::RequestRead;
-use gdl90_messages::GeometricAltitudeRead;
-use gdl90_messages::HeartbeatRead;
-use gdl90_messages::ReportRead;
-use gdl90_messages::UplinkRead;
+use ucp_kinds::ControlRead;
+use ucp_kinds::GeometricAltitudeRead;
+use ucp_kinds::HeartbeatRead;
+use ucp_kinds::InitializationRead;
+use ucp_kinds::ReportRead;
+use ucp_kinds::RequestRead;
+use ucp_kinds::UplinkRead;
 ghost use mathlib.Core.Path.{_≡_};
-ghost use Rattle.ucp_messages.specs.Reads.{answerOf, answerAs};
+ghost use Rattle.ucp_messages.specs.Reads.{readerAnswer, answerAs};
 
 pub fn heartbeat(body: &[u8]) -> Read
-    ensures { λ r. ⌜ answerOf r ≡ answerAs Kind.Heartbeat (now (body .entry)) ⌝ }
+    ensures { λ r. ⌜ readerAnswer r ≡ answerAs Kind.Heartbeat (now (body .entry)) ⌝ }
 {
-    match gdl90_messages::message_0::read(body) {
+    match ucp_kinds::heartbeat_0::read(body) {
         HeartbeatRead::Heartbeat(heartbeat) => Read::Message(Message::Heartbeat(heartbeat)),
         HeartbeatRead::Refused(number) => Read::Refused(number),
     }
 }
 
 pub fn uplink(body: &[u8]) -> Read
-    ensures { λ r. ⌜ answerOf r ≡ answerAs Kind.Uplink (now (body .entry)) ⌝ }
+    ensures { λ r. ⌜ readerAnswer r ≡ answerAs Kind.Uplink (now (body .entry)) ⌝ }
 {
-    match gdl90_messages::message_7::read(body) {
+    match ucp_kinds::uplink_7::read(body) {
         UplinkRead::Uplink => Read::Message(Message::Uplink),
         UplinkRead::Refused(number) => Read::Refused(number),
     }
 }
 
 pub fn ownship(body: &[u8]) -> Read
-    ensures { λ r. ⌜ answerOf r ≡ answerAs Kind.Ownship (now (body .entry)) ⌝ }
+    ensures { λ r. ⌜ readerAnswer r ≡ answerAs Kind.Ownship (now (body .entry)) ⌝ }
 {
-    match gdl90_messages::message_10::read(body) {
+    match ucp_kinds::report_10::read(body) {
         ReportRead::Report(report) => Read::Message(Message::Ownship(report)),
         ReportRead::Refused(number) => Read::Refused(number),
     }
 }
 
 pub fn geometric_altitude(body: &[u8]) -> Read
-    ensures { λ r. ⌜ answerOf r ≡ answerAs Kind.GeometricAltitude (now (body .entry)) ⌝ }
+    ensures { λ r. ⌜ readerAnswer r ≡ answerAs Kind.GeometricAltitude (now (body .entry)) ⌝ }
 {
-    match gdl90_messages::message_11::read(body) {
+    match ucp_kinds::geometric_altitude_11::read(body) {
         GeometricAltitudeRead::GeometricAltitude(altitude) =>
             Read::Message(Message::GeometricAltitude(altitude)),
         GeometricAltitudeRead::Refused(number) => Read::Refused(number),
@@ -50,36 +50,36 @@ pub fn geometric_altitude(body: &[u8]) -> Read
 }
 
 pub fn traffic(body: &[u8]) -> Read
-    ensures { λ r. ⌜ answerOf r ≡ answerAs Kind.Traffic (now (body .entry)) ⌝ }
+    ensures { λ r. ⌜ readerAnswer r ≡ answerAs Kind.Traffic (now (body .entry)) ⌝ }
 {
-    match gdl90_messages::message_10::read(body) {
+    match ucp_kinds::report_10::read(body) {
         ReportRead::Report(report) => Read::Message(Message::Traffic(report)),
         ReportRead::Refused(number) => Read::Refused(number),
     }
 }
 
 pub fn request(body: &[u8]) -> Read
-    ensures { λ r. ⌜ answerOf r ≡ answerAs Kind.Request (now (body .entry)) ⌝ }
+    ensures { λ r. ⌜ readerAnswer r ≡ answerAs Kind.Request (now (body .entry)) ⌝ }
 {
-    match control_messages::message_44::read(body) {
+    match ucp_kinds::request_44::read(body) {
         RequestRead::Request(request) => Read::Message(Message::Request(request)),
         RequestRead::Refused(number) => Read::Refused(number),
     }
 }
 
 pub fn control(body: &[u8]) -> Read
-    ensures { λ r. ⌜ answerOf r ≡ answerAs Kind.Control (now (body .entry)) ⌝ }
+    ensures { λ r. ⌜ readerAnswer r ≡ answerAs Kind.Control (now (body .entry)) ⌝ }
 {
-    match control_messages::message_45::read(body) {
+    match ucp_kinds::control_45::read(body) {
         ControlRead::Control(control) => Read::Message(Message::Control(control)),
         ControlRead::Refused(number) => Read::Refused(number),
     }
 }
 
 pub fn initialization(body: &[u8]) -> Read
-    ensures { λ r. ⌜ answerOf r ≡ answerAs Kind.Initialization (now (body .entry)) ⌝ }
+    ensures { λ r. ⌜ readerAnswer r ≡ answerAs Kind.Initialization (now (body .entry)) ⌝ }
 {
-    match control_messages::message_117::read(body) {
+    match ucp_kinds::initialization_117::read(body) {
         InitializationRead::Initialization(initialization) => Read::Message(Message::Initialization(
             initialization,
         )),

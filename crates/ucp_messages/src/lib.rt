@@ -1,23 +1,23 @@
 // The messages of the UCP line: what a body means, and the body of a message. The kinds' own fields are read and written by
-// gdl90_messages and control_messages.
+// ucp_kinds and ucp_kinds.
 mod kinds;
 
-use control_messages::Control;
-use control_messages::Initialization;
-use control_messages::Request;
-use control_messages::message_44;
-use control_messages::message_45;
-use control_messages::message_117;
-use gdl90_messages::GeometricAltitude;
-use gdl90_messages::Heartbeat;
-use gdl90_messages::Report;
-use gdl90_messages::message_0;
-use gdl90_messages::message_7;
-use gdl90_messages::message_10;
-use gdl90_messages::message_11;
-use writer_answers::Written;
+use output_writing::Written;
+use ucp_kinds::Control;
+use ucp_kinds::GeometricAltitude;
+use ucp_kinds::Heartbeat;
+use ucp_kinds::Initialization;
+use ucp_kinds::Report;
+use ucp_kinds::Request;
+use ucp_kinds::control_45;
+use ucp_kinds::geometric_altitude_11;
+use ucp_kinds::heartbeat_0;
+use ucp_kinds::initialization_117;
+use ucp_kinds::report_10;
+use ucp_kinds::request_44;
+use ucp_kinds::uplink_7;
 ghost use mathlib.Core.Path.{_≡_};
-ghost use Rattle.message_answers.specs.Writes.{Writes};
+ghost use Rattle.ucp_answers.specs.Writes.{WritesBody};
 ghost use Rattle.ucp_messages.specs.Kinds.{kindOf};
 ghost use Rattle.ucp_messages.specs.Reads.{Reads};
 ghost use Rattle.ucp_messages.specs.Bodies.{messageFits, messageBody};
@@ -96,16 +96,19 @@ pub fn read_message(body: &[u8]) -> Read
 // Writes a message's body at the start of output. Only an uplink takes the payload. Refusals: 13, a field outside its range or
 // too wide for its bits; 8, an output shorter than the body. On a refusal nothing is written.
 pub fn write_message(message: Message, payload: &[u8], output: &mut [u8]) -> Written
-    ensures { λ r. ⌜ Writes (messageFits message (now (payload .entry))) (messageBody message (now (payload .entry))) (now (output .entry)) r (now (output .exit)) ⌝ }
+    ensures { λ r. ⌜ WritesBody (messageFits message (now (payload .entry))) (messageBody message (now (payload .entry))) (now (output .entry)) r (now (output .exit)) ⌝ }
 {
     match message {
-        Message::Heartbeat(heartbeat) => message_0::write(heartbeat, output),
-        Message::Uplink => message_7::write(payload, output),
-        Message::Ownship(report) => message_10::write_ownship(report, output),
-        Message::GeometricAltitude(geometric) => message_11::write(geometric, output),
-        Message::Traffic(report) => message_10::write_traffic(report, output),
-        Message::Request(request) => message_44::write(request, output),
-        Message::Control(control) => message_45::write(control, output),
-        Message::Initialization(initialization) => message_117::write(initialization, output),
+        Message::Heartbeat(heartbeat) => heartbeat_0::write(heartbeat, output),
+        Message::Uplink => uplink_7::write(payload, output),
+        Message::Ownship(report) => report_10::write_ownship(report, output),
+        Message::GeometricAltitude(geometric) => geometric_altitude_11::write(geometric, output),
+        Message::Traffic(report) => report_10::write_traffic(report, output),
+        Message::Request(request) => request_44::write(request, output),
+        Message::Control(control) => control_45::write(control, output),
+        Message::Initialization(initialization) => initialization_117::write(
+            initialization,
+            output,
+        ),
     }
 }

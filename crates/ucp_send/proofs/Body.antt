@@ -10,12 +10,12 @@ use lib.ListN.{length, take, drop, length-append}
 use lib.Seq.{take-at}
 use Rattle.ucp_messages.specs.declared.Message.{Message}
 use Rattle.ucp_messages.specs.declared.Message.the-variants.{Heartbeat, Uplink, Ownship, GeometricAltitude, Traffic, Request, Control, Initialization}
-use Rattle.writer_answers.specs.declared.Written.the-variants.{Wrote, Refused}
-use Rattle.message_formats.specs.Formats.{bodyOf}
-use Rattle.gdl90_messages.specs.Uplink.{uplinkFits}
+use Rattle.output_writing.specs.declared.Written.the-variants.{Wrote, Refused}
+use Rattle.field_format.specs.Formats.{bodyOf}
+use Rattle.ucp_kinds.specs.Uplink7.{uplinkFits}
 use Rattle.ucp_messages.specs.Bodies.{messageFits, messageBody}
-use Rattle.writer_answers.specs.Answers.{refused, wrote}
-use Rattle.message_answers.specs.Writes.{answerDue, Writes}
+use Rattle.output_writing.specs.Answers.{refused, wrote}
+use Rattle.ucp_answers.specs.Writes.{bodyDue, WritesBody}
 
 -- no kind makes a body of more than 436 octets
 pub body-length : (m : Message) (payload : List ℕ) → messageFits m payload ≡ true → length (messageBody m payload) ≤ 436
@@ -35,9 +35,9 @@ pub record Written (fits : Bool) (body : List ℕ) (octets : ℕ) (after : List 
   pub room : octets ≤ length after
   pub whole : take octets after ≡ body
 
-answer-wrote : (fits : Bool) (body room : List ℕ) (n : ℕ) → wrote n ≡ answerDue fits body room
+answer-wrote : (fits : Bool) (body room : List ℕ) (n : ℕ) → wrote n ≡ bodyDue fits body room
     → (fits ≡ true) × (n ≡ length body) × (length body ≤ length room)
-unfolding answerDue
+unfolding bodyDue
 answer-wrote fits body room n = go fits (ltb (length room) (length body)) refl
   where
     go : (f t : Bool) → ltb (length room) (length body) ≡ t → wrote n ≡ cond f (cond t (refused 8) (wrote (length body))) (refused 13)
@@ -46,7 +46,7 @@ answer-wrote fits body room n = go fits (ltb (length room) (length body)) refl
     go true false e h = (refl, cc, ltb-false _ _ e)
     go false t e h = let z : _≡_ {A = ℕ} 0 1 = cc in absurd (omega arith)
 
-pub body-written : {fits : Bool} {body room after : List ℕ} {n : ℕ} → Writes fits body room (Wrote n) after → Written fits body n after
+pub body-written : {fits : Bool} {body room after : List ℕ} {n : ℕ} → WritesBody fits body room (Wrote n) after → Written fits body n after
 body-written {fits} {body} {room} {after} {n} w =
     let a = answer-wrote fits body room n (w .answers) in
     let l = ap length (w .leaves) ∙ length-append body (drop n room) in
@@ -57,12 +57,12 @@ body-written {fits} {body} {room} {after} {n} w =
     }
 
 -- a refusal is 13, where there is room for the body
-pub body-refused : {fits : Bool} {body room after : List ℕ} {number : ℕ} → Writes fits body room (Refused number) after
+pub body-refused : {fits : Bool} {body room after : List ℕ} {number : ℕ} → WritesBody fits body room (Refused number) after
     → (fits ≡ true → length body ≤ length room) → (fits ≡ false) × (number ≡ 13)
-unfolding answerDue
+unfolding bodyDue
 body-refused {fits} {body} {room} {after} {number} w enough = go fits enough (w .answers)
   where
-    go : (f : Bool) → (f ≡ true → length body ≤ length room) → refused number ≡ answerDue f body room → (f ≡ false) × (number ≡ 13)
+    go : (f : Bool) → (f ≡ true → length body ≤ length room) → refused number ≡ bodyDue f body room → (f ≡ false) × (number ≡ 13)
     go true enough h =
         let e = le-ltb (length room) (length body) (enough refl) in
         let h′ : refused number ≡ wrote (length body) = h ∙ rw e in

@@ -3,18 +3,18 @@
 use mathlib.Core.Bool.{cond}
 use mathlib.Core.List.{List}
 use Prim.Native.Nat.{ℕ}
-use Rattle.frame_format.specs.Frame.{frame}
-use Rattle.frame_room.specs.Answers.{answerDue as frameDue}
+use Rattle.ucp_frame.specs.Frame.{frame}
+use Rattle.ucp_writer.specs.Room.{frameDue}
 use Rattle.ucp_messages.specs.declared.Message.{Message}
 use Rattle.ucp_messages.specs.Bodies.{messageFits, messageBody}
-use Rattle.writer_answers.specs.declared.Written.{Written}
-use Rattle.writer_answers.specs.Answers.{Answer, refused, Writing}
+use Rattle.output_writing.specs.declared.Written.{Written}
+use Rattle.output_writing.specs.Answers.{WriterAnswer, refused, Writing}
 
 -- the answer that is due: 13 for a field outside its range, then what the frame writer answers to the message's body
-unfoldable pub answerDue : Message → List ℕ → List ℕ → Answer
-answerDue message payload buffer =
+unfoldable pub sendDue : Message → List ℕ → List ℕ → WriterAnswer
+sendDue message payload buffer =
     cond (messageFits message payload) (frameDue (messageBody message payload) buffer) (refused 13)
 
 -- one call, whole: the message, the payload and the buffer as at entry, the answer, and the buffer as at return
 abbrev pub Sends : Message → List ℕ → List ℕ → Written → List ℕ → Type 0
-Sends message payload buffer = Writing (answerDue message payload buffer) (frame (messageBody message payload)) buffer
+Sends message payload buffer = Writing (sendDue message payload buffer) (frame (messageBody message payload)) buffer

@@ -1,6 +1,6 @@
 // A typed message to the line in one call: its body, and the body's frame.
+use output_writing::Written;
 use ucp_messages::Message;
-use writer_answers::Written;
 ghost use Rattle.ucp_send.specs.Sends.{Sends};
 
 // Writes the frame of a message at the start of buffer. On a refusal nothing is written. Only an uplink takes the payload.
@@ -10,7 +10,7 @@ pub fn send_message(message: Message, payload: &[u8], buffer: &mut [u8; 878]) ->
     let mut body = [0u8; 436];
     let written = ucp_messages::write_message(message, payload, &mut body);
     match written {
-        Written::Wrote(octets) => frame_writer::write_frame(&body[..octets], buffer),
+        Written::Wrote(octets) => ucp_writer::write_frame(&body[..octets], buffer),
         Written::Refused(number) => Written::Refused(number),
     }
 }

@@ -6,12 +6,12 @@ use native.Mathlib.Omega.{arith}
 use denote.Ref.{now}
 use lib.ListN.{length, take, drop, length-drop}
 use lib.Seq.{take-all}
-use Rattle.receiver.specs.Step.{stateOf}
-use Rattle.listing.specs.Lists.{behindAll}
-use Rattle.listing.proofs.Runs.{takes-within}
-use Rattle.explanation.specs.Calls.{Explains}
-use Rattle.explanation.proofs.Onward.{takes-onward}
-use Rattle.line_streams.proofs.Blocks.{Reached, reached-first, reached-more, reached-last}
+use Rattle.ucp_receiver.specs.Octet.{stateOf}
+use Rattle.text_ucp_listing.specs.Lists.{behindAll}
+use Rattle.text_ucp_listing.proofs.Runs.{takes-within}
+use Rattle.text_ucp_explanation.specs.Calls.{ExplainsAnswer}
+use Rattle.text_ucp_explanation.proofs.Continuation.{takes-onward}
+use Rattle.io_ucp.proofs.Blocks.{Reached, reached-first, reached-more, reached-last}
 use borrow.Author.Needs.{needs}
 use Rattle.line_explainer.proofs.explain_block.Statement.{statement}
 use Rattle.line_explainer.proofs.explain_block.Tie as tie
@@ -26,7 +26,7 @@ abbrev μ-loop : tie.MeasureT-loop
 -- what a turn explains, of the part of the block that is left
 explained : (c : tie.After-explain-next Inv-loop μ-loop)
     → let l = c .before .before .before .before .before .before .loop in
-    Explains (l .rest) (l .counts) (l .store) (l .room) (drop (l .taken) (now (c .before .before .before .before .before .before .before .before .args .block))) (l .text)
+    ExplainsAnswer (l .rest) (l .counts) (l .store) (l .room) (drop (l .taken) (now (c .before .before .before .before .before .before .before .before .args .block))) (l .text)
     (c .explain-next .result) (c .explain-next .last .1 .1 .0) (c .explain-next .last .1 .1 .1 .0) (c .explain-next .last .1 .1 .1 .1 .1 .0)
 explained c =
     let l = c .before .before .before .before .before .before .loop in

@@ -6,11 +6,11 @@ use native.Mathlib.Omega.{arith}
 use denote.Ref.{now}
 use lib.ListN.{length, take, drop, length-drop}
 use lib.Seq.{take-all, length-take-le}
-use Rattle.receiver.specs.Step.{stateOf}
-use Rattle.listing.specs.Lists.{Lists, behindAll}
-use Rattle.listing.proofs.Whole.{same-long}
-use Rattle.listing.proofs.Slices.{lists-within, lists-moves, lists-onward}
-use Rattle.line_streams.proofs.Blocks.{Reached, reached-first, reached-more, reached-last}
+use Rattle.ucp_receiver.specs.Octet.{stateOf}
+use Rattle.text_ucp_listing.specs.Lists.{Lists, behindAll}
+use Rattle.text_ucp_listing.proofs.Whole.{same-long}
+use Rattle.text_ucp_listing.proofs.Slices.{lists-within, lists-moves, lists-onward}
+use Rattle.io_ucp.proofs.Blocks.{Reached, reached-first, reached-more, reached-last}
 use borrow.Author.Needs.{needs}
 use Rattle.line_lister.proofs.list_block.Statement.{statement}
 use Rattle.line_lister.proofs.list_block.Tie as tie

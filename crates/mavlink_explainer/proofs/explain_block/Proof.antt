@@ -1,6 +1,6 @@
 -- `mavlink_explainer::explain_block` meets its contract. The loop's invariant: walking what is left walks the whole block. Assumes nothing.
 use Rattle.mavlink_explainer.proofs.Turns.{turn-within, turn-uses, Onward, from-start, next-frame, at-refused, at-end}
-use Rattle.mavlink_explanation.specs.Calls.{Explains}
+use Rattle.text_mavlink_explanation.specs.Calls.{ExplainsFrame}
 use lib.Seq.{take-all}
 use lib.ListN.{length, take, drop, length-drop}
 use denote.Ref.{now}
@@ -21,7 +21,7 @@ abbrev μ-loop : tie.MeasureT-loop
 explained : (c : tie.After-explain-frame Inv-loop μ-loop)
     → let l = c .before .before .before .before .loop in
     let block = now (c .before .before .before .before .before .before .before .args .block) in
-    Explains (drop (length block - l .left) block) (l .text) (c .explain-frame .result) (c .explain-frame .last .1 .0)
+    ExplainsFrame (drop (length block - l .left) block) (l .text) (c .explain-frame .result) (c .explain-frame .last .1 .0)
 explained c =
     let l = c .before .before .before .before .loop in
     let block = now (c .before .before .before .before .before .before .before .args .block) in
@@ -43,7 +43,7 @@ returns c =
     let block = now (a .block) in
     let least = c .before .before .before .before .before .before .before .before .before .before .least-octets in
     let within : l .left ≤ length block = omega (arith, l .inv .0) in
-    rw (c .told .ensures) (record { leaves = record { carries = tt; within = within }; explored = tt })
+    rw (c .progress .ensures) (record { leaves = record { carries = tt; within = within }; explored = tt })
 
 returns-2 : tie.Need-returns-2 Inv-loop μ-loop
 returns-2 c =
@@ -52,7 +52,7 @@ returns-2 c =
     let block = now (a .block) in
     let least = c .before .before .before .before .before .before .before .before .before .before .before .least-octets in
     let within : l .left ≤ length block = omega (arith, l .inv .0) in
-    rw (c .told2 .ensures)
+    rw (c .progress2 .ensures)
     (at-refused (least .result) block (l .count) (l .left) within (l .inv .1) (a .last) (least .ensures) (a .frames) (a .bytes) (c .before .before .before .before .before .before .before .before .before .loop-test .taken) (sym (explained (c .before .before .before .before .before .before) .refuses) ∙ c .before .if2 .taken))
 
 add-count : tie.Need-add-count Inv-loop μ-loop
@@ -85,7 +85,7 @@ returns-3 c =
     let block = now (a .block) in
     let least = c .before .before .before .before .least-octets in
     let within : l .left ≤ length block = omega (arith, l .inv .0) in
-    rw (c .told3 .ensures, c .before .goes-on .ensures)
+    rw (c .progress3 .ensures, c .before .goes-on .ensures)
     (at-end (least .result) block (l .count) (l .left) within (l .inv .1) (a .last) (least .ensures) (a .frames) (a .bytes) (omega (arith, c .before .before .loop-test .left)))
 
 pub explain-block-spec : {M : Type 1} → statement M

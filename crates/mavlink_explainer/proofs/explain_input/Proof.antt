@@ -5,7 +5,7 @@ use native.Mathlib.Omega.{arith}
 use denote.Ref.{now}
 use lib.ListN.{length, length-take}
 use lib.Seq.{length-take-le}
-use Rattle.standard_streams.proofs.Turns.{Onward, reads-onward, turns-onward}
+use Rattle.io_streams.proofs.Turns.{Onward, reads-onward, turns-onward}
 use borrow.Author.Needs.{needs}
 use Rattle.mavlink_explainer.proofs.explain_input.Statement.{statement}
 use Rattle.mavlink_explainer.proofs.explain_input.Tie as tie

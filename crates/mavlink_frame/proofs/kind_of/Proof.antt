@@ -3,19 +3,19 @@ use mathlib.Core.Path.{_≡_, refl, sym, ap, _∙_}
 use Prim.Native.Nat.{_-_, _≤_}
 use borrow.Author.Needs.{needs}
 use lib.ListN.{drop, drop-of-length-le}
-use Rattle.mavlink_frame.specs.Kinds.{kinds, kindIn, kindOf}
+use Rattle.mavlink_frame.specs.Kinds.{kinds, kindAmong, mavlinkKind}
 use Rattle.mavlink_frame.proofs.Search.{here, past}
 use Rattle.mavlink_frame.proofs.kind_of.Statement.{statement}
 use Rattle.mavlink_frame.proofs.kind_of.Tie as tie
 
 abbrev Inv-loop : tie.InvT-loop
-Inv-loop id kinds₀ i₀ i = (i ≤ 5) × (kindIn (drop i kinds) id ≡ kindOf id)
+Inv-loop id kinds₀ i₀ i = (i ≤ 5) × (kindAmong (drop i kinds) id ≡ mavlinkKind id)
 
 abbrev μ-loop : tie.MeasureT-loop
 μ-loop id kinds₀ i₀ i = 5 - i
 
 loop-holds : tie.Need-loop-holds Inv-loop μ-loop
-unfolding kindOf
+unfolding mavlinkKind
 loop-holds c = (search needs, refl)
 
 returns : tie.Need-returns Inv-loop μ-loop
@@ -31,7 +31,7 @@ loop-again c =
 returns-2 : tie.Need-returns-2 Inv-loop μ-loop
 returns-2 c =
     let l = c .before .loop in
-    ap (λ ks. kindIn ks (c .before .before .args .id)) (sym (drop-of-length-le kinds (c .loop-test .left))) ∙ l .inv .1
+    ap (λ ks. kindAmong ks (c .before .before .args .id)) (sym (drop-of-length-le kinds (c .loop-test .left))) ∙ l .inv .1
 
 pub kind-of-spec : {M : Type 1} → statement M
 kind-of-spec =

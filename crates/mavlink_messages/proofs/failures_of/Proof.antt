@@ -5,7 +5,7 @@ use Prim.Native.Nat.{ℕ}
 use native.Mathlib.Omega.{arith}
 use borrow.Author.Needs.{needs}
 use lib.ListN.{length, getD}
-use Rattle.status_failures.specs.Failures.{failureBits}
+use Rattle.mavlink_messages.specs.FailureBits.{failureBits}
 use Rattle.mavlink_messages.specs.declared.Failures.{Failures}
 use Rattle.mavlink_messages.specs.declared.Lowest.the-variants.{Bit}
 use Rattle.mavlink_messages.specs.Failures.{lowestOf, failuresIn, noFailures}

@@ -4,7 +4,7 @@ use Prim.Native.Nat.{ℕ}
 use denote.Ref.{now}
 use lib.ListN.{length}
 use Rattle.mavlink_messages.specs.declared.Message.the-variants.{DataStream, Static, Dynamic, Status, Traffic}
-use Rattle.mavlink_messages.specs.Messages.{judgedBy, judged, payloadRead}
+use Rattle.mavlink_messages.specs.Messages.{judgedBy, messageJudged, payloadRead}
 use Rattle.mavlink_messages.proofs.Answers.{tested, no-kind}
 use borrow.Author.Needs.{needs}
 use Rattle.mavlink_messages.proofs.read_payload.Statement.{statement}
@@ -17,7 +17,7 @@ returns : tie.Need-returns
 returns c =
     let a = c .before .before .before .before .args in
     c .judge .ensures
-    ∙ ap (λ m. judged (a .header) (a .used) (DataStream m)) (c .before .read .ensures)
+    ∙ ap (λ m. messageJudged (a .header) (a .used) (DataStream m)) (c .before .read .ensures)
     ∙ sym (ap (λ (id : ℕ). payloadRead id (a .header) (a .used) (now (a .payload))) (tested (a .id) 66 (length (now (a .payload))) 6 (c .before .before .if1 .taken) .0))
 
 read-requires-2 : tie.Need-read-requires-2
@@ -28,7 +28,7 @@ returns-2 c =
     let a = c .before .before .before .before .before .before .args in
     c .judge2 .ensures
     ∙ ap (λ fits. judgedBy fits (a .header) (a .used) (Static (c .before .before .read2 .result))) (c .before .in-range .ensures)
-    ∙ ap (λ m. judged (a .header) (a .used) (Static m)) (c .before .before .read2 .ensures)
+    ∙ ap (λ m. messageJudged (a .header) (a .used) (Static m)) (c .before .before .read2 .ensures)
     ∙ sym (ap (λ (id : ℕ). payloadRead id (a .header) (a .used) (now (a .payload))) (tested (a .id) 201 (length (now (a .payload))) 19 (c .before .before .before .if2 .taken) .0))
 
 read-requires-3 : tie.Need-read-requires-3
@@ -39,7 +39,7 @@ returns-3 c =
     let a = c .before .before .before .before .before .before .before .args in
     c .judge3 .ensures
     ∙ ap (λ fits. judgedBy fits (a .header) (a .used) (Dynamic (c .before .before .read3 .result))) (c .before .in-range2 .ensures)
-    ∙ ap (λ m. judged (a .header) (a .used) (Dynamic m)) (c .before .before .read3 .ensures)
+    ∙ ap (λ m. messageJudged (a .header) (a .used) (Dynamic m)) (c .before .before .read3 .ensures)
     ∙ sym (ap (λ (id : ℕ). payloadRead id (a .header) (a .used) (now (a .payload))) (tested (a .id) 202 (length (now (a .payload))) 42 (c .before .before .before .if3 .taken) .0))
 
 read-requires-4 : tie.Need-read-requires-4
@@ -49,7 +49,7 @@ returns-4 : tie.Need-returns-4
 returns-4 c =
     let a = c .before .before .before .before .before .before .before .args in
     c .judge4 .ensures
-    ∙ ap (λ m. judged (a .header) (a .used) (Status m)) (c .before .read4 .ensures)
+    ∙ ap (λ m. messageJudged (a .header) (a .used) (Status m)) (c .before .read4 .ensures)
     ∙ sym (ap (λ (id : ℕ). payloadRead id (a .header) (a .used) (now (a .payload))) (tested (a .id) 203 (length (now (a .payload))) 1 (c .before .before .if4 .taken) .0))
 
 read-requires-5 : tie.Need-read-requires-5
@@ -60,7 +60,7 @@ returns-5 c =
     let a = c .before .before .before .before .before .before .before .before .before .args in
     c .judge5 .ensures
     ∙ ap (λ fits. judgedBy fits (a .header) (a .used) (Traffic (c .before .before .read5 .result))) (c .before .in-range3 .ensures)
-    ∙ ap (λ m. judged (a .header) (a .used) (Traffic m)) (c .before .before .read5 .ensures)
+    ∙ ap (λ m. messageJudged (a .header) (a .used) (Traffic m)) (c .before .before .read5 .ensures)
     ∙ sym (ap (λ (id : ℕ). payloadRead id (a .header) (a .used) (now (a .payload))) (tested (a .id) 246 (length (now (a .payload))) 38 (c .before .before .before .if5 .taken) .0))
 
 returns-6 : tie.Need-returns-6

@@ -1,5 +1,5 @@
 -- `text_output::digit` meets its contract. Assumes nothing.
-use Rattle.text_output.proofs.Spelled.{hex-digit}
+use Rattle.text_output.proofs.Printed.{hex-digit}
 use borrow.Author.Needs.{needs}
 use Rattle.text_output.proofs.digit.Statement.{statement}
 use Rattle.text_output.proofs.digit.Tie as tie

@@ -4,7 +4,7 @@ use lib.IntN.{pos}
 use lib.Signed.{mag}
 use mir.Syntax.{w64}
 use mir.ValLaws.{toZ-ofZ}
-use Rattle.twos_complement.proofs.Negative.{magnitude-fits, turned, kept}
+use Rattle.field_signed.proofs.Negative.{magnitude-fits, turned, kept}
 use Rattle.text_output.proofs.Signs.{size-negative, size-positive}
 use Rattle.text_output.proofs.size.Statement.{statement}
 use Rattle.text_output.proofs.size.Tie as tie

@@ -2,7 +2,7 @@
 use native.Mathlib.Omega.{arith}
 use denote.Ref.{now}
 use Rattle.ucp_messages.specs.Reads.{answerAs}
-use Rattle.ucp_messages.proofs.Judged.{kind-so, kind-none}
+use Rattle.ucp_messages.proofs.BodyKind.{kind-so, kind-none}
 use borrow.Author.Needs.{needs}
 use Rattle.ucp_messages.proofs.read_message.Statement.{statement}
 use Rattle.ucp_messages.proofs.read_message.Tie as tie

@@ -2,7 +2,7 @@
 use mathlib.Core.Path.{refl, sym}
 use denote.Ref.{now}
 use lib.Seq.{length-take-le}
-use Rattle.ucp_send.specs.Sends.{answerDue}
+use Rattle.ucp_send.specs.Sends.{sendDue}
 use Rattle.ucp_send.proofs.Body.{body-length, body-written, body-refused}
 use borrow.Author.Needs.{needs}
 use Rattle.ucp_send.proofs.send_message.Statement.{statement}
@@ -18,14 +18,14 @@ slice-aggregate-write-frame c =
     sym (length-take-le _ _ (w .room))
 
 returns : tie.Need-returns
-unfolding answerDue
+unfolding sendDue
 returns c =
     let w = body-written (rw (c .before .before .before .before .written .given .1) at (c .before .before .before .before .before .before .before .write-message .ensures)) in
     let f = rw (w .whole) at (c .write-frame .ensures) in
     record { answers = rw (w .all-fit) (f .answers); leaves = f .leaves }
 
 returns-2 : tie.Need-returns-2
-unfolding answerDue
+unfolding sendDue
 returns-2 c =
     let a = c .before .before .before .before .before .before .before .args in
     let w = rw (c .before .written2 .given .1) at (c .before .before .before .before .write-message .ensures) in

@@ -1,0 +1,4 @@
+pub mod Read
+pub mod Writer
+pub mod Blank
+pub mod Lowest

@@ -1,0 +1,221 @@
+// Message 45, Control, for C: the message lies in the caller's struct, which is lent as its octets.
+use output_writing::OstrogoszWritten;
+ghost use mathlib.Core.Path.{_≡_};
+ghost use mathlib.Core.Bool.{_&&_};
+ghost use lib.Dec.{ltb};
+ghost use mathlib.Core.List.{_++_};
+ghost use Prim.Native.Nat.{_<_, _≤_};
+ghost use lib.ListN.{length, getD, drop};
+ghost use Rattle.field_codes.specs.Codes.{isSquawk};
+ghost use Rattle.ucp_frame.specs.Frame.{frame};
+ghost use Rattle.field_layout.specs.Steps.{little16};
+ghost use Rattle.field_layout.specs.Digits.{bitOf};
+ghost use Rattle.field_format.specs.Formats.{valueIn, bodyOf};
+ghost use Rattle.ucp_kinds.specs.Control45.{controlFormat};
+ghost use Rattle.c_lent.specs.Reads.{ReadsInto};
+ghost use Rattle.c_lent.specs.Writes.{WritesStructBody};
+ghost use Rattle.c_lent.specs.Structs.{isYes, stored, held};
+ghost use Rattle.c_ucp_control.specs.Struct.{controlStruct, controlState};
+ghost use Rattle.c_ucp_control.specs.Sends.{SendsControl};
+
+// ---- reading
+
+// Whether each field that a body carries is in its range.
+fn body_fits(body: &[u8]) -> bool
+    requires { ⌜ length (now body) ≡ 18 ⌝ }
+    ensures { λ r. ⌜ r ≡ controlFormat .ranges (valueIn controlFormat (now (body .entry))) ⌝ }
+{
+    field_codes::is_squawk(field_layout::little_16(body, 7))
+        & field_texts::pairs::is_padded_at(body, 10)
+}
+
+// From 3 on the body has the octets of the struct from 8 on.
+fn fill(body: &[u8], message: &mut [u8; 24])
+    requires { ⌜ length (now body) ≡ 18 ⌝ }
+    ensures { λ r. ⌜ now (message .exit) ≡ stored controlStruct (valueIn controlFormat (now (body .entry))) ⌝ }
+{
+    // Behind a store the compiler reads the body anew. Else it keeps the text from its test, and copies it by way of the stack.
+    *message = [0; 24];
+    let state = body[2];
+    let from_6 = state % 128;
+    let from_5 = from_6 % 64;
+    let from_4 = from_5 % 32;
+    let from_3 = from_4 % 16;
+    let from_2 = from_3 % 8;
+    *message = [
+        state / 128,
+        from_6 / 64,
+        from_5 / 32,
+        from_4 / 16,
+        from_3 / 8,
+        from_2 / 2,
+        from_2 % 2,
+        0,
+        body[3],
+        body[4],
+        body[5],
+        body[6],
+        body[7],
+        body[8],
+        body[9],
+        body[10],
+        body[11],
+        body[12],
+        body[13],
+        body[14],
+        body[15],
+        body[16],
+        body[17],
+        0,
+    ];
+}
+
+// Reads a body into the struct: 0, or the refusal that is due, 10 to 13, and then the struct is as it was.
+#[no_mangle]
+pub extern "C" fn ostrogosz_read_control_at(body: &[u8], message: &mut [u8; 24]) -> u32
+    ensures { λ r. ⌜ ReadsInto controlFormat controlStruct (now (body .entry)) (now (message .entry)) r (now (message .exit)) ⌝ }
+{
+    let n = body.len();
+    if n == 0 {
+        return 10;
+    }
+    if body[0] != 45 {
+        return 10;
+    }
+    if n != 18 {
+        return 11;
+    }
+    if body[1] != 1 {
+        return 12;
+    }
+    if !body_fits(body) {
+        return 13;
+    }
+    fill(body, message);
+    0
+}
+
+// ---- writing
+
+// A bool of C as a field of one bit.
+fn bit(octet: u8) -> u8
+    ensures { λ r. ⌜ (r ≡ bitOf (isYes octet)) × (r ≤ 1) ⌝ }
+{
+    if octet == 0 { 0 } else { 1 }
+}
+
+// Bits 7 to 0 of the octet at 2.
+fn state(message: &[u8]) -> u8
+    requires { ⌜ (length (now message) ≡ 24) × (getD (now message) 5 0 < 4) ⌝ }
+    ensures { λ r. ⌜ r ≡ controlState (held controlStruct (now (message .entry))) ⌝ }
+{
+    let es_enabled = bit(message[0]);
+    let mode_s = bit(message[1]);
+    let mode_c = bit(message[2]);
+    let mode_a = bit(message[3]);
+    let ident = bit(message[4]);
+    let baro_checked = bit(message[6]);
+    let low = ident * 8 + (message[5] * 2 + baro_checked);
+    es_enabled * 128 + (mode_s * 64 + (mode_c * 32 + (mode_a * 16 + low)))
+}
+
+// Whether the numbers that a struct holds are in their range and have no more bits than the body has for them. The text is
+// tested apart: one function for both, with two callers, would not be inlined.
+fn numbers_fit(message: &[u8]) -> bool
+    requires { ⌜ length (now message) ≡ 24 ⌝ }
+    ensures { λ r. ⌜ r ≡ (ltb (getD (now (message .entry)) 5 0) 4 && isSquawk (little16 (now (message .entry)) 12)) ⌝ }
+{
+    (message[5] < 4) & field_codes::is_squawk(field_layout::little_16(message, 12))
+}
+
+// Puts the body at the start of output.
+fn put(message: &[u8], output: &mut [u8])
+    requires { ⌜ (length (now message) ≡ 24) × (getD (now message) 5 0 < 4) × (18 ≤ length (now output)) ⌝ }
+    ensures { λ r. ⌜ now (output .exit) ≡ bodyOf controlFormat (held controlStruct (now (message .entry))) ++ drop 18 (now (output .entry)) ⌝ }
+{
+    let state = state(message);
+    // Behind a store the compiler reads the message anew, as in `fill`.
+    output[0] = 45;
+    output[1] = 1;
+    output[2] = state;
+    // Fifteen octets in two words: the first of the identity is put twice.
+    field_words::put_64(output, 3, field_words::little_64(message, 8));
+    field_words::put_64(output, 10, field_words::little_64(message, 15));
+}
+
+fn write(message: &[u8], output: &mut [u8]) -> OstrogoszWritten
+    requires { ⌜ length (now message) ≡ 24 ⌝ }
+    ensures { λ r. ⌜ WritesStructBody controlFormat (held controlStruct (now (message .entry))) (now (output .entry)) r (now (output .exit)) ⌝ }
+{
+    if !(numbers_fit(message) & field_texts::pairs::is_padded_at(message, 15)) {
+        return OstrogoszWritten {
+            refusal: 13,
+            length: 0,
+        };
+    }
+    if output.len() < 18 {
+        return OstrogoszWritten {
+            refusal: 8,
+            length: 0,
+        };
+    }
+    put(message, output);
+    OstrogoszWritten {
+        refusal: 0,
+        length: 18,
+    }
+}
+
+// Writes the body of the message that a struct holds: 13, then 8.
+#[no_mangle]
+pub extern "C" fn ostrogosz_write_control_at(
+    message: &[u8; 24],
+    output: &mut [u8],
+) -> OstrogoszWritten
+    ensures { λ r. ⌜ WritesStructBody controlFormat (held controlStruct (now (message .entry))) (now (output .entry)) r (now (output .exit)) ⌝ }
+{
+    write(message, output)
+}
+
+// ---- sending
+
+// Puts the frame at the start of buffer. The body is never whole in one place: its octets from 4 on are the struct's from 9 on.
+fn put_frame(message: &[u8], buffer: &mut [u8]) -> usize
+    requires { ⌜ (length (now message) ≡ 24) × (getD (now message) 5 0 < 4) × (length (frame (bodyOf controlFormat (held controlStruct (now message)))) ≤ length (now buffer)) ⌝ }
+    ensures { λ r. ⌜ (r ≡ length (frame (bodyOf controlFormat (held controlStruct (now (message .entry)))))) × (now (buffer .exit) ≡ frame (bodyOf controlFormat (held controlStruct (now (message .entry)))) ++ drop r (now (buffer .entry))) ⌝ }
+{
+    let state = state(message);
+    let first = message[8];
+    buffer[0] = 0x7E;
+    let next = ucp_writer::put_pair(buffer, 1, 45, 1);
+    let at = ucp_writer::put_pair(buffer, next, state, first);
+    let check = crc_gdl90::next_check_pair(crc_gdl90::next_check_pair(0, 45, 1), state, first);
+    ucp_writer::fill_words(&message[9..23], buffer, 0, check, at)
+}
+
+fn send(message: &[u8], buffer: &mut [u8]) -> OstrogoszWritten
+    requires { ⌜ (length (now message) ≡ 24) × (length (now buffer) ≡ 878) ⌝ }
+    ensures { λ r. ⌜ SendsControl (held controlStruct (now (message .entry))) (now (buffer .entry)) r (now (buffer .exit)) ⌝ }
+{
+    if !(numbers_fit(message) & field_texts::pairs::is_padded_at(message, 15)) {
+        return OstrogoszWritten {
+            refusal: 13,
+            length: 0,
+        };
+    }
+    OstrogoszWritten {
+        refusal: 0,
+        length: put_frame(message, buffer),
+    }
+}
+
+// Writes the frame of the message that a struct holds at the start of buffer, and leaves what is behind it: 13.
+#[no_mangle]
+pub extern "C" fn ostrogosz_send_control_at(
+    message: &[u8; 24],
+    buffer: &mut [u8; 878],
+) -> OstrogoszWritten
+    ensures { λ r. ⌜ SendsControl (held controlStruct (now (message .entry))) (now (buffer .entry)) r (now (buffer .exit)) ⌝ }
+{
+    send(message, buffer)
+}

@@ -1,4 +1,0 @@
-pub mod Bits
-pub mod Shape
-pub mod Parity
-pub mod Caught

@@ -1,3 +1,0 @@
-pub mod BitNumbers
-pub mod Strength
-pub mod Reach

@@ -1,2 +1,0 @@
-pub mod Copy
-pub mod Flag

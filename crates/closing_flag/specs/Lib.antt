@@ -1,3 +1,0 @@
-pub mod Answers
-pub mod Closing
-pub mod Parts

@@ -1,0 +1,5 @@
+pub mod Bits
+pub mod Shape
+pub mod Parity
+pub mod Caught
+pub mod Limits

@@ -1,0 +1,4 @@
+pub mod BitNumbers
+pub mod Strength
+pub mod Reach
+pub mod Limits

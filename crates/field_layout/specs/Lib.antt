@@ -1,0 +1,4 @@
+pub mod Digits
+pub mod Layout
+pub mod Steps
+pub mod Texts

@@ -1,5 +1,0 @@
-pub mod Step
-pub mod Pair
-pub mod Eight
-pub mod Head
-pub mod Steps

@@ -1,1 +1,0 @@
-// The step of GDL90's frame check over eight octets: its law in proofs/. It holds no code.

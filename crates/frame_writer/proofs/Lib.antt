@@ -1,3 +1,0 @@
-pub mod ToPut
-pub mod Rest
-pub mod Head

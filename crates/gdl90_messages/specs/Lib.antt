@@ -1,4 +1,0 @@
-pub mod Heartbeat
-pub mod Uplink
-pub mod Report
-pub mod GeometricAltitude

@@ -1,0 +1,22 @@
+-- What is read and written, and cleared memory. Assumes nothing.
+use mathlib.Core.Path.{_≡_}
+use mathlib.Core.Bool.{Bool, true}
+use mathlib.Core.List.{List}
+use Prim.Native.Nat.{ℕ, _≤_}
+use lib.ListN.{length, replicate}
+use Rattle.io_streams.specs.declared.Got.{Got}
+use Rattle.io_streams.specs.declared.Got.the-variants.{Octets, Ended as NoMore, Failed as ReadFailed}
+
+-- as many octets as before, and all of them 0
+abbrev pub Zeroed : List ℕ → List ℕ → Type 0
+Zeroed before after = after ≡ replicate (length before) 0
+
+-- what no contract can say is whether octets reached the output; where there is none to write, all are written
+abbrev pub WrittenIfEmpty : ℕ → Bool → Type 0
+WrittenIfEmpty octets written = octets ≡ 0 → written ≡ true
+
+-- octets that were read are within the block
+abbrev pub WithinBlock : Got → ℕ → Type 0
+WithinBlock (Octets n) block = n ≤ block
+WithinBlock NoMore block = Unit {0}
+WithinBlock ReadFailed block = Unit {0}

@@ -1,0 +1,192 @@
+// What the programs share: standard input by the block, standard output, and clearing what was lent. What is read and written
+// no contract can say; each is safe, ends, and fixes what it can.
+ghost use mathlib.Core.Path.{_≡_};
+ghost use Prim.Native.Nat.{min, _<_, _≤_};
+ghost use lib.ListN.{length};
+ghost use Rattle.io_streams.specs.Blocks.{Zeroed, WithinBlock, WrittenIfEmpty};
+ghost use Rattle.io_streams.specs.Turns.{Behind, over, hasEnded, AtEnd, ReadsBlock, BlockTurns};
+use libc::STDIN_FILENO;
+use libc::STDOUT_FILENO;
+
+// How far the input is told.
+pub enum Input {
+    More,
+    Ended,
+    Failed,
+}
+
+// What a read gave: octets at the start of the block; the input's end; a failure, which is said on standard error.
+pub enum Got {
+    Octets(usize),
+    Ended,
+    Failed,
+}
+
+pub fn read_block(block: &mut [u8]) -> Got
+    ensures { λ r. ⌜ WithinBlock r (length (now (block .exit))) ⌝ }
+{
+    let got = libc::read(STDIN_FILENO, block);
+    if got < 0 {
+        os::fail(&[b'r', b'e', b'a', b'd']);
+        return Got::Failed;
+    }
+    if got == 0 {
+        return Got::Ended;
+    }
+    Got::Octets(io::count(got, block))
+}
+
+// ---- turns
+
+// How the reading stands: so many octets at the start of the block are there to be worked on, the input goes on or has ended
+// behind them, and so many turns are left: none where there is nothing more to do. A proved loop has to end, and nothing says
+// that an input does: the turns are counted down from a number that no run uses up.
+pub struct Turn {
+    pub octets: usize,
+    pub input: Input,
+    pub left: u64,
+}
+
+fn last_turn(input: Input) -> Turn
+    ensures { λ r. ⌜ r ≡ over input ⌝ }
+{
+    Turn {
+        octets: 0,
+        input: input,
+        left: 0,
+    }
+}
+
+// The input has ended behind the octets that are held: they are worked on, where there are any.
+fn end_turn(held: usize, left: u64) -> Turn
+    requires { ⌜ 0 < left ⌝ }
+    ensures { λ r. ⌜ AtEnd held left r ⌝ }
+{
+    if held == 0 {
+        return last_turn(Input::Ended);
+    }
+    Turn {
+        octets: held,
+        input: Input::Ended,
+        left: left - 1,
+    }
+}
+
+fn read_behind(block: &mut [u8], held: usize) -> Got
+    requires { ⌜ held ≤ length (now block) ⌝ }
+    ensures { λ r. ⌜ Behind r held (length (now (block .entry))) ⌝ }
+{
+    read_block(&mut block[held..])
+}
+
+fn read_turn(block: &mut [u8], held: usize, left: u64) -> Turn
+    ensures { λ r. ⌜ ReadsBlock (r .input) left (length (now (block .entry))) held r ⌝ }
+{
+    if left == 0 {
+        return last_turn(Input::Failed);
+    }
+    if block.len() < held {
+        return last_turn(Input::Failed);
+    }
+    let got = read_behind(block, held);
+    match got {
+        Got::Octets(n) => Turn {
+            octets: held + n,
+            input: Input::More,
+            left: left - 1,
+        },
+        Got::Ended => end_turn(held, left),
+        Got::Failed => last_turn(Input::Failed),
+    }
+}
+
+pub fn first_turn(block: &mut [u8]) -> Turn
+    ensures { λ r. ⌜ ReadsBlock (r .input) 18446744073709551615 (length (now (block .entry))) 0 r ⌝ }
+{
+    read_turn(block, 0, u64::MAX)
+}
+
+// The turn that follows one whose work came to this: the octets held at the start of the block stay, and what is read stands
+// behind them. Nothing is read where the work is at its end or has failed.
+pub fn next_turn(told: Input, block: &mut [u8], held: usize, left: u64) -> Turn
+    ensures { λ r. ⌜ BlockTurns told left (length (now (block .entry))) held r ⌝ }
+{
+    match told {
+        Input::More => read_turn(block, held, left),
+        Input::Ended => last_turn(Input::Ended),
+        Input::Failed => last_turn(Input::Failed),
+    }
+}
+
+pub fn has_ended(input: Input) -> bool
+    ensures { λ r. ⌜ r ≡ hasEnded input ⌝ }
+{
+    match input {
+        Input::More => false,
+        Input::Ended => true,
+        Input::Failed => false,
+    }
+}
+
+// ---- writing
+
+fn write_failed() {
+    os::fail(&[b'w', b'r', b'i', b't', b'e']);
+}
+
+// Writes all of text, or says that it failed. `io::write_all` would copy what a short write leaves over: here the octets of
+// a frame stay in the memory that main lends.
+pub fn write_out(text: &[u8]) -> bool
+    ensures { λ r. ⌜ WrittenIfEmpty (length (now (text .entry))) r ⌝ }
+{
+    let mut done = 0;
+    while done < text.len() {
+        let left = &text[done..];
+        let put = io::count(libc::write(STDOUT_FILENO, left), left);
+        if put == 0 {
+            write_failed();
+            return false;
+        }
+        done += put;
+    }
+    true
+}
+
+// Writes the first octets of text, or all of it where there are no more.
+pub fn write_first(text: &[u8], n: usize) -> bool
+    ensures { λ r. ⌜ WrittenIfEmpty (min n (length (now (text .entry)))) r ⌝ }
+{
+    if n < text.len() {
+        return write_out(&text[..n]);
+    }
+    write_out(text)
+}
+
+// ---- clearing
+
+fn zero(memory: &mut [u8])
+    ensures { λ r. ⌜ Zeroed (now (memory .entry)) (now (memory .exit)) ⌝ }
+{
+    let mut i = 0;
+    while i < memory.len() {
+        memory[i] = 0;
+        i += 1;
+    }
+}
+
+// Clears memory that was lent. A compiler drops stores to memory that nothing reads again, and this language has no way to
+// forbid that. C may read what it is handed, so the stores before such a call stay: there is no descriptor -1, and nothing is
+// written.
+pub fn clear(memory: &mut [u8])
+    ensures { λ r. ⌜ Zeroed (now (memory .entry)) (now (memory .exit)) ⌝ }
+{
+    zero(memory);
+    libc::write(-1, memory);
+}
+
+// Some file systems say only here that a write failed.
+pub fn close_output() {
+    if libc::close(STDOUT_FILENO) < 0 {
+        write_failed();
+    }
+}

@@ -1,0 +1,30 @@
+-- What a block of the input leaves of the receiver's record, and the closing line. Assumes nothing.
+use mathlib.Core.Path.{_≡_}
+use mathlib.Core.Bool.{Bool, false}
+use mathlib.Core.List.{List}
+use Prim.Native.Nat.{ℕ}
+use Rattle.ucp_receiver.specs.declared.Counts.{Counts}
+use Rattle.ucp_receiver.specs.Octet.{State}
+use Rattle.text_ucp_listing.specs.Lists.{RecordBehind, PutsClosing}
+use Rattle.io_streams.specs.Blocks.{WrittenIfEmpty}
+use Rattle.io_streams.specs.declared.Input.{Input}
+use Rattle.io_streams.specs.declared.Input.the-variants.{More, Ended, Failed}
+
+-- the input goes on: the record is the one behind the whole block. It does not end in a block; a write may have failed
+abbrev pub Leaves : Input → State → Counts → RecordBehind → Type 0
+Leaves More s c b = (s ≡ b .state) × (c ≡ b .counts)
+Leaves Ended s c b = ⊥
+Leaves Failed s c b = Unit {0}
+
+-- the closing line stands at the start of the text, up to this place, as `text_ucp_listing::put_closing` puts it; it is written where
+-- there was no room for it, and so nothing to write
+pub record Closed (counts : Counts) (before : List ℕ) (written : Bool) (after : List ℕ) : Type 0 where
+  pub next : ℕ
+  pub line : PutsClosing before 0 counts next after
+  pub tells : WrittenIfEmpty next written
+
+-- how a program closes, by how far the input is told
+abbrev pub Ends : Input → Counts → List ℕ → Bool → List ℕ → Type 0
+Ends More counts before written after = (written ≡ false) × (after ≡ before)
+Ends Ended counts before written after = Closed counts before written after
+Ends Failed counts before written after = (written ≡ false) × (after ≡ before)

@@ -1,3 +1,0 @@
-pub mod Listing
-pub mod Lists
-pub mod Parts

@@ -1,0 +1,53 @@
+-- The parts that are put make the frame. Assumes nothing.
+use mathlib.Core.Path.{_≡_, ap, ap₂, _∙_}
+use mathlib.Core.List.{List, [], _∷_, _++_}
+use Prim.Native.Nat.{ℕ, _+_, _-_, _≤_}
+use native.Mathlib.Omega.{arith}
+use lib.ListN.{length, take, drop, length-append, length-drop}
+use lib.Seq.{sets, sets-eq, paste, take-at, take-length, drop-drop, drop-append-add}
+use Rattle.crc_x25.specs.Check.{x25Octets}
+use Rattle.mavlink_frame.specs.declared.Kind.{Kind}
+use Rattle.mavlink_frame.specs.declared.Header.{Header}
+use Rattle.mavlink_frame.specs.Frame.{headerOctets, covered, mavlinkFrame}
+
+module _ (k : Kind) (h : Header) (payload output : List ℕ) (room : length payload + 8 ≤ length output) where
+  -- the output up to the check, and what is behind
+  abbrev ahead : List ℕ
+  ahead = headerOctets k h ++ payload
+
+  abbrev behind : List ℕ
+  behind = drop (6 + length payload) output
+
+  header-put : sets output 0 (headerOctets k h) ≡ headerOctets k h ++ drop 6 output
+  header-put = sets-eq (headerOctets k h) output 0 (omega arith)
+
+  pub payload-put : paste (sets output 0 (headerOctets k h)) 6 payload (length payload) ≡ ahead ++ behind
+  payload-put =
+      ap (λ (xs : List ℕ). paste xs 6 payload (length payload)) header-put
+      ∙ ap₂ (λ (p q : List ℕ). headerOctets k h ++ p ++ q) (take-length payload)
+      (drop-append-add (headerOctets k h) (drop 6 output) (length payload) ∙ drop-drop (length payload) 6 output)
+
+  ahead-length : length ahead ≡ length payload + 6
+  ahead-length = omega arith
+
+  two-more : length payload + 6 + 2 ≡ length ahead + 2
+  two-more = omega arith
+
+  eight-more : 6 + length payload + 2 ≡ length payload + 8
+  eight-more = omega arith
+
+  -- the octets that the check is over
+  checked : take (length payload + 6 - 1) (drop 1 (ahead ++ behind)) ++ k .extra ∷ [] ≡ covered k h payload
+  checked = ap (λ (xs : List ℕ). xs ++ k .extra ∷ []) (take-at (drop 1 ahead) behind (length payload + 6 - 1) (omega arith))
+
+  pub frame-put : (before : List ℕ) → before ≡ ahead ++ behind
+      → sets before (length payload + 6) (x25Octets (take (length payload + 6 - 1) (drop 1 before) ++ k .extra ∷ []))
+      ≡ mavlinkFrame k h payload ++ drop (length payload + 8) output
+  unfolding mavlinkFrame
+  frame-put before e =
+      rw (e, checked)
+      (sets-eq (x25Octets (covered k h payload)) (ahead ++ behind) (length payload + 6) (simp (length-append, length-drop) (omega arith))
+      ∙ ap₂ (λ (p q : List ℕ). p ++ x25Octets (covered k h payload) ++ q)
+      (take-at ahead behind (length payload + 6) ahead-length)
+      (ap (λ (n : ℕ). drop n (ahead ++ behind)) two-more ∙ drop-append-add ahead behind 2 ∙ drop-drop 2 (6 + length payload) output
+      ∙ ap (λ (n : ℕ). drop n output) eight-more))

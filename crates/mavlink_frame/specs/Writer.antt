@@ -1,0 +1,36 @@
+-- What the writer of frames answers, and the frame that it writes. Assumes nothing.
+use mathlib.Core.Bool.{cond}
+use mathlib.Core.List.{List, []}
+use Prim.Native.Nat.{ℕ, _+_}
+use lib.Dec.{eqb, ltb}
+use lib.ListN.{length}
+use Rattle.output_writing.specs.Answers.{WriterAnswer, refused, wrote}
+use Rattle.mavlink_frame.specs.declared.Kind.{Kind}
+use Rattle.mavlink_frame.specs.declared.Header.{Header}
+use Rattle.mavlink_frame.specs.declared.Lookup.{Lookup}
+use Rattle.mavlink_frame.specs.declared.Lookup.the-variants.{Known, Unknown}
+use Rattle.mavlink_frame.specs.Kinds.{mavlinkKind}
+use Rattle.mavlink_frame.specs.Frame.{mavlinkFrame}
+
+-- 8 for an output shorter than a frame of so many octets, else the frame
+abbrev pub roomFor : ℕ → List ℕ → WriterAnswer
+roomFor octets output = cond (ltb (length output) octets) (refused 8) (wrote octets)
+
+-- 22 for an ID that no kind has, 23 for a payload that is not of the kind's length, then 8
+unfoldable pub writeOf : Kind → List ℕ → List ℕ → WriterAnswer
+writeOf k payload output = cond (eqb (length payload) (k .length)) (roomFor (length payload + 8) output) (refused 23)
+
+abbrev pub writeBy : Lookup → List ℕ → List ℕ → WriterAnswer
+writeBy (Known k) payload output = writeOf k payload output
+writeBy Unknown payload output = refused 22
+
+abbrev pub frameWriteDue : ℕ → List ℕ → List ℕ → WriterAnswer
+frameWriteDue id = writeBy (mavlinkKind id)
+
+-- the frame around a payload, and none where no kind has the ID
+abbrev pub frameBy : Lookup → Header → List ℕ → List ℕ
+frameBy (Known k) h payload = mavlinkFrame k h payload
+frameBy Unknown h payload = []
+
+abbrev pub frameOf : ℕ → Header → List ℕ → List ℕ
+frameOf id = frameBy (mavlinkKind id)

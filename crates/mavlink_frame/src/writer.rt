@@ -1,0 +1,81 @@
+// Writes a MAVLink version 1 frame around a payload.
+use super::Header;
+use super::Kind;
+use super::Lookup;
+use output_writing::Written;
+ghost use mathlib.Core.Path.{_≡_};
+ghost use mathlib.Core.List.{[], _∷_, _++_};
+ghost use Prim.Native.Nat.{_+_, _-_, _≤_};
+ghost use lib.ListN.{length, take, drop};
+ghost use lib.Seq.{sets, paste};
+ghost use Rattle.output_writing.specs.Answers.{Writing};
+ghost use Rattle.crc_x25.specs.Check.{x25Octets};
+ghost use Rattle.mavlink_frame.specs.Frame.{headerOctets, mavlinkFrame};
+ghost use Rattle.mavlink_frame.specs.Writer.{frameWriteDue, writeOf, frameOf};
+
+// Writes the frame of a payload at the start of output. On a refusal nothing is written.
+pub fn write_frame(id: u8, header: Header, payload: &[u8], output: &mut [u8]) -> Written
+    ensures { λ r. ⌜ Writing (frameWriteDue id (now (payload .entry)) (now (output .entry))) (frameOf id header (now (payload .entry))) (now (output .entry)) r (now (output .exit)) ⌝ }
+{
+    match super::kind_of(id) {
+        Lookup::Known(kind) => write_kind(kind, header, payload, output),
+        Lookup::Unknown => Written::Refused(22),
+    }
+}
+
+fn write_kind(kind: Kind, header: Header, payload: &[u8], output: &mut [u8]) -> Written
+    ensures { λ r. ⌜ Writing (writeOf kind (now (payload .entry)) (now (output .entry))) (mavlinkFrame kind header (now (payload .entry))) (now (output .entry)) r (now (output .exit)) ⌝ }
+{
+    let n = payload.len();
+    if n != kind.length as usize {
+        return Written::Refused(23);
+    }
+    if output.len() < n + 8 {
+        return Written::Refused(8);
+    }
+    fill(kind, header, payload, output);
+    Written::Wrote(n + 8)
+}
+
+// Writes the frame of a payload at the start of an output that has room for it.
+fn fill(kind: Kind, header: Header, payload: &[u8], output: &mut [u8])
+    requires { ⌜ (length (now payload) ≡ kind .length) × (length (now payload) + 8 ≤ length (now output)) ⌝ }
+    ensures { λ r. ⌜ now (output .exit) ≡ mavlinkFrame kind header (now (payload .entry)) ++ drop (length (now (payload .entry)) + 8) (now (output .entry)) ⌝ }
+{
+    put_header(kind, header, output);
+    put_payload(payload, output);
+    put_check(kind.extra, payload.len() + 6, output);
+}
+
+fn put_header(kind: Kind, header: Header, output: &mut [u8])
+    requires { ⌜ 6 ≤ length (now output) ⌝ }
+    ensures { λ r. ⌜ now (output .exit) ≡ sets (now (output .entry)) 0 (headerOctets kind header) ⌝ }
+{
+    output[0] = 0xFE;
+    output[1] = kind.length;
+    output[2] = header.sequence;
+    output[3] = header.system;
+    output[4] = header.component;
+    output[5] = kind.id;
+}
+
+fn put_payload(payload: &[u8], output: &mut [u8])
+    requires { ⌜ length (now payload) + 8 ≤ length (now output) ⌝ }
+    ensures { λ r. ⌜ now (output .exit) ≡ paste (now (output .entry)) 6 (now (payload .entry)) (length (now (payload .entry))) ⌝ }
+{
+    let mut i = 0;
+    while i < payload.len() {
+        output[6 + i] = payload[i];
+        i += 1;
+    }
+}
+
+// Puts the check of the octets from 1 on behind them, low octet first.
+fn put_check(extra: u8, end: usize, output: &mut [u8])
+    requires { ⌜ (1 ≤ end) × (end + 2 ≤ length (now output)) ⌝ }
+    ensures { λ r. ⌜ now (output .exit) ≡ sets (now (output .entry)) end (x25Octets (take (end - 1) (drop 1 (now (output .entry))) ++ extra ∷ [])) ⌝ }
+{
+    let check = crc_x25::x25_check(&output[1..end], extra);
+    output[end] = (check % 256) as u8;
+    output[end + 1] = (check / 256) as u8;
+}

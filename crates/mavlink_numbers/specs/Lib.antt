@@ -1,2 +1,0 @@
-pub mod Blank
-pub mod Lowest

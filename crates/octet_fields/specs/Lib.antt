@@ -1,4 +1,0 @@
-pub mod Digits
-pub mod Layout
-pub mod Numbers
-pub mod Texts

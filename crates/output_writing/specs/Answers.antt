@@ -1,0 +1,29 @@
+-- What a writer answers, and what it leaves in the output that it is lent (document 01, the paragraph below the table): the
+-- same for frames, bodies and MAVLink frames. Assumes nothing.
+use mathlib.Core.Path.{_≡_}
+use mathlib.Core.List.{List, _++_}
+use Prim.Native.Nat.{ℕ}
+use lib.ListN.{drop}
+use Rattle.output_writing.specs.declared.Written.{Written}
+use Rattle.output_writing.specs.declared.Written.the-variants.{Wrote, Refused}
+
+-- an answer in the paper's terms: a refusal's number, or how many octets were written
+pub data WriterAnswer : Type 0 where
+  refused : ℕ → WriterAnswer
+  wrote : ℕ → WriterAnswer
+
+-- the paper's number and values of each case
+abbrev pub writerAnswer : Written → WriterAnswer
+writerAnswer (Refused number) = refused number
+writerAnswer (Wrote octets) = wrote octets
+
+-- what the output then holds: what it held, where the call is refused; else the octets, and behind them what it held
+abbrev pub outputAfter : List ℕ → List ℕ → WriterAnswer → List ℕ
+outputAfter octets output (refused number) = output
+outputAfter octets output (wrote n) = octets ++ drop n output
+
+-- one call, whole: the answer that is due, the octets to write and the output as at entry; the answer, and the output as at
+-- return
+pub record Writing (due : WriterAnswer) (octets output : List ℕ) (answer : Written) (after : List ℕ) : Type 0 where
+  pub answers : writerAnswer answer ≡ due
+  pub leaves : after ≡ outputAfter octets output (writerAnswer answer)

@@ -1,8 +1,0 @@
-pub mod Stretch
-pub mod Reached
-pub mod Cut
-pub mod Stands
-pub mod Counts
-pub mod Promises
-pub mod Frames
-pub mod Slice

@@ -1,0 +1,82 @@
+// MAVLink frames explained: for the frame at the start of an input a line of text, with its message's fields by name and in
+// users' units.
+use mavlink_frame::Header;
+use mavlink_messages::Failures;
+use mavlink_messages::Message;
+use mavlink_messages::Read;
+ghost use Rattle.mavlink_messages.specs.declared.Read.the-variants.{Message as ReadMessage, Refused as ReadRefused};
+ghost use Rattle.text_output.specs.Clips.{Clips};
+ghost use Rattle.text_mavlink_explanation.specs.Explanation.{frameLine, framesLine};
+ghost use Rattle.text_mavlink_explanation.specs.Calls.{WholeFrame, ExplainsFrame};
+
+// What a call of explain_frame gives back: how many octets the frame has, whether it was refused, and then it uses none;
+// `written` octets of text are at its start.
+pub struct Explained {
+    pub used: usize,
+    pub refused: bool,
+    pub written: usize,
+}
+
+fn put_frame(
+    text: &mut [u8; 1536],
+    header: Header,
+    used: usize,
+    message: Message,
+    failures: Failures,
+) -> usize
+    ensures { λ r. ⌜ Clips (now (text .entry)) 0 (frameLine (ReadMessage header used message failures)) r (now (text .exit)) ⌝ }
+{
+    let at = text_output::put_word(text, 0, b"ok ");
+    let at = text_output::put_natural(text, at, used as u64);
+    let at = text_mavlink_messages::put_message(text, at, header, message, failures);
+    text_output::put_octet(text, at, b'\n')
+}
+
+fn put_refused(text: &mut [u8; 1536], number: u8) -> usize
+    ensures { λ r. ⌜ Clips (now (text .entry)) 0 (frameLine (ReadRefused number)) r (now (text .exit)) ⌝ }
+{
+    let at = text_refusals::put_refusal(text, 0, number);
+    text_output::put_octet(text, at, b'\n')
+}
+
+// Explains the frame at the start of input, and puts its line at the start of text. Octets behind the frame are left.
+pub fn explain_frame(input: &[u8], text: &mut [u8; 1536]) -> Explained
+    ensures { λ r. ⌜ ExplainsFrame (now (input .entry)) (now (text .entry)) r (now (text .exit)) ⌝ }
+{
+    let read = mavlink_messages::read_message(input);
+    match read {
+        Read::Message(header, used, message, failures) => {
+            let written = put_frame(text, header, used, message, failures);
+            Explained {
+                used: used,
+                refused: false,
+                written: written,
+            }
+        }
+        Read::Refused(number) => {
+            let written = put_refused(text, number);
+            Explained {
+                used: 0,
+                refused: true,
+                written: written,
+            }
+        }
+    }
+}
+
+fn put_closing_line(text: &mut [u8; 1536], frames: u64, bytes: u64) -> usize
+    ensures { λ r. ⌜ Clips (now (text .entry)) 0 (framesLine frames bytes) r (now (text .exit)) ⌝ }
+{
+    let at = text_output::put_word(text, 0, b"frames ");
+    let at = text_output::put_natural(text, at, frames);
+    let at = text_output::put_word(text, at, b" bytes ");
+    let at = text_output::put_natural(text, at, bytes);
+    text_output::put_octet(text, at, b'\n')
+}
+
+// The last line.
+pub fn put_closing(text: &mut [u8; 1536], frames: u64, bytes: u64) -> usize
+    ensures { λ r. ⌜ WholeFrame (now (text .entry)) (framesLine frames bytes) r (now (text .exit)) ⌝ }
+{
+    put_closing_line(text, frames, bytes)
+}

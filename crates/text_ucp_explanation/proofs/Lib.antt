@@ -1,0 +1,3 @@
+pub mod Longest
+pub mod Verdicts
+pub mod Continuation

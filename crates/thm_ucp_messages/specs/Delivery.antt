@@ -1,0 +1,27 @@
+-- A message that is sent is delivered, and means the same (the tender, demand 2), over the contracts of the sender and of the
+-- receiver. `proofs/Delivery.antt` proves it. Assumes nothing.
+use mathlib.Core.Path.{_≡_}
+use mathlib.Core.List.{List, _∷_, _++_}
+use Prim.Native.Nat.{ℕ, _≤_}
+use lib.ListN.{length, take}
+use Rattle.ucp_frame.specs.Frame.{longestBody}
+use Rattle.ucp_frame.specs.Stretch.{delivered}
+use Rattle.thm_ucp_messages.specs.Typed.{MessageTyped}
+use Rattle.thm_ucp_receiver.specs.Line.{Observed, upTo, Line}
+use Rattle.thm_ucp_receiver.specs.Promises.{AnswersAs, EndsIn}
+use Rattle.ucp_messages.specs.declared.Message.{Message}
+use Rattle.ucp_messages.specs.Bodies.{messageBody}
+use Rattle.ucp_messages.specs.Reads.{means, messageDue}
+use Rattle.ucp_send.specs.Sends.{Sends}
+use Rattle.output_writing.specs.declared.Written.{Written}
+use Rattle.output_writing.specs.Answers.{wrote, writerAnswer}
+
+-- where a line, whatever it brought before, ends in the octets that an accepted call to the sender wrote, and the room is 436
+-- octets or more: the last call delivers a body, and the body means the message
+abbrev pub SentIsDelivered : Type 0
+SentIsDelivered =
+    (m : Message) (payload buffer after : List ℕ) (r : Written) (octets : ℕ)
+    → MessageTyped m → Sends m payload buffer r after → writerAnswer r ≡ wrote octets
+    → (before later : List Observed) (o : Observed) → Line (before ++ o ∷ later)
+    → EndsIn (take octets after) (upTo before o) → longestBody ≤ length (o .output)
+    → AnswersAs (delivered (messageBody m payload)) o × (messageDue (messageBody m payload) ≡ means m)

@@ -1,0 +1,160 @@
+-- The promises of every line: its answers, counts and store by its history, and that after a flag only what follows
+-- counts. Assumes nothing.
+use mathlib.Core.Path.{_≡_, refl, sym, _∙_, ap, ap₂, subst}
+use mathlib.Core.List.{List, [], _∷_, _++_, map, append-nil, append-assoc, nil≢cons, cons≢nil, head-eq-of-cons-eq, tail-eq-of-cons-eq}
+use Prim.Native.Nat.{ℕ, _+_, _%_, _^_}
+use native.Mathlib.Nat.{add-mod, add-mod-mod, mod-mod}
+use lib.ListN.{length, drop}
+use lib.Seq.{take-append-seam}
+use borrow.Author.Tests.{eq-eqb}
+use Rattle.ucp_frame.specs.Stuffing.{flag}
+use Rattle.ucp_frame.specs.Stretch.{Verdict, silent, refused, delivered}
+use Rattle.ucp_history.specs.History.{Call, cutAtFlags, answer, overClosed, sinceLast, Account, account}
+use Rattle.ucp_receiver.specs.declared.Rest.{Rest}
+use Rattle.ucp_receiver.specs.declared.Counts.{Counts}
+use Rattle.ucp_receiver.specs.Answers.{ReceiverAnswer, answerFor, outputAtFlag}
+use Rattle.ucp_receiver.specs.Octet.{State, afterFlag, stateAfter, verdictDue, countsAfter}
+use Rattle.thm_ucp_receiver.specs.Line.{Observed, callOf, upTo, Meets, Runs, Line}
+use Rattle.thm_ucp_receiver.specs.Promises.{AnswersByHistory, CountsByHistory, EveryOctetCounted, StoreClean, FlagClears, putOut, Seen, seen, LaterOnly}
+use Rattle.thm_ucp_receiver.proofs.Cut.{account-sum}
+use Rattle.thm_ucp_receiver.proofs.Record.{Stands, stands-fresh, stands-next, stands-answer, stands-clean}
+use Rattle.thm_ucp_receiver.proofs.Counts.{counted, stands-counts}
+
+-- ---- the record after a history
+
+record At (h : List Call) (rest : Rest) (counts : Counts) (store : List ℕ) : Type 0 where
+  stands : Stands h (record { rest = rest; store = store })
+  tally : counts ≡ counted (account h)
+
+next : (h : List Call) {rest : Rest} {counts : Counts} {store : List ℕ} (o : Observed) → At h rest counts store → Meets rest counts store o
+    → At (h ++ (callOf o ∷ [])) (o .given .rest) (o .given .counts) (o .storeAfter)
+next h {rest} {store = store} o a r =
+    let s : State = record { rest = rest; store = store } in
+    record {
+      stands = subst (Stands (h ++ (callOf o ∷ []))) (sym (r .state)) (stands-next h s (callOf o) (a .stands));
+      tally =
+          r .account ∙ ap (λ (c : Counts). countsAfter c s (o .octet) (length (o .output))) (a .tally)
+          ∙ stands-counts h s (callOf o) (a .stands);
+    }
+
+-- the record that a part of a line leads to, and the rest of the line from there
+record Come (h : List Call) (os : List Observed) : Type 0 where
+  rest : Rest
+  counts : Counts
+  store : List ℕ
+  at : At h rest counts store
+  runs : Runs rest counts store os
+
+come : (h : List Call) (before os : List Observed) {rest : Rest} {counts : Counts} {store : List ℕ}
+    → At h rest counts store → Runs rest counts store (before ++ os) → Come (h ++ map callOf before) os
+come h [] os a r = rw append-nil (record { rest = _; counts = _; store = _; at = a; runs = r })
+come h (o ∷ before) os a r =
+    rw append-assoc at (come (h ++ (callOf o ∷ [])) before os (next h o a (r .1)) (r .2))
+
+arrive : (before os : List Observed) → Line (before ++ os) → Come (map callOf before) os
+unfolding cutAtFlags overClosed sinceLast
+arrive before os = come [] before os (record { stands = stands-fresh; tally = refl })
+
+-- ---- answers, counts, store
+
+pub answers : AnswersByHistory
+answers before after o l =
+    let k = arrive before (o ∷ after) l in
+    let due = stands-answer (map callOf before) _ (callOf o) (k .at .stands) in
+    record {
+      tells = k .runs .1 .answers ∙ ap answerFor due;
+      puts = k .runs .1 .puts ∙ ap (λ (v : Verdict). outputAtFlag v (o .output)) due;
+    }
+
+after-call : (before after : List Observed) (o : Observed) → Line (before ++ o ∷ after)
+    → At (upTo before o) (o .given .rest) (o .given .counts) (o .storeAfter)
+after-call before after o l = let k = arrive before (o ∷ after) l in next (map callOf before) o (k .at) (k .runs .1)
+
+-- a count that has run round adds up to the same
+wrapped-sum : (n m k : ℕ) → n % 2 ^ 32 ≡ m % 2 ^ 32 → (n + k % 2 ^ 32) % 2 ^ 32 ≡ (m + k) % 2 ^ 32
+wrapped-sum n m k e =
+    add-mod-mod n k (2 ^ 32) ∙ add-mod n k (2 ^ 32)
+    ∙ ap (λ (r : ℕ). (r + k % 2 ^ 32) % 2 ^ 32) e ∙ sym (add-mod m k (2 ^ 32))
+
+pub every-octet-counted : EveryOctetCounted
+every-octet-counted = account-sum
+
+pub counts : CountsByHistory
+counts before after o l =
+    record {
+      flags = ap (λ (c : Counts). c .flags) t;
+      delivered = ap (λ (c : Counts). c .delivered) t;
+      refused = ap (λ (c : Counts). c .refused) t;
+      skipped = ap (λ (c : Counts). c .skipped) t;
+      unclosed = ap (λ (c : Counts). c .unclosed) t;
+      received =
+          ap (λ (c : Counts). (c .flags + c .delivered + c .refused + c .skipped + c .unclosed) % 2 ^ 32) t
+          ∙ wrapped-sum _ _ (a .openOctets) (wrapped-sum _ _ (a .skipped)
+          (wrapped-sum _ _ (a .refused) (wrapped-sum _ _ (a .delivered) (mod-mod (a .flags) (2 ^ 32)))))
+          ∙ ap (λ (n : ℕ). n % 2 ^ 32) (account-sum calls);
+    }
+  where
+    calls : List Call
+    calls = upTo before o
+
+    a : Account
+    a = account calls
+
+    t : o .given .counts ≡ counted (account calls)
+    t = after-call before after o l .tally
+
+pub store-clean : StoreClean
+store-clean before after o l = stands-clean _ _ (after-call before after o l .stands)
+
+pub flag-clears : FlagClears
+unfolding stateAfter
+flag-clears rest counts store output given storeAfter outputThen r =
+    (ap (λ (s : State). s .store) (r .state), ap (λ (s : State). s .rest) (r .state))
+
+-- ---- after a flag only what follows counts
+
+-- what is seen of a verdict
+abbrev shown : Verdict → Seen
+shown silent = record { answer = answerFor silent; octets = [] }
+shown (refused number) = record { answer = answerFor (refused number); octets = [] }
+shown (delivered octets) = record { answer = answerFor (delivered octets); octets = octets }
+
+seen-shown : (s : State) {c : Counts} (o : Observed) → Meets (s .rest) c (s .store) o
+    → seen o ≡ shown (verdictDue s (o .octet) (length (o .output)))
+seen-shown s o r =
+    ap₂ (λ (a : ReceiverAnswer) (l : List ℕ). record { answer = a; octets = putOut a l }) (r .answers) (r .puts)
+    ∙ go (verdictDue s (o .octet) (length (o .output)))
+  where
+    go : (v : Verdict)
+        → _≡_ {A = Seen} (record { answer = answerFor v; octets = putOut (answerFor v) (outputAtFlag v (o .output)) }) (shown v)
+    go silent = refl
+    go (refused number) = refl
+    go (delivered octets) =
+        λ i. record { answer = answerFor (delivered octets); octets = take-append-seam octets (drop (length octets) (o .output)) i }
+
+same-seen : (os ps : List Observed) (s t : State) (c d : Counts) → s ≡ t
+    → Runs (s .rest) c (s .store) os → Runs (t .rest) d (t .store) ps → map callOf os ≡ map callOf ps → map seen os ≡ map seen ps
+same-seen [] [] s t c d e r q k = refl
+same-seen [] (p ∷ ps) s t c d e r q k = absurd (nil≢cons k)
+same-seen (o ∷ os) [] s t c d e r q k = absurd (cons≢nil k)
+same-seen (o ∷ os) (p ∷ ps) s t c d e r q k =
+    let h : callOf o ≡ callOf p = head-eq-of-cons-eq k in
+    ap₂ (λ (x : Seen) (xs : List Seen). x ∷ xs)
+    (seen-shown s o (r .1)
+    ∙ ap₂ (λ (u : State) (b : Call). shown (verdictDue u (b .octet) (b .room))) e h
+    ∙ sym (seen-shown t p (q .1)))
+    (same-seen os ps _ _ (o .given .counts) (p .given .counts)
+    (r .1 .state ∙ ap₂ (λ (u : State) (b : Call). stateAfter u (b .octet)) e h ∙ sym (q .1 .state))
+    (r .2) (q .2) (tail-eq-of-cons-eq k))
+
+flag-leads : (s : State) (x : ℕ) → x ≡ flag → stateAfter s x ≡ afterFlag
+unfolding stateAfter
+flag-leads s x e = rw (eq-eqb x flag e)
+
+pub later-only : LaterOnly
+later-only before other f g os ps e n l m k =
+    let a = arrive before (f ∷ os) l in
+    let b = arrive other (g ∷ ps) m in
+    same-seen os ps _ _ (f .given .counts) (g .given .counts)
+    (a .runs .1 .state ∙ flag-leads _ (f .octet) e ∙ sym (b .runs .1 .state ∙ flag-leads _ (g .octet) n))
+    (a .runs .2) (b .runs .2) k

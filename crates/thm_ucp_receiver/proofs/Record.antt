@@ -1,0 +1,83 @@
+-- Where the record stands after a history: each call takes it where one call more takes the history, and answers what is
+-- due by the history; the store is zero beyond what it holds. Assumes nothing.
+use mathlib.Core.Path.{_≡_, refl, sym, _∙_, ap, subst}
+use mathlib.Core.Bool.{Bool, true, false, cond}
+use mathlib.Core.List.{List, [], _∷_, _++_}
+use Prim.Native.Nat.{ℕ, zero, suc, _-_, _≤_}
+use native.Mathlib.Omega.{arith}
+use lib.Dec.{eqb, ltb}
+use lib.ListN.{length, take, getD, replicate, length-append, length-replicate, length-take}
+use borrow.Author.Tests.{eqb-true, eqb-false, ltb-false}
+use Rattle.ucp_frame.specs.Stuffing.{flag}
+use Rattle.ucp_frame.specs.Unstuffing.{Unstuffed, unstuffed}
+use Rattle.ucp_frame.specs.Stretch.{Verdict, silent, storeOctets}
+use Rattle.ucp_history.specs.History.{Call, Segment, cutAtFlags, closingVerdict, answer}
+use Rattle.ucp_receiver.specs.declared.Phase.{Phase}
+use Rattle.ucp_receiver.specs.declared.Phase.the-variants.{Hunting, TooLong}
+use Rattle.ucp_receiver.specs.Octet.{State, fresh, stateAfter, verdictDue}
+use Rattle.thm_ucp_receiver.specs.Promises.{CleanBeyond}
+use Rattle.thm_ucp_receiver.proofs.Reached.{advanced, closed, holding, phaseAt, reached, reached-more, reached-closed}
+use Rattle.thm_ucp_receiver.proofs.Cut.{segment, flags-flag, flags-octet, read-more, closing-last}
+
+pub data Stands (h : List Call) (s : State) : Type 0 where
+  hunts : s ≡ fresh → cutAtFlags h .flags ≡ [] → Stands h s
+  reads : (done : List Segment) (room : ℕ) (raw : List ℕ) → s ≡ reached (unstuffed raw)
+      → cutAtFlags h .flags ≡ done ++ (segment room raw ∷ []) → Stands h s
+
+pub stands-fresh : Stands [] fresh
+unfolding cutAtFlags
+stands-fresh = hunts refl refl
+
+module _ (h : List Call) (s : State) (c : Call) where
+  pub stands-next : Stands h s → Stands (h ++ (c ∷ [])) (stateAfter s (c .octet))
+  unfolding stateAfter reached unstuffed
+  stands-next = go (eqb (c .octet) flag) refl
+    where
+      go : (t : Bool) → eqb (c .octet) flag ≡ t → Stands h s → Stands (h ++ (c ∷ [])) (stateAfter s (c .octet))
+      go true e st = rw e (reads (cutAtFlags h .flags) (c .room) [] refl (flags-flag h c (eqb-true (c .octet) flag e)))
+      go false e (hunts p q) = rw e (hunts (ap (advanced (c .octet)) p) (flags-octet h c (eqb-false (c .octet) flag e) q))
+      go false e (reads done room raw p q) =
+          rw e (reads done room (raw ++ (c .octet ∷ [])) (ap (advanced (c .octet)) p ∙ reached-more raw (c .octet))
+          (flags-octet h c (eqb-false (c .octet) flag e) q ∙ read-more done (segment room raw) (c .octet)))
+
+  pub stands-closed : Stands h s → closed (c .room) s ≡ closingVerdict (cutAtFlags h .flags) (c .room)
+  unfolding closingVerdict
+  stands-closed (hunts p q) = ap (closed (c .room)) p ∙ ap (λ (fs : List Segment). closingVerdict fs (c .room)) (sym q)
+  stands-closed (reads done room raw p q) =
+      ap (closed (c .room)) p ∙ reached-closed raw (c .room) ∙ sym (closing-last done (segment room raw) (c .room))
+      ∙ ap (λ (fs : List Segment). closingVerdict fs (c .room)) (sym q)
+
+  pub stands-answer : Stands h s → verdictDue s (c .octet) (c .room) ≡ answer h c
+  unfolding verdictDue answer
+  stands-answer st = ap (λ (v : Verdict). cond (eqb (c .octet) flag) v silent) (stands-closed st)
+
+-- ---- the store
+
+beyond : (held : List ℕ) (n i : ℕ) → length held ≤ i → _≡_ {A = ℕ} (getD (held ++ replicate n 0) i 0) 0
+beyond [] zero i h = refl
+beyond [] (suc n) zero h = refl
+beyond [] (suc n) (suc i) h = beyond [] n i (omega arith)
+beyond (x ∷ xs) n zero h = absurd (omega arith)
+beyond (x ∷ xs) n (suc i) h = beyond xs n i (omega arith)
+
+abbrev Clean : State → Type 0
+Clean s = CleanBeyond (s .rest .stored) (s .store)
+
+clean : (p : Phase) (held : List ℕ) → length held ≤ storeOctets → Clean (holding p held)
+clean p held h =
+    record {
+      whole = simp (length-append, length-replicate) (omega arith);
+      zero = beyond held (storeOctets - length held);
+    }
+
+reached-clean : (u : Unstuffed) → Clean (reached u)
+unfolding reached
+reached-clean u = go (ltb storeOctets (length (u .octets))) refl
+  where
+    go : (t : Bool) → ltb storeOctets (length (u .octets)) ≡ t → Clean (reached u)
+    go true e = rw e (clean TooLong (take storeOctets (u .octets)) (simp length-take (omega arith)))
+    go false e = rw e (clean (phaseAt (u .ending)) (u .octets) (ltb-false storeOctets (length (u .octets)) e))
+
+pub stands-clean : (h : List Call) (s : State) → Stands h s → CleanBeyond (s .rest .stored) (s .store)
+stands-clean h s (hunts p q) = subst Clean (sym p) (clean Hunting [] (omega arith))
+stands-clean h s (reads done room raw p q) = subst Clean (sym p) (reached-clean (unstuffed raw))

@@ -1,0 +1,325 @@
+-- A slice is taken as its octets would be, and a line driven by slices is a line of calls by the octet. Assumes nothing.
+use mathlib.Core.Path.{_≡_, refl, sym, _∙_, ap, ap₂, subst}
+use mathlib.Core.List.{List, [], _∷_, _++_, map, map-append, append-assoc}
+use Prim.Native.Nat.{ℕ, zero, suc, _<_, _≤_}
+use native.Mathlib.Omega.{arith}
+use native.Mathlib.Numerals.{add-one}
+use lib.ListN.{length, take, getD, length-replicate}
+use Rattle.crc_polynomial.specs.Bits.{Octets}
+use Rattle.ucp_frame.specs.Stretch.{Verdict, silent, refused, delivered}
+use Rattle.ucp_receiver.specs.declared.Rest.{Rest}
+use Rattle.ucp_receiver.specs.declared.Counts.{Counts}
+use Rattle.ucp_receiver.specs.declared.Answer.{Answer}
+use Rattle.ucp_receiver.specs.declared.Answer.the-variants.{Nothing, Delivered, Refused}
+use Rattle.ucp_receiver.specs.Answers.{ReceiverAnswer, nothing, refusal, body, receiverAnswer, answerFor, outputAtFlag}
+use Rattle.ucp_receiver.specs.Account.{zeroCounts}
+use Rattle.ucp_receiver.specs.Octet.{State, noOctets, freshRest, stateAfter, verdictDue, countsAfter}
+use Rattle.ucp_receiver.specs.Slice.{SliceRun, later, endAt, sliceRun}
+use Rattle.thm_ucp_receiver.specs.Line.{Observed, Meets, Runs, Line}
+use Rattle.thm_ucp_receiver.specs.Slice.{answersOver, lastOf, TakenAs, SliceIsOctets, ObservedSlice, roomsOf, Held, recordAfter, outputLast, Lent, AnswersLast, CallsOf, SliceRuns, SlicesRun, CallsUpTo, LineOfSlices, SliceIsCall}
+use Rattle.thm_ucp_receiver.proofs.Stretch.{refused-answers, delivered-answers}
+
+last-silent : (vs : List Verdict) → lastOf (silent ∷ vs) ≡ lastOf vs
+last-silent [] = refl
+last-silent (v ∷ vs) = refl
+
+module _ (s : State) (c : Counts) (x : ℕ) (xs : List ℕ) (room : ℕ) where
+  -- the first octet is silent
+  goes-on : (r : SliceRun) → verdictDue s x room ≡ silent → TakenAs (stateAfter s x) (countsAfter c s x room) xs room r
+      → TakenAs s c (x ∷ xs) room (later r)
+  goes-on r e t =
+      rw (add-one (r .taken))
+      (record {
+        most = omega (arith, t .most);
+        state = t .state;
+        counts = t .counts;
+        verdict = t .verdict ∙ sym (last-silent rest) ∙ ap (λ (v : Verdict). lastOf (v ∷ rest)) (sym e);
+        quiet = quiet;
+        all = λ k. ap suc (t .all k);
+      })
+    where
+      rest : List Verdict
+      rest = answersOver (stateAfter s x) (take (r .taken) xs) room
+
+      quiet : (i : ℕ) → suc i < suc (r .taken) → getD (verdictDue s x room ∷ rest) i silent ≡ silent
+      quiet zero h = e
+      quiet (suc i) h = t .quiet i (omega arith)
+
+  abbrev stopped : SliceRun
+  stopped = record { state = stateAfter s x; counts = countsAfter c s x room; taken = 1; verdict = verdictDue s x room }
+
+  -- the first octet brings an answer
+  stops : (verdictDue s x room ≡ silent → ⊥) → TakenAs s c (x ∷ xs) room stopped
+  stops n =
+      record {
+        most = omega arith;
+        state = refl;
+        counts = refl;
+        verdict = refl;
+        quiet = λ i h. absurd (omega arith);
+        all = λ e. absurd (n e);
+      }
+
+  by-answer : (r : SliceRun) → TakenAs (stateAfter s x) (countsAfter c s x room) xs room r → (v : Verdict) → verdictDue s x room ≡ v
+      → TakenAs s c (x ∷ xs) room (endAt v stopped (later r))
+  by-answer r t silent e = goes-on r e t
+  by-answer r t (refused number) e = stops (λ k. refused-answers number (sym e ∙ k))
+  by-answer r t (delivered octets) e = stops (λ k. delivered-answers octets (sym e ∙ k))
+
+pub slice-is-octets : SliceIsOctets
+unfolding sliceRun
+slice-is-octets s c [] room =
+    record {
+      most = omega arith;
+      state = refl;
+      counts = refl;
+      verdict = refl;
+      quiet = λ i h. absurd (omega arith);
+      all = λ e. refl;
+    }
+slice-is-octets s c (x ∷ xs) room =
+    by-answer s c x xs room _ (slice-is-octets (stateAfter s x) (countsAfter c s x room) xs room) (verdictDue s x room) refl
+
+-- ---- the calls by the octet
+
+-- the answer that tells this
+abbrev answerTo : ReceiverAnswer → Answer
+answerTo nothing = Nothing
+answerTo (refusal number) = Refused number
+answerTo (body octets) = Delivered octets
+
+tells : (t : ReceiverAnswer) → receiverAnswer (answerTo t) ≡ t
+tells nothing = refl
+tells (refusal number) = refl
+tells (body octets) = refl
+
+told-once : (a : Answer) → a ≡ answerTo (receiverAnswer a)
+told-once Nothing = refl
+told-once (Refused number) = refl
+told-once (Delivered octets) = refl
+
+-- what the contracts leave of a call with an octet, and of one with a slice that comes to this run
+abbrev called : State → Counts → ℕ → List ℕ → Observed
+called s c x output =
+    let v : Verdict = verdictDue s x (length output) in
+    record {
+      octet = x;
+      output = output;
+      given =
+          record {
+            rest = stateAfter s x .rest;
+            counts = countsAfter c s x (length output);
+            answer = answerTo (answerFor v);
+          };
+      storeAfter = stateAfter s x .store;
+      outputThen = outputAtFlag v output;
+    }
+
+abbrev calledWith : List ℕ → List ℕ → SliceRun → ObservedSlice
+calledWith xs output r =
+    record {
+      line = xs;
+      output = output;
+      given =
+          record { rest = r .state .rest; counts = r .counts; answer = answerTo (answerFor (r .verdict)); taken = r .taken };
+      storeAfter = r .state .store;
+      outputThen = outputAtFlag (r .verdict) output;
+    }
+
+meets : (s : State) (c : Counts) (x : ℕ) (output : List ℕ) → Meets (s .rest) c (s .store) (called s c x output)
+meets s c x output = record { state = refl; account = refl; answers = tells _; puts = refl }
+
+-- a silent call before others
+silent-first : (t : ReceiverAnswer) (o : Observed) (os : List Observed) → receiverAnswer (o .given .answer) ≡ nothing → AnswersLast t os
+    → AnswersLast t (o ∷ os)
+silent-first t o [] e a = e ∙ a
+silent-first t o (p ∷ os) e a = (e, a)
+
+module _ (s : State) (c : Counts) (x : ℕ) (xs : List ℕ) (output : List ℕ) (small : x < 256) where
+  abbrev first : Observed
+  first = called s c x output
+
+  call-then : (r : SliceRun) → verdictDue s x (length output) ≡ silent
+      → CallsOf (stateAfter s x .rest) (countsAfter c s x (length output)) (stateAfter s x .store) (calledWith xs output r)
+      → CallsOf (s .rest) c (s .store) (calledWith (x ∷ xs) output (later r))
+  call-then r e k =
+      rw (add-one (r .taken))
+      (record {
+        calls = first ∷ k .calls;
+        runs = (small, meets s c x output, k .runs);
+        octets = ap (λ (l : List ℕ). x ∷ l) (k .octets);
+        rooms = ap (λ (l : List ℕ). length output ∷ l) (k .rooms);
+        lent = (refl, subst (λ (l : List ℕ). Lent l (k .calls)) (sym same) (k .lent));
+        leaves = k .leaves;
+        puts = ap (λ (l : List ℕ). outputLast l (k .calls)) same ∙ k .puts;
+        answers = silent-first _ first (k .calls) (tells _ ∙ ap answerFor e) (k .answers);
+      })
+    where
+      same : first .outputThen ≡ output
+      same = ap (λ (v : Verdict). outputAtFlag v output) e
+
+  call-only : CallsOf (s .rest) c (s .store) (calledWith (x ∷ xs) output (stopped s c x xs (length output)))
+  call-only =
+      record {
+        calls = first ∷ [];
+        runs = (small, meets s c x output, tt);
+        octets = refl;
+        rooms = refl;
+        lent = (refl, tt);
+        leaves = refl;
+        puts = refl;
+        answers = refl;
+      }
+
+  calls-by-answer : (r : SliceRun)
+      → CallsOf (stateAfter s x .rest) (countsAfter c s x (length output)) (stateAfter s x .store) (calledWith xs output r)
+      → (v : Verdict) → verdictDue s x (length output) ≡ v
+      → CallsOf (s .rest) c (s .store) (calledWith (x ∷ xs) output (endAt v (stopped s c x xs (length output)) (later r)))
+  calls-by-answer r k silent e = call-then r e k
+  calls-by-answer r k (refused number) e = call-only
+  calls-by-answer r k (delivered octets) e = call-only
+
+calls-of-run : (s : State) (c : Counts) (xs output : List ℕ) → Octets xs
+    → CallsOf (s .rest) c (s .store) (calledWith xs output (sliceRun s c xs (length output)))
+unfolding sliceRun
+calls-of-run s c [] output small =
+    record { calls = []; runs = tt; octets = refl; rooms = refl; lent = tt; leaves = refl; puts = refl; answers = refl }
+calls-of-run s c (x ∷ xs) output small =
+    calls-by-answer s c x xs output (small 0) _
+    (calls-of-run (stateAfter s x) (countsAfter c s x (length output)) xs output (λ i. small (suc i))) (verdictDue s x (length output)) refl
+
+pub slice-runs : SliceRuns
+slice-runs rest counts store s t =
+    subst (CallsOf rest counts store) (sym same)
+    (calls-of-run (record { rest = rest; store = store }) counts (s .line) (s .output) (t .0))
+  where
+    same : s ≡ calledWith (s .line) (s .output) (sliceRun (record { rest = rest; store = store }) counts (s .line) (length (s .output)))
+    same =
+        λ i.
+        record {
+          line = s .line;
+          output = s .output;
+          given =
+              record {
+                rest = t .1 .state i .rest;
+                counts = t .1 .account i;
+                answer = (told-once (s .given .answer) ∙ ap answerTo (t .1 .answers)) i;
+                taken = t .1 .taken i;
+              };
+          storeAfter = t .1 .state i .store;
+          outputThen = t .1 .puts i;
+        }
+
+-- ---- a line driven by slices
+
+gather : (f : Observed → ℕ) (os ps : List Observed) {l m : List ℕ} → map f os ≡ l → map f ps ≡ m → map f (os ++ ps) ≡ l ++ m
+gather f os ps e k = map-append f os ps ∙ ap₂ (λ (a b : List ℕ). a ++ b) e k
+
+abbrev RunsFrom : Held → List Observed → Type 0
+RunsFrom h = Runs (h .rest) (h .counts) (h .store)
+
+runs-append : (h : Held) (os ps : List Observed) → RunsFrom h os → RunsFrom (recordAfter h os) ps → RunsFrom h (os ++ ps)
+runs-append h [] ps r q = q
+runs-append h (o ∷ os) ps r q = (r .0, r .1, runs-append _ os ps (r .2) q)
+
+record-append : (h : Held) (os ps : List Observed) → recordAfter h (os ++ ps) ≡ recordAfter (recordAfter h os) ps
+record-append h [] ps = refl
+record-append h (o ∷ os) ps = record-append _ os ps
+
+calls-up-to : (rest : Rest) (counts : Counts) (store : List ℕ) (before after : List ObservedSlice) (s : ObservedSlice)
+    → SlicesRun rest counts store (before ++ s ∷ after) → CallsUpTo rest counts store before s
+calls-up-to rest counts store [] after s r =
+    let k = slice-runs rest counts store s (r .0) in
+    record {
+      earlier = [];
+      octets = refl;
+      rooms = refl;
+      met = record { rest = rest; counts = counts; store = store };
+      meets = refl;
+      own = k;
+      runs = k .runs;
+    }
+calls-up-to rest counts store (b ∷ before) after s r =
+    let k = slice-runs rest counts store b (r .0) in
+    let j = calls-up-to (b .given .rest) (b .given .counts) (b .storeAfter) before after s (r .1) in
+    record {
+      earlier = k .calls ++ j .earlier;
+      octets = gather _ (k .calls) (j .earlier) (k .octets) (j .octets);
+      rooms = gather _ (k .calls) (j .earlier) (k .rooms) (j .rooms);
+      met = j .met;
+      meets = record-append _ (k .calls) (j .earlier) ∙ ap (λ (h : Held). recordAfter h (j .earlier)) (k .leaves) ∙ j .meets;
+      own = j .own;
+      runs =
+          rw append-assoc
+          (runs-append (record { rest = rest; counts = counts; store = store }) (k .calls) (j .earlier ++ j .own .calls) (k .runs)
+          (subst (λ (h : Held). RunsFrom h (j .earlier ++ j .own .calls)) (sym (k .leaves)) (j .runs)));
+    }
+
+pub line-of-slices : LineOfSlices
+line-of-slices = calls-up-to freshRest zeroCounts noOctets
+
+-- the last of some calls
+record Last (t : ReceiverAnswer) (held : Held) (output : List ℕ) (os : List Observed) : Type 0 where
+  earlier : List Observed
+  last : Observed
+  parts : os ≡ earlier ++ last ∷ []
+  answer : receiverAnswer (last .given .answer) ≡ t
+  leaves : recordAfter held os ≡ record { rest = last .given .rest; counts = last .given .counts; store = last .storeAfter }
+  puts : outputLast output os ≡ last .outputThen
+
+last-call : (t : ReceiverAnswer) (held : Held) (output : List ℕ) (o : Observed) (os : List Observed) → AnswersLast t (o ∷ os)
+    → Last t held output (o ∷ os)
+last-call t held output o [] a =
+    record { earlier = []; last = o; parts = refl; answer = a; leaves = refl; puts = refl }
+last-call t held output o (p ∷ os) a =
+    let k = last-call t held output p os (a .1) in
+    record {
+      earlier = o ∷ k .earlier;
+      last = k .last;
+      parts = ap (λ (l : List Observed). o ∷ l) (k .parts);
+      answer = k .answer;
+      leaves = k .leaves;
+      puts = k .puts;
+    }
+
+-- the calls of a slice that took an octet are not none
+last-of : (met : Held) (s : ObservedSlice) (k : CallsOf (met .rest) (met .counts) (met .store) s) → 1 ≤ s .given .taken
+    → Last (receiverAnswer (s .given .answer)) met (s .output) (k .calls)
+last-of met s k some = go (k .calls) (k .rooms) (k .answers)
+  where
+    t : ReceiverAnswer
+    t = receiverAnswer (s .given .answer)
+
+    go : (os : List Observed) → map (λ (o : Observed). length (o .output)) os ≡ roomsOf s → AnswersLast t os → Last t met (s .output) os
+    go [] e a = absurd (omega (arith, length-replicate (s .given .taken) (length (s .output)), ap length e))
+    go (o ∷ os) e a = last-call t met (s .output) o os a
+
+pub slice-is-call : SliceIsCall
+slice-is-call before after s r some =
+    record {
+      earlier = u .earlier ++ k .earlier;
+      last = k .last;
+      line = subst Line whole (u .runs);
+      octets = rw (← whole) (gather _ (u .earlier) (u .own .calls) (u .octets) (u .own .octets));
+      rooms = rw (← whole) (gather _ (u .earlier) (u .own .calls) (u .rooms) (u .own .rooms));
+      answer = k .answer;
+      rest = ap (λ (h : Held). h .rest) left;
+      counts = ap (λ (h : Held). h .counts) left;
+      storeAfter = ap (λ (h : Held). h .store) left;
+      outputThen = sym (k .puts) ∙ u .own .puts;
+    }
+  where
+    u : CallsUpTo freshRest zeroCounts noOctets before s
+    u = line-of-slices before after s r
+
+    k : Last (receiverAnswer (s .given .answer)) (u .met) (s .output) (u .own .calls)
+    k = last-of (u .met) s (u .own) some
+
+    whole : u .earlier ++ u .own .calls ≡ (u .earlier ++ k .earlier) ++ k .last ∷ []
+    whole =
+        ap (λ (l : List Observed). u .earlier ++ l) (k .parts)
+        ∙ sym (append-assoc (u .earlier) (k .earlier) (k .last ∷ []))
+
+    left : _≡_ {A = Held} (record { rest = k .last .given .rest; counts = k .last .given .counts; store = k .last .storeAfter })
+        (record { rest = s .given .rest; counts = s .given .counts; store = s .storeAfter })
+    left = sym (k .leaves) ∙ u .own .leaves

@@ -1,0 +1,163 @@
+-- A slice of line octets is taken as its octets would be, a call for each with the same room; so a line driven by slices
+-- is a line of calls by the octet, and what holds of those holds of it. Assumes nothing.
+use mathlib.Core.Path.{_≡_}
+use mathlib.Core.List.{List, [], _∷_, _++_, map}
+use Prim.Native.Nat.{ℕ, suc, _<_, _≤_}
+use lib.ListN.{length, take, getD, replicate}
+use Rattle.crc_polynomial.specs.Bits.{Octets}
+use Rattle.ucp_frame.specs.Stretch.{Verdict, silent}
+use Rattle.ucp_receiver.specs.declared.Rest.{Rest}
+use Rattle.ucp_receiver.specs.declared.Counts.{Counts}
+use Rattle.ucp_receiver.specs.declared.Taken.{Taken}
+use Rattle.ucp_receiver.specs.Answers.{ReceiverAnswer, nothing, receiverAnswer}
+use Rattle.ucp_receiver.specs.Account.{zeroCounts}
+use Rattle.ucp_receiver.specs.Octet.{State, noOctets, freshRest, stateAfter, verdictDue, countsAfter}
+use Rattle.ucp_receiver.specs.Slice.{SliceRun, sliceRun, Takes}
+use Rattle.thm_ucp_receiver.specs.Line.{Observed, Runs, Line}
+
+-- the record, its counts and the answers after a call for each of these octets
+abbrev pub stateOver : State → List ℕ → State
+stateOver s [] = s
+stateOver s (x ∷ xs) = stateOver (stateAfter s x) xs
+
+abbrev pub countsOver : Counts → State → List ℕ → ℕ → Counts
+countsOver c s [] room = c
+countsOver c s (x ∷ xs) room = countsOver (countsAfter c s x room) (stateAfter s x) xs room
+
+abbrev pub answersOver : State → List ℕ → ℕ → List Verdict
+answersOver s [] room = []
+answersOver s (x ∷ xs) room = verdictDue s x room ∷ answersOver (stateAfter s x) xs room
+
+-- the last of some answers
+abbrev pub lastOf : List Verdict → Verdict
+lastOf [] = silent
+lastOf (v ∷ []) = v
+lastOf (v ∷ w ∷ ws) = lastOf (w ∷ ws)
+
+-- the octets taken are run one by one, and all but the last of them are silent; with no answer all are taken
+pub record TakenAs (s : State) (c : Counts) (xs : List ℕ) (room : ℕ) (r : SliceRun) : Type 0 where
+  pub most : r .taken ≤ length xs
+  pub state : r .state ≡ stateOver s (take (r .taken) xs)
+  pub counts : r .counts ≡ countsOver c s (take (r .taken) xs) room
+  pub verdict : r .verdict ≡ lastOf (answersOver s (take (r .taken) xs) room)
+  pub quiet : (i : ℕ) → suc i < r .taken → getD (answersOver s (take (r .taken) xs) room) i silent ≡ silent
+  pub all : r .verdict ≡ silent → r .taken ≡ length xs
+
+abbrev pub SliceIsOctets : Type 0
+SliceIsOctets = (s : State) (c : Counts) (xs : List ℕ) (room : ℕ) → TakenAs s c xs room (sliceRun s c xs room)
+
+-- ---- a call with a slice as calls by the octet
+
+-- one call with a slice: the slice and the output as at entry; what is given back, the store and the output as at return
+pub record ObservedSlice : Type 0 where
+  pub line : List ℕ
+  pub output : List ℕ
+  pub given : Taken
+  pub storeAfter : List ℕ
+  pub outputThen : List ℕ
+
+-- the slice has octets, and the call meets the contract from this record
+abbrev pub MeetsSlice : Rest → Counts → List ℕ → ObservedSlice → Type 0
+MeetsSlice rest counts store s =
+    Octets (s .line) × Takes rest counts store (s .line) (s .output) (s .given) (s .storeAfter) (s .outputThen)
+
+-- the octets that it took
+abbrev pub sliceOctets : ObservedSlice → List ℕ
+sliceOctets s = take (s .given .taken) (s .line)
+
+-- the rooms lent to a call for each of them
+abbrev pub roomsOf : ObservedSlice → List ℕ
+roomsOf s = replicate (s .given .taken) (length (s .output))
+
+-- the record, whole
+pub record Held : Type 0 where
+  pub rest : Rest
+  pub counts : Counts
+  pub store : List ℕ
+
+-- after some calls by the octet, the record and the output are as the last of them left them
+abbrev pub recordAfter : Held → List Observed → Held
+recordAfter held [] = held
+recordAfter held (o ∷ os) = recordAfter (record { rest = o .given .rest; counts = o .given .counts; store = o .storeAfter }) os
+
+abbrev pub outputLast : List ℕ → List Observed → List ℕ
+outputLast output [] = output
+outputLast output (o ∷ os) = outputLast (o .outputThen) os
+
+-- each call is lent the output as the one before left it, the first of them this one
+abbrev pub Lent : List ℕ → List Observed → Type 0
+Lent output [] = Unit
+Lent output (o ∷ os) = (o .output ≡ output) × Lent (o .outputThen) os
+
+-- all calls but the last are silent, and the last answers this; where there is no call, this is silence
+abbrev pub AnswersLast : ReceiverAnswer → List Observed → Type 0
+AnswersLast t [] = nothing ≡ t
+AnswersLast t (o ∷ []) = receiverAnswer (o .given .answer) ≡ t
+AnswersLast t (o ∷ p ∷ os) = (receiverAnswer (o .given .answer) ≡ nothing) × AnswersLast t (p ∷ os)
+
+-- calls by the octet, from the same record and with the same output, that come to what the call with the slice comes to
+pub record CallsOf (rest : Rest) (counts : Counts) (store : List ℕ) (s : ObservedSlice) : Type 0 where
+  pub calls : List Observed
+  pub runs : Runs rest counts store calls
+  pub octets : map (λ (o : Observed). o .octet) calls ≡ sliceOctets s
+  pub rooms : map (λ (o : Observed). length (o .output)) calls ≡ roomsOf s
+  pub lent : Lent (s .output) calls
+  pub leaves :
+      recordAfter (record { rest = rest; counts = counts; store = store }) calls
+      ≡ record { rest = s .given .rest; counts = s .given .counts; store = s .storeAfter }
+  pub puts : outputLast (s .output) calls ≡ s .outputThen
+  pub answers : AnswersLast (receiverAnswer (s .given .answer)) calls
+
+abbrev pub SliceRuns : Type 0
+SliceRuns = (rest : Rest) (counts : Counts) (store : List ℕ) (s : ObservedSlice) → MeetsSlice rest counts store s → CallsOf rest counts store s
+
+-- ---- a line driven by slices
+
+-- each of these calls meets the contract, the first from this record and the others from what the one before gave back
+abbrev pub SlicesRun : Rest → Counts → List ℕ → List ObservedSlice → Type 0
+SlicesRun rest counts store [] = Unit
+SlicesRun rest counts store (s ∷ ss) =
+    MeetsSlice rest counts store s × SlicesRun (s .given .rest) (s .given .counts) (s .storeAfter) ss
+
+abbrev pub SliceLine : List ObservedSlice → Type 0
+SliceLine = SlicesRun freshRest zeroCounts noOctets
+
+-- the octets, or the rooms, of calls with slices one after the other
+abbrev pub gathered : (ObservedSlice → List ℕ) → List ObservedSlice → List ℕ
+gathered f [] = []
+gathered f (s ∷ ss) = f s ++ gathered f ss
+
+-- calls by the octet for the slices before, and then those of this slice, run from this record
+pub record CallsUpTo (rest : Rest) (counts : Counts) (store : List ℕ) (before : List ObservedSlice) (s : ObservedSlice) : Type 0 where
+  pub earlier : List Observed
+  pub octets : map (λ (o : Observed). o .octet) earlier ≡ gathered sliceOctets before
+  pub rooms : map (λ (o : Observed). length (o .output)) earlier ≡ gathered roomsOf before
+  pub met : Held
+  pub meets : recordAfter (record { rest = rest; counts = counts; store = store }) earlier ≡ met
+  pub own : CallsOf (met .rest) (met .counts) (met .store) s
+  pub runs : Runs rest counts store (earlier ++ own .calls)
+
+-- a line driven by slices is a line of calls by the octet, up to each of its slices
+abbrev pub LineOfSlices : Type 0
+LineOfSlices =
+    (before after : List ObservedSlice) (s : ObservedSlice) → SliceLine (before ++ s ∷ after)
+    → CallsUpTo freshRest zeroCounts noOctets before s
+
+-- a line of calls by the octet that ends in a call which gives back what this slice does
+pub record EndsAsSlice (before : List ObservedSlice) (s : ObservedSlice) : Type 0 where
+  pub earlier : List Observed
+  pub last : Observed
+  pub line : Line (earlier ++ last ∷ [])
+  pub octets : map (λ (o : Observed). o .octet) (earlier ++ last ∷ []) ≡ gathered sliceOctets before ++ sliceOctets s
+  pub rooms : map (λ (o : Observed). length (o .output)) (earlier ++ last ∷ []) ≡ gathered roomsOf before ++ roomsOf s
+  pub answer : receiverAnswer (last .given .answer) ≡ receiverAnswer (s .given .answer)
+  pub rest : last .given .rest ≡ s .given .rest
+  pub counts : last .given .counts ≡ s .given .counts
+  pub storeAfter : last .storeAfter ≡ s .storeAfter
+  pub outputThen : last .outputThen ≡ s .outputThen
+
+-- so every promise of a line's call holds of a slice that took an octet
+abbrev pub SliceIsCall : Type 0
+SliceIsCall =
+    (before after : List ObservedSlice) (s : ObservedSlice) → SliceLine (before ++ s ∷ after) → 1 ≤ s .given .taken
+    → EndsAsSlice before s

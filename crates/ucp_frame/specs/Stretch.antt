@@ -1,0 +1,49 @@
+-- What is due for the line octets between two flags, a stretch (document 01, "The receiver, byte by byte" and the table's
+-- rows 1 to 6). Assumes nothing.
+use mathlib.Core.Bool.{cond}
+use mathlib.Core.List.{List, [], _∷_}
+use Prim.Native.Nat.{ℕ, _+_, _*_, _-_}
+use lib.Dec.{eqb, ltb}
+use lib.ListN.{length, take, getD}
+use Rattle.crc_gdl90.specs.Check.{frameCheck}
+use Rattle.ucp_frame.specs.Unstuffing.{Ending, whole, escapeLast, badEscape, Unstuffed, unstuffed}
+
+-- an answer in the paper's terms: none, a refusal's number, or the body that is put out
+pub data Verdict : Type 0 where
+  silent : Verdict
+  refused : ℕ → Verdict
+  delivered : List ℕ → Verdict
+
+-- how many unstuffed octets the store holds
+abbrev pub storeOctets : ℕ
+storeOctets = 438
+
+-- the unstuffed octets without the last two, which are the check, low octet first
+abbrev pub withoutCheck : List ℕ → List ℕ
+withoutCheck octets = take (length octets - 2) octets
+
+abbrev pub checkSent : List ℕ → ℕ
+checkSent octets = getD octets (length octets - 2) 0 + getD octets (length octets - 1) 0 * 256
+
+-- decided at the flag, in the table's order: 4, 5, 6, or the body
+unfoldable pub atFlag : List ℕ → ℕ → Verdict
+atFlag octets room =
+    cond (ltb (length octets) 3) (refused 4)
+    (cond (eqb (checkSent octets) (frameCheck (withoutCheck octets)))
+    (cond (ltb room (length (withoutCheck octets))) (refused 6)
+    (delivered (withoutCheck octets)))
+    (refused 5))
+
+abbrev pub byEnding : Ending → List ℕ → ℕ → Verdict
+byEnding badEscape octets room = refused 1
+byEnding escapeLast octets room = refused 2
+byEnding whole octets room = atFlag octets room
+
+-- the first fault from the left is kept: the 439th unstuffed octet comes before whatever ends the reading
+unfoldable pub judged : Unstuffed → ℕ → Verdict
+judged u room = cond (ltb storeOctets (length (u .octets))) (refused 3) (byEnding (u .ending) (u .octets) room)
+
+-- a stretch with no octet in it gives no answer
+unfoldable pub verdict : List ℕ → ℕ → Verdict
+verdict [] room = silent
+verdict (x ∷ xs) room = judged (unstuffed (x ∷ xs)) room

@@ -1,0 +1,3 @@
+pub mod Uplink
+pub mod Gdl90Formats
+pub mod ControlFormats

@@ -1,0 +1,95 @@
+-- The answer of each kind's own reader, in the paper's terms. Assumes nothing.
+use mathlib.Core.Path.{_≡_, ap, _∙_}
+use mathlib.Core.List.{List}
+use Prim.Native.Nat.{ℕ}
+use Rattle.ucp_answers.proofs.Readers.{told}
+use Rattle.ucp_kinds.specs.declared.HeartbeatRead.{HeartbeatRead}
+use Rattle.ucp_kinds.specs.declared.HeartbeatRead.the-variants as heartbeat
+use Rattle.ucp_kinds.specs.declared.UplinkRead.{UplinkRead}
+use Rattle.ucp_kinds.specs.declared.UplinkRead.the-variants as uplink
+use Rattle.ucp_kinds.specs.declared.ReportRead.{ReportRead}
+use Rattle.ucp_kinds.specs.declared.ReportRead.the-variants as report
+use Rattle.ucp_kinds.specs.declared.GeometricAltitudeRead.{GeometricAltitudeRead}
+use Rattle.ucp_kinds.specs.declared.GeometricAltitudeRead.the-variants as geometric
+use Rattle.ucp_kinds.specs.declared.RequestRead.{RequestRead}
+use Rattle.ucp_kinds.specs.declared.RequestRead.the-variants as request
+use Rattle.ucp_kinds.specs.declared.ControlRead.{ControlRead}
+use Rattle.ucp_kinds.specs.declared.ControlRead.the-variants as control
+use Rattle.ucp_kinds.specs.declared.InitializationRead.{InitializationRead}
+use Rattle.ucp_kinds.specs.declared.InitializationRead.the-variants as initialization
+use Rattle.field_format.specs.Formats.{valueIn, refusalOf, reads}
+use Rattle.field_format.proofs.Answers.{retold}
+use Rattle.ucp_kinds.specs.Heartbeat0.{heartbeatFormat}
+use Rattle.ucp_kinds.specs.Uplink7.{uplinkRefusal, uplinkRead}
+use Rattle.ucp_kinds.specs.Report10.{reportFormat}
+use Rattle.ucp_kinds.specs.GeometricAltitude11.{geometricFormat}
+use Rattle.ucp_kinds.specs.Request44.{requestFormat}
+use Rattle.ucp_kinds.specs.Control45.{controlFormat}
+use Rattle.ucp_kinds.specs.Initialization117.{initializationFormat}
+use Rattle.ucp_messages.specs.declared.Kind.the-variants as kind
+use Rattle.ucp_messages.specs.declared.Message.the-variants as message
+use Rattle.ucp_messages.specs.Reads.{ReaderAnswer, refused, means, refusalIn, answerAs}
+
+abbrev pub heartbeatAnswer : HeartbeatRead → ReaderAnswer
+heartbeatAnswer (heartbeat.Heartbeat h) = means (message.Heartbeat h)
+heartbeatAnswer (heartbeat.Refused number) = refused number
+
+pub heartbeat-answer : {r : HeartbeatRead} (body : List ℕ) → r ≡ reads heartbeatFormat heartbeat.Refused heartbeat.Heartbeat body → heartbeatAnswer r ≡ answerAs kind.Heartbeat body
+unfolding answerAs
+heartbeat-answer body e = ap heartbeatAnswer e ∙ retold heartbeatFormat heartbeatAnswer heartbeat.Refused heartbeat.Heartbeat body
+
+abbrev pub uplinkAnswer : UplinkRead → ReaderAnswer
+uplinkAnswer uplink.Uplink = means message.Uplink
+uplinkAnswer (uplink.Refused number) = refused number
+
+pub uplink-answer : {r : UplinkRead} (body : List ℕ) → r ≡ uplinkRead body → uplinkAnswer r ≡ answerAs kind.Uplink body
+unfolding answerAs refusalIn uplinkRead
+uplink-answer body e = ap uplinkAnswer e ∙ told uplinkAnswer uplink.Refused (uplinkRefusal body) uplink.Uplink
+
+abbrev pub ownshipAnswer : ReportRead → ReaderAnswer
+ownshipAnswer (report.Report r) = means (message.Ownship r)
+ownshipAnswer (report.Refused number) = refused number
+
+pub ownship-answer : {r : ReportRead} (body : List ℕ) → r ≡ reads (reportFormat 10) report.Refused report.Report body → ownshipAnswer r ≡ answerAs kind.Ownship body
+unfolding answerAs reads refusalOf valueIn
+ownship-answer body e = ap ownshipAnswer e ∙ retold (reportFormat 10) ownshipAnswer report.Refused report.Report body
+
+abbrev pub geometricAnswer : GeometricAltitudeRead → ReaderAnswer
+geometricAnswer (geometric.GeometricAltitude a) = means (message.GeometricAltitude a)
+geometricAnswer (geometric.Refused number) = refused number
+
+pub geometric-answer : {r : GeometricAltitudeRead} (body : List ℕ) → r ≡ reads geometricFormat geometric.Refused geometric.GeometricAltitude body → geometricAnswer r ≡ answerAs kind.GeometricAltitude body
+unfolding answerAs
+geometric-answer body e = ap geometricAnswer e ∙ retold geometricFormat geometricAnswer geometric.Refused geometric.GeometricAltitude body
+
+abbrev pub trafficAnswer : ReportRead → ReaderAnswer
+trafficAnswer (report.Report r) = means (message.Traffic r)
+trafficAnswer (report.Refused number) = refused number
+
+pub traffic-answer : {r : ReportRead} (body : List ℕ) → r ≡ reads (reportFormat 10) report.Refused report.Report body → trafficAnswer r ≡ answerAs kind.Traffic body
+unfolding answerAs reads refusalOf valueIn
+traffic-answer body e = ap trafficAnswer e ∙ retold (reportFormat 10) trafficAnswer report.Refused report.Report body
+
+abbrev pub requestAnswer : RequestRead → ReaderAnswer
+requestAnswer (request.Request r) = means (message.Request r)
+requestAnswer (request.Refused number) = refused number
+
+pub request-answer : {r : RequestRead} (body : List ℕ) → r ≡ reads requestFormat request.Refused request.Request body → requestAnswer r ≡ answerAs kind.Request body
+unfolding answerAs
+request-answer body e = ap requestAnswer e ∙ retold requestFormat requestAnswer request.Refused request.Request body
+
+abbrev pub controlAnswer : ControlRead → ReaderAnswer
+controlAnswer (control.Control c) = means (message.Control c)
+controlAnswer (control.Refused number) = refused number
+
+pub control-answer : {r : ControlRead} (body : List ℕ) → r ≡ reads controlFormat control.Refused control.Control body → controlAnswer r ≡ answerAs kind.Control body
+unfolding answerAs
+control-answer body e = ap controlAnswer e ∙ retold controlFormat controlAnswer control.Refused control.Control body
+
+abbrev pub initializationAnswer : InitializationRead → ReaderAnswer
+initializationAnswer (initialization.Initialization i) = means (message.Initialization i)
+initializationAnswer (initialization.Refused number) = refused number
+
+pub initialization-answer : {r : InitializationRead} (body : List ℕ) → r ≡ reads initializationFormat initialization.Refused initialization.Initialization body → initializationAnswer r ≡ answerAs kind.Initialization body
+unfolding answerAs
+initialization-answer body e = ap initializationAnswer e ∙ retold initializationFormat initializationAnswer initialization.Refused initialization.Initialization body

@@ -1,0 +1,166 @@
+// The receiver by the octet. The store is lent, so that a frame's octets rest in one place; the small rest of the record
+// goes in and comes back by value.
+use super::Phase;
+use super::Received;
+use super::Rest;
+ghost use mathlib.Core.Path.{_≡_};
+ghost use lib.ListN.{length};
+ghost use Rattle.ucp_receiver.specs.Closing.{Closes};
+ghost use Rattle.ucp_receiver.specs.Octet.{Receives, Advances, storing, advancedIn, closedIn, countedBy, freshRest, stateOf};
+use super::Answer;
+use super::Counts;
+
+// ---- an octet other than the flag
+
+// An unstuffed octet is stored behind the others; the 439th is a fault.
+fn put(rest: Rest, store: &mut [u8; 438], octet: u8) -> Rest
+    ensures { λ r. ⌜ stateOf r (now (store .exit)) ≡ storing octet (stateOf rest (now (store .entry))) ⌝ }
+{
+    let at = rest.stored;
+    if at < 438 {
+        store[at] = octet;
+        Rest {
+            phase: Phase::Reading,
+            stored: at + 1,
+        }
+    } else {
+        Rest {
+            phase: Phase::TooLong,
+            stored: at,
+        }
+    }
+}
+
+// The octet behind an escape.
+fn unescape(rest: Rest, store: &mut [u8; 438], octet: u8) -> Rest
+    ensures { λ r. ⌜ stateOf r (now (store .exit)) ≡ advancedIn Phase.Escape octet (stateOf rest (now (store .entry))) ⌝ }
+{
+    if octet == 0x5E {
+        put(rest, store, 0x7E)
+    } else if octet == 0x5D {
+        put(rest, store, 0x7D)
+    } else {
+        Rest {
+            phase: Phase::BadEscape,
+            stored: rest.stored,
+        }
+    }
+}
+
+// Any octet other than the flag.
+fn advance(rest: Rest, store: &mut [u8; 438], octet: u8) -> Rest
+    ensures { λ r. ⌜ stateOf r (now (store .exit)) ≡ advancedIn (rest .phase) octet (stateOf rest (now (store .entry))) ⌝ }
+{
+    let phase = rest.phase;
+    match phase {
+        Phase::Hunting => rest,
+        Phase::Reading => {
+            if octet == 0x7D {
+                Rest {
+                    phase: Phase::Escape,
+                    stored: rest.stored,
+                }
+            } else {
+                put(rest, store, octet)
+            }
+        }
+        Phase::Escape => unescape(rest, store, octet),
+        Phase::BadEscape => rest,
+        Phase::TooLong => rest,
+    }
+}
+
+// ---- the flag
+
+// The answer, in every phase, with the body put out where one is due.
+fn close(rest: Rest, store: &[u8; 438], output: &mut [u8]) -> Answer
+    ensures { λ r. ⌜ Closes r (now (store .entry)) (now (output .entry)) (now (output .exit)) (closedIn (rest .phase) (stateOf rest (now (store .entry))) (length (now (output .entry)))) ⌝ }
+{
+    let phase = rest.phase;
+    let stored = rest.stored;
+    match phase {
+        Phase::Hunting => Answer::Nothing,
+        Phase::Reading => super::closing::close_stretch(store, stored, output),
+        Phase::Escape => Answer::Refused(2),
+        Phase::BadEscape => Answer::Refused(1),
+        Phase::TooLong => Answer::Refused(3),
+    }
+}
+
+// ---- the byte account
+
+// n octets other than the flag, by the phase that they meet.
+pub fn count_octets(counts: Counts, phase: Phase, n: usize) -> Counts
+    ensures { λ r. ⌜ r ≡ countedBy phase n counts ⌝ }
+{
+    match phase {
+        Phase::Hunting => super::account::count_skipped(counts, n),
+        Phase::Reading => super::account::count_open(counts, n),
+        Phase::Escape => super::account::count_open(counts, n),
+        Phase::BadEscape => super::account::count_open(counts, n),
+        Phase::TooLong => super::account::count_open(counts, n),
+    }
+}
+
+// ---- one octet
+
+// The flag: the answer is due, the store is cleared, and the next stretch begins.
+pub fn receive_flag(
+    rest: Rest,
+    counts: Counts,
+    store: &mut [u8; 438],
+    output: &mut [u8],
+) -> Received
+    ensures { λ r. ⌜ Receives rest counts (now (store .entry)) 0x7E (now (output .entry)) r (now (store .exit)) (now (output .exit)) ⌝ }
+{
+    let answer = close(rest, store, output);
+    *store = [0; 438];
+    Received {
+        rest: Rest {
+            phase: Phase::Reading, // whatever the last one was
+            stored: 0,
+        },
+        counts: super::account::count_flag(counts, answer),
+        answer,
+    }
+}
+
+// Any other octet brings no answer.
+pub fn receive_other(rest: Rest, counts: Counts, store: &mut [u8; 438], octet: u8) -> Received
+    ensures { λ r. ⌜ Advances rest counts (now (store .entry)) octet r (now (store .exit)) ⌝ }
+{
+    let phase = rest.phase;
+    Received {
+        rest: advance(rest, store, octet),
+        counts: count_octets(counts, phase, 1),
+        answer: Answer::Nothing,
+    }
+}
+
+// One octet of the line, from any value of the record.
+pub fn receive(
+    rest: Rest,
+    counts: Counts,
+    store: &mut [u8; 438],
+    octet: u8,
+    output: &mut [u8],
+) -> Received
+    ensures { λ r. ⌜ Receives rest counts (now (store .entry)) octet (now (output .entry)) r (now (store .exit)) (now (output .exit)) ⌝ }
+{
+    if octet == 0x7E {
+        receive_flag(rest, counts, store, output)
+    } else {
+        receive_other(rest, counts, store, octet)
+    }
+}
+
+// ---- the record at the start: this, the zero account, and the store [0; 438]
+
+pub fn fresh_rest() -> Rest
+    ensures { λ r. ⌜ r ≡ freshRest ⌝ }
+{
+    Rest {
+        phase: Phase::Hunting,
+        stored: 0,
+    }
+}

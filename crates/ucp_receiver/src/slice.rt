@@ -1,0 +1,223 @@
+// The receiver by the slice: what `receive` does octet by octet, up to and including the octet that brings the next answer.
+use super::Taken;
+ghost use mathlib.Core.Path.{_≡_};
+ghost use mathlib.Core.List.{List};
+ghost use Prim.Native.Nat.{ℕ, _+_, _<_, _≤_};
+ghost use lib.ListN.{length};
+ghost use Rattle.ucp_receiver.specs.Octet.{Receives};
+ghost use Rattle.ucp_receiver.specs.Slice.{Takes};
+ghost use Rattle.ucp_receiver.specs.Steps.{PutsPlain, NoFlag, Ignores, Passes, isAnswer, Turns};
+use super::Answer;
+use super::Counts;
+use super::Phase;
+use super::Received;
+use super::Rest;
+
+// How many octets of a slice were passed without a full step.
+struct Passed {
+    rest: Rest,
+    counts: Counts,
+    taken: usize,
+}
+
+// How many octets there is room for in the store and that the slice has.
+fn most_plain(stored: usize, line: &[u8], from: usize) -> usize
+    requires { ⌜ (stored ≤ 438) × (from ≤ length (now line)) ⌝ }
+    ensures { λ r. ⌜ (stored + r ≤ 438) × (from + r ≤ length (now (line .entry))) ⌝ }
+{
+    let room = 438 - stored;
+    let left = line.len() - from;
+    if room < left { room } else { left }
+}
+
+// Octets that are neither flag nor escape are stored as they are, up to the first other one: how many. Apart from the step
+// of `receive`, so that its loop is short.
+fn put_plain(store: &mut [u8; 438], stored: usize, line: &[u8], from: usize) -> usize
+    requires { ⌜ (stored ≤ 438) × (from ≤ length (now line)) ⌝ }
+    ensures { λ r. ⌜ PutsPlain (now (store .entry)) stored (now (line .entry)) from r (now (store .exit)) ⌝ }
+{
+    let most = most_plain(stored, line, from);
+    let mut n = 0;
+    while n < most {
+        let octet = line[from + n];
+        if octet == 0x7D {
+            return n;
+        }
+        if octet == 0x7E {
+            return n;
+        }
+        store[stored + n] = octet;
+        n += 1;
+    }
+    n
+}
+
+// How many octets there are before the next flag, or the slice's end.
+fn to_flag(line: &[u8], from: usize) -> usize
+    requires { ⌜ from ≤ length (now line) ⌝ }
+    ensures { λ r. ⌜ NoFlag (now (line .entry)) from r ⌝ }
+{
+    let left = line.len() - from;
+    let mut n = 0;
+    while n < left {
+        if line[from + n] == 0x7E {
+            return n;
+        }
+        n += 1;
+    }
+    n
+}
+
+// The octets that a phase only counts.
+fn pass_ignored(rest: Rest, counts: Counts, line: &[u8], from: usize) -> Passed
+    requires { ⌜ (from ≤ length (now line)) × Ignores (rest .phase) ⌝ }
+    ensures { λ r. ⌜ ((store : List ℕ) → Passes rest counts store (now (line .entry)) from r store) ⌝ }
+{
+    let phase = rest.phase;
+    let n = to_flag(line, from);
+    Passed {
+        rest,
+        counts: super::octet::count_octets(counts, phase, n),
+        taken: n,
+    }
+}
+
+// The octets that a stretch without a fault only stores.
+fn pass_plain(rest: Rest, counts: Counts, store: &mut [u8; 438], line: &[u8], from: usize) -> Passed
+    requires { ⌜ (from ≤ length (now line)) × (rest .phase ≡ Phase.Reading) ⌝ }
+    ensures { λ r. ⌜ Passes rest counts (now (store .entry)) (now (line .entry)) from r (now (store .exit)) ⌝ }
+{
+    let stored = rest.stored;
+    if stored <= 438 {
+        let n = put_plain(store, stored, line, from);
+        Passed {
+            rest: Rest {
+                phase: Phase::Reading,
+                stored: stored + n,
+            },
+            counts: super::account::count_open(counts, n),
+            taken: n,
+        }
+    } else {
+        Passed {
+            rest,
+            counts,
+            taken: 0,
+        }
+    }
+}
+
+// Octets that need no full step, as many as there are at `from`.
+fn pass(rest: Rest, counts: Counts, store: &mut [u8; 438], line: &[u8], from: usize) -> Passed
+    requires { ⌜ from ≤ length (now line) ⌝ }
+    ensures { λ r. ⌜ Passes rest counts (now (store .entry)) (now (line .entry)) from r (now (store .exit)) ⌝ }
+{
+    let phase = rest.phase;
+    match phase {
+        Phase::Hunting => pass_ignored(rest, counts, line, from),
+        Phase::Reading => pass_plain(rest, counts, store, line, from),
+        Phase::Escape => Passed {
+            rest,
+            counts,
+            taken: 0,
+        },
+        Phase::BadEscape => pass_ignored(rest, counts, line, from),
+        Phase::TooLong => pass_ignored(rest, counts, line, from),
+    }
+}
+
+// One octet, by a full step: `super::octet::receive` written out. With two callers `receive_flag` stays a function of its own in
+// the compiled code, so that neither of them carries it for every octet.
+fn step(rest: Rest, counts: Counts, store: &mut [u8; 438], octet: u8, output: &mut [u8]) -> Received
+    ensures { λ r. ⌜ Receives rest counts (now (store .entry)) octet (now (output .entry)) r (now (store .exit)) (now (output .exit)) ⌝ }
+{
+    if octet == 0x7E {
+        super::octet::receive_flag(rest, counts, store, output)
+    } else {
+        super::octet::receive_other(rest, counts, store, octet)
+    }
+}
+
+// One turn: what needs no full step, and then one octet more.
+fn turn(
+    rest: Rest,
+    counts: Counts,
+    store: &mut [u8; 438],
+    line: &[u8],
+    from: usize,
+    output: &mut [u8],
+) -> Taken
+    requires { ⌜ from < length (now line) ⌝ }
+    ensures { λ r. ⌜ Turns rest counts (now (store .entry)) (now (line .entry)) from (now (output .entry)) r (now (store .exit)) (now (output .exit)) ⌝ }
+{
+    let passed = pass(rest, counts, store, line, from);
+    let rest = passed.rest;
+    let counts = passed.counts;
+    let at = from + passed.taken;
+    if at < line.len() {
+        let received = step(rest, counts, store, line[at], output);
+        let rest = received.rest;
+        let counts = received.counts;
+        let answer = received.answer;
+        Taken {
+            rest,
+            counts,
+            answer,
+            taken: passed.taken + 1,
+        }
+    } else {
+        Taken {
+            rest,
+            counts,
+            answer: Answer::Nothing,
+            taken: passed.taken,
+        }
+    }
+}
+
+fn answered(answer: Answer) -> bool
+    ensures { λ r. ⌜ r ≡ isAnswer answer ⌝ }
+{
+    match answer {
+        Answer::Nothing => false,
+        Answer::Delivered(_) => true,
+        Answer::Refused(_) => true,
+    }
+}
+
+// Octets of the line up to and including the one that brings the next answer.
+pub fn receive_slice(
+    rest: Rest,
+    counts: Counts,
+    store: &mut [u8; 438],
+    line: &[u8],
+    output: &mut [u8],
+) -> Taken
+    ensures { λ r. ⌜ Takes rest counts (now (store .entry)) (now (line .entry)) (now (output .entry)) r (now (store .exit)) (now (output .exit)) ⌝ }
+{
+    let mut rest = rest;
+    let mut counts = counts;
+    let mut i = 0;
+    while i < line.len() {
+        let t = turn(rest, counts, store, line, i, output);
+        rest = t.rest;
+        counts = t.counts;
+        i += t.taken;
+        let answer = t.answer;
+        let all = Taken {
+            rest,
+            counts,
+            answer,
+            taken: i,
+        };
+        if answered(answer) {
+            return all;
+        }
+    }
+    Taken {
+        rest,
+        counts,
+        answer: Answer::Nothing,
+        taken: i,
+    }
+}

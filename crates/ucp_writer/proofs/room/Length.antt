@@ -1,0 +1,24 @@
+-- How many octets a frame has, octet by octet. Assumes nothing.
+use mathlib.Core.Path.{_≡_, ap}
+use mathlib.Core.List.{List}
+use Prim.Native.Nat.{ℕ, _+_, _/_, _%_, _<_}
+use native.Mathlib.Numerals.{add-one}
+use native.Mathlib.Omega.{arith}
+use lib.ListN.{length, getD, drop, length-append}
+use lib.Seq.{drop-cons}
+use Rattle.crc_gdl90.specs.Check.{frameCheck, frameCheckOctets}
+use Rattle.ucp_frame.specs.Stuffing.{escaped, stuffed}
+use Rattle.ucp_frame.specs.Frame.{frame}
+use Rattle.ucp_frame.proofs.Stuffing.{stuffed-append}
+
+pub frame-length : (body : List ℕ) (check : ℕ) → check ≡ frameCheck body
+    → length (frame body) ≡ 2 + length (escaped (check % 256)) + length (escaped (check / 256)) + length (stuffed body)
+unfolding frame stuffed
+frame-length body check e =
+    rw e (simp length-append (omega (arith, simp length-append at (ap length (stuffed-append body (frameCheckOctets body))))))
+
+-- the octet at i, and then the others
+pub stuffed-length : (body : List ℕ) (i : ℕ) → i < length body
+    → length (stuffed (drop i body)) ≡ length (escaped (getD body i 0)) + length (stuffed (drop (i + 1) body))
+unfolding stuffed
+stuffed-length body i h = rw (add-one, drop-cons body i 0) (length-append (escaped (getD body i 0)) _)

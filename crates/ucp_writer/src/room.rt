@@ -1,0 +1,60 @@
+// Whether a body may become a frame in an output: tested before anything is written.
+ghost use mathlib.Core.Path.{_≡_};
+ghost use mathlib.Core.Bool.{_||_};
+ghost use Prim.Native.Nat.{_≤_};
+ghost use lib.Dec.{eqb};
+ghost use lib.ListN.{length};
+ghost use Rattle.ucp_frame.specs.Stuffing.{flag, escape, escaped};
+ghost use Rattle.ucp_frame.specs.Frame.{frame, longestBody};
+ghost use Rattle.ucp_writer.specs.Room.{frameDue, refusalNumber};
+
+// The refusal that is due: 7, a body of 0 or more than 436 octets; 8, an output shorter than the frame; 0, none.
+pub fn refusal(body: &[u8], output: &[u8]) -> u8
+    ensures { λ r. ⌜ r ≡ refusalNumber (frameDue (now (body .entry)) (now (output .entry))) ⌝ }
+{
+    let n = body.len();
+    if n == 0 {
+        return 7;
+    }
+    if 436 < n {
+        return 7;
+    }
+    // The most that a frame of n octets takes. Only where that is too much is this very frame measured.
+    let most = 2 * n + 6;
+    if output.len() < most {
+        let exact = frame_length(body);
+        if output.len() < exact {
+            return 8;
+        }
+    }
+    0
+}
+
+// How many octets the frame of body has.
+fn frame_length(body: &[u8]) -> usize
+    requires { ⌜ length (now body) ≤ longestBody ⌝ }
+    ensures { λ r. ⌜ r ≡ length (frame (now (body .entry))) ⌝ }
+{
+    let check = crc_gdl90::frame_check(body);
+    let mut count = 2 + escaped_length((check % 256) as u8) + escaped_length((check / 256) as u8);
+    let mut i = 0;
+    while i < body.len() {
+        count += escaped_length(body[i]);
+        i += 1;
+    }
+    count
+}
+
+// How many octets an octet takes on the line.
+fn escaped_length(octet: u8) -> usize
+    ensures { λ r. ⌜ r ≡ length (escaped octet) ⌝ }
+{
+    if is_escaped(octet) { 2 } else { 1 }
+}
+
+// Whether an octet is escaped: the flag is, and the escape itself.
+pub fn is_escaped(octet: u8) -> bool
+    ensures { λ r. ⌜ r ≡ (eqb octet flag || eqb octet escape) ⌝ }
+{
+    octet == 0x7E || octet == 0x7D
+}
