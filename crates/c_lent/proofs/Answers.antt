@@ -6,8 +6,9 @@ use Prim.Native.Nat.{ℕ}
 use native.Mathlib.Omega.{arith}
 use borrow.Author.Tests.{lt-ltb, le-ltb, eq-eqb, ne-eqb}
 use lib.ListN.{length, getD, drop}
-use Rattle.field_format.specs.Formats.{Format, standAt, bodySize, valueIn, refusalOf}
-use Rattle.field_format.proofs.Refusals.{exactly-11, exactly-12, exactly-13, exactly-0}
+use Rattle.field_format.specs.Formats.{Format, standAt, bodySize, valueIn}
+use Rattle.ucp_answers.specs.Refusals.{refusalOf}
+use Rattle.ucp_answers.proofs.Refusals.{exactly-11, exactly-12, exactly-13, exactly-0}
 use Rattle.c_lent.specs.Structs.{Struct, stored}
 use Rattle.c_lent.specs.Reads.{hasId, refusalAs, ReadsInto}
 

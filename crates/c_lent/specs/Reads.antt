@@ -6,7 +6,8 @@ use mathlib.Core.List.{List}
 use Prim.Native.Nat.{ℕ}
 use lib.Dec.{eqb, ltb}
 use lib.ListN.{length, getD}
-use Rattle.field_format.specs.Formats.{Format, valueIn, refusalOf}
+use Rattle.field_format.specs.Formats.{Format, valueIn}
+use Rattle.ucp_answers.specs.Refusals.{refusalOf}
 use Rattle.c_lent.specs.Structs.{Struct, stored}
 
 -- a body of a kind: it has an octet, and the first is the kind's ID

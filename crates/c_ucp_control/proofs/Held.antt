@@ -20,7 +20,7 @@ use Rattle.ucp_kinds.specs.declared.Control.{Control}
 use Rattle.field_format.specs.Formats.{bodyOf, fits}
 use Rattle.field_format.proofs.Formats.{fitting, bound}
 use Rattle.ucp_kinds.specs.Control45.{controlFormat}
-use Rattle.ucp_kinds.proofs.ControlFormats.{control-right}
+use Rattle.ucp_kinds.proofs.Formats.{control-right}
 use Rattle.c_lent.specs.Structs.{held}
 use Rattle.c_ucp_control.specs.Struct.{controlStruct, controlState}
 use Rattle.c_ucp_control.specs.Sends.{sendControlDue, SendsControl}

@@ -17,7 +17,7 @@ use Rattle.field_signed.proofs.Signed.{complement-signed}
 use Rattle.field_codes.specs.Codes.{isSquawk}
 use Rattle.field_texts.specs.Text.{isPadded}
 use Rattle.field_format.specs.Formats.{valueIn, bodyOf}
-use Rattle.field_format.proofs.Answers.{by-octets}
+use Rattle.field_format.proofs.ByOctets.{by-octets}
 use Rattle.ucp_kinds.specs.Control45.{controlFormat}
 use Rattle.c_lent.specs.Structs.{stored, held}
 use Rattle.c_ucp_control.specs.Struct.{controlStruct, controlState}

@@ -1,5 +1,6 @@
 // Message 45, Control, for C: the message lies in the caller's struct, which is lent as its octets.
 use output_writing::OstrogoszWritten;
+use ucp_frame::FrameBuffer;
 ghost use mathlib.Core.Path.{_≡_};
 ghost use mathlib.Core.Bool.{_&&_};
 ghost use lib.Dec.{ltb};
@@ -213,7 +214,7 @@ fn send(message: &[u8], buffer: &mut [u8]) -> OstrogoszWritten
 #[no_mangle]
 pub extern "C" fn ostrogosz_send_control_at(
     message: &[u8; 24],
-    buffer: &mut [u8; 878],
+    buffer: &mut FrameBuffer,
 ) -> OstrogoszWritten
     ensures { λ r. ⌜ SendsControl (held controlStruct (now (message .entry))) (now (buffer .entry)) r (now (buffer .exit)) ⌝ }
 {

@@ -4,7 +4,7 @@ use mathlib.Core.List.{List}
 use Prim.Native.Nat.{ℕ}
 use Rattle.ucp_kinds.specs.declared.ReportRead.{ReportRead}
 use Rattle.ucp_kinds.specs.declared.ReportRead.the-variants as report
-use Rattle.field_format.specs.Formats.{reads}
+use Rattle.ucp_answers.specs.Refusals.{reads}
 use Rattle.ucp_kinds.specs.Report10.{reportFormat}
 use Rattle.ucp_messages.specs.declared.Kind.the-variants as kind
 use Rattle.ucp_messages.specs.Reads.{answerAs}

@@ -1,5 +1,6 @@
 // The messages of the UCP line for C and Rust; include/ostrogosz.h says the same in C.
 use output_writing::OstrogoszWritten;
+use ucp_frame::FrameBuffer;
 use ucp_kinds::Control;
 use ucp_kinds::ControlRead;
 use ucp_kinds::GeometricAltitude;
@@ -17,7 +18,7 @@ use ucp_messages::Kind;
 use ucp_messages::Message;
 ghost use mathlib.Core.Path.{_≡_};
 ghost use mathlib.Core.List.{[]};
-ghost use Rattle.field_format.specs.Formats.{reads};
+ghost use Rattle.ucp_answers.specs.Refusals.{reads};
 ghost use Rattle.ucp_kinds.specs.Report10.{reportFormat};
 ghost use Rattle.ucp_messages.specs.Reads.{answerAs, messageDue};
 ghost use Rattle.c_ucp_messages.specs.Writers.{WritesBodyForC, SendsFrameForC};
@@ -350,7 +351,7 @@ pub extern "C" fn ostrogosz_write_initialization(
 
 // ---- sending a frame: 13, then 7 and 8 as the frame writer gives them
 
-fn send(message: Message, payload: &[u8], buffer: &mut [u8; 878]) -> OstrogoszWritten
+fn send(message: Message, payload: &[u8], buffer: &mut FrameBuffer) -> OstrogoszWritten
     ensures { λ r. ⌜ SendsFrameForC message (now (payload .entry)) (now (buffer .entry)) r (now (buffer .exit)) ⌝ }
 {
     output_writing::in_numbers(ucp_send::send_message(message, payload, buffer))
@@ -359,7 +360,7 @@ fn send(message: Message, payload: &[u8], buffer: &mut [u8; 878]) -> OstrogoszWr
 #[no_mangle]
 pub extern "C" fn ostrogosz_send_heartbeat(
     heartbeat: Heartbeat,
-    buffer: &mut [u8; 878],
+    buffer: &mut FrameBuffer,
 ) -> OstrogoszWritten
     ensures { λ r. ⌜ SendsFrameForC (Message.Heartbeat heartbeat) [] (now (buffer .entry)) r (now (buffer .exit)) ⌝ }
 {
@@ -368,14 +369,20 @@ pub extern "C" fn ostrogosz_send_heartbeat(
 
 // An uplink's payload has 435 octets, else 13.
 #[no_mangle]
-pub extern "C" fn ostrogosz_send_uplink(payload: &[u8], buffer: &mut [u8; 878]) -> OstrogoszWritten
+pub extern "C" fn ostrogosz_send_uplink(
+    payload: &[u8],
+    buffer: &mut FrameBuffer,
+) -> OstrogoszWritten
     ensures { λ r. ⌜ SendsFrameForC Message.Uplink (now (payload .entry)) (now (buffer .entry)) r (now (buffer .exit)) ⌝ }
 {
     send(Message::Uplink, payload, buffer)
 }
 
 #[no_mangle]
-pub extern "C" fn ostrogosz_send_ownship(report: Report, buffer: &mut [u8; 878]) -> OstrogoszWritten
+pub extern "C" fn ostrogosz_send_ownship(
+    report: Report,
+    buffer: &mut FrameBuffer,
+) -> OstrogoszWritten
     ensures { λ r. ⌜ SendsFrameForC (Message.Ownship report) [] (now (buffer .entry)) r (now (buffer .exit)) ⌝ }
 {
     send(Message::Ownship(report), &[], buffer)
@@ -384,7 +391,7 @@ pub extern "C" fn ostrogosz_send_ownship(report: Report, buffer: &mut [u8; 878])
 #[no_mangle]
 pub extern "C" fn ostrogosz_send_geometric_altitude(
     altitude: GeometricAltitude,
-    buffer: &mut [u8; 878],
+    buffer: &mut FrameBuffer,
 ) -> OstrogoszWritten
     ensures { λ r. ⌜ SendsFrameForC (Message.GeometricAltitude altitude) [] (now (buffer .entry)) r (now (buffer .exit)) ⌝ }
 {
@@ -392,7 +399,10 @@ pub extern "C" fn ostrogosz_send_geometric_altitude(
 }
 
 #[no_mangle]
-pub extern "C" fn ostrogosz_send_traffic(report: Report, buffer: &mut [u8; 878]) -> OstrogoszWritten
+pub extern "C" fn ostrogosz_send_traffic(
+    report: Report,
+    buffer: &mut FrameBuffer,
+) -> OstrogoszWritten
     ensures { λ r. ⌜ SendsFrameForC (Message.Traffic report) [] (now (buffer .entry)) r (now (buffer .exit)) ⌝ }
 {
     send(Message::Traffic(report), &[], buffer)
@@ -401,7 +411,7 @@ pub extern "C" fn ostrogosz_send_traffic(report: Report, buffer: &mut [u8; 878])
 #[no_mangle]
 pub extern "C" fn ostrogosz_send_request(
     request: Request,
-    buffer: &mut [u8; 878],
+    buffer: &mut FrameBuffer,
 ) -> OstrogoszWritten
     ensures { λ r. ⌜ SendsFrameForC (Message.Request request) [] (now (buffer .entry)) r (now (buffer .exit)) ⌝ }
 {
@@ -411,7 +421,7 @@ pub extern "C" fn ostrogosz_send_request(
 #[no_mangle]
 pub extern "C" fn ostrogosz_send_control(
     control: Control,
-    buffer: &mut [u8; 878],
+    buffer: &mut FrameBuffer,
 ) -> OstrogoszWritten
     ensures { λ r. ⌜ SendsFrameForC (Message.Control control) [] (now (buffer .entry)) r (now (buffer .exit)) ⌝ }
 {
@@ -421,7 +431,7 @@ pub extern "C" fn ostrogosz_send_control(
 #[no_mangle]
 pub extern "C" fn ostrogosz_send_initialization(
     initialization: Initialization,
-    buffer: &mut [u8; 878],
+    buffer: &mut FrameBuffer,
 ) -> OstrogoszWritten
     ensures { λ r. ⌜ SendsFrameForC (Message.Initialization initialization) [] (now (buffer .entry)) r (now (buffer .exit)) ⌝ }
 {

@@ -1,5 +1,12 @@
 // The receiver for C and Rust: the store, the line and the output are the caller's. `line` is the rest of the record as seven
 // numbers, in the order of `recordNumbers` of specs/Numbers.antt.
+use ucp_receiver::Answer;
+use ucp_receiver::Counts;
+use ucp_receiver::Phase;
+use ucp_receiver::Received;
+use ucp_receiver::Rest;
+use ucp_receiver::Store;
+use ucp_receiver::Taken;
 ghost use mathlib.Core.Path.{_≡_};
 ghost use mathlib.Core.List.{List};
 ghost use Prim.Native.Nat.{ℕ, _<_, _^_};
@@ -7,12 +14,9 @@ ghost use lib.ListN.{length, getD};
 ghost use Rattle.ucp_receiver.specs.Account.{zeroCounts};
 ghost use Rattle.ucp_receiver.specs.Octet.{freshRest, noOctets};
 ghost use Rattle.c_ucp_receiver.specs.Numbers.{phaseOf, phaseNumber, restIn, countsIn, recordNumbers, answerKind, answerValue, ReceivesFitting, TakesFitting, ReceivesNumbers, TakesNumbers};
-use ucp_receiver::Answer;
-use ucp_receiver::Counts;
-use ucp_receiver::Phase;
-use ucp_receiver::Received;
-use ucp_receiver::Rest;
-use ucp_receiver::Taken;
+
+// The record besides the store, as C has it: phase, octets stored, and the five counts.
+pub type RecordNumbers = [u32; 7];
 
 // kind: 0 nothing, 1 delivered, 2 refused. value: how many octets were delivered, or the refusal's number.
 #[repr(C)]
@@ -65,7 +69,7 @@ fn wide(number: u32) -> usize
     number as usize
 }
 
-fn rest_in(line: &[u32; 7]) -> Rest
+fn rest_in(line: &RecordNumbers) -> Rest
     ensures { λ r. ⌜ (r ≡ restIn (now (line .entry))) × (r .stored < 2 ^ 32) ⌝ }
 {
     Rest {
@@ -74,7 +78,7 @@ fn rest_in(line: &[u32; 7]) -> Rest
     }
 }
 
-fn counts_in(line: &[u32; 7]) -> Counts
+fn counts_in(line: &RecordNumbers) -> Counts
     ensures { λ r. ⌜ r ≡ countsIn (now (line .entry)) ⌝ }
 {
     Counts {
@@ -86,7 +90,7 @@ fn counts_in(line: &[u32; 7]) -> Counts
     }
 }
 
-fn put_line(line: &mut [u32; 7], rest: Rest, counts: Counts)
+fn put_line(line: &mut RecordNumbers, rest: Rest, counts: Counts)
     requires { ⌜ rest .stored < 2 ^ 32 ⌝ }
     ensures { λ r. ⌜ now (line .exit) ≡ recordNumbers rest counts ⌝ }
 {
@@ -143,10 +147,10 @@ fn value_of(answer: Answer) -> u32
 
 // A fresh receiver.
 #[no_mangle]
-pub extern "C" fn ostrogosz_receiver_start(store: &mut [u8; 438], line: &mut [u32; 7])
+pub extern "C" fn ostrogosz_receiver_start(store: &mut Store, line: &mut RecordNumbers)
     ensures { λ r. ⌜ (now (store .exit) ≡ noOctets) × (now (line .exit) ≡ recordNumbers freshRest zeroCounts) ⌝ }
 {
-    *store = [0; 438];
+    *store = [0; ucp_receiver::STORE_OCTETS];
     put_line(
         line,
         ucp_receiver::octet::fresh_rest(),
@@ -155,13 +159,13 @@ pub extern "C" fn ostrogosz_receiver_start(store: &mut [u8; 438], line: &mut [u3
 }
 
 // The call on the record that the line stands for.
-fn received_by(store: &mut [u8; 438], line: &[u32; 7], octet: u8, output: &mut [u8]) -> Received
+fn received_by(store: &mut Store, line: &RecordNumbers, octet: u8, output: &mut [u8]) -> Received
     ensures { λ r. ⌜ ReceivesFitting (now (store .entry)) (now (line .entry)) octet (now (output .entry)) r (now (store .exit)) (now (output .exit)) ⌝ }
 {
     ucp_receiver::octet::receive(rest_in(line), counts_in(line), store, octet, output)
 }
 
-fn receive_flag(store: &mut [u8; 438], line: &mut [u32; 7], output: &mut [u8]) -> OstrogoszAnswer
+fn receive_flag(store: &mut Store, line: &mut RecordNumbers, output: &mut [u8]) -> OstrogoszAnswer
     ensures { λ r. ⌜ ReceivesNumbers (now (store .entry)) (now (line .entry)) 0x7E (now (output .entry)) (r .kind) (r .value) (now (store .exit)) (now (line .exit)) (now (output .exit)) ⌝ }
 {
     let received = received_by(store, line, 0x7E, output);
@@ -177,7 +181,7 @@ fn receive_flag(store: &mut [u8; 438], line: &mut [u32; 7], output: &mut [u8]) -
 
 // An octet that a stretch without a fault only stores: the commonest, so it touches as little as there is to change. The line is
 // a slice, since its length is known then.
-fn receive_plain(store: &mut [u8; 438], line: &mut [u32], octet: u8) -> OstrogoszAnswer
+fn receive_plain(store: &mut Store, line: &mut [u32], octet: u8) -> OstrogoszAnswer
     requires { ⌜ (length (now line) ≡ 7) × (getD (now line) 0 0 ≡ 1) × (getD (now line) 1 0 < 438) × (octet ≡ 0x7E → ⊥) × (octet ≡ 0x7D → ⊥) ⌝ }
     ensures { λ r. ⌜ ((output : List ℕ) → ReceivesNumbers (now (store .entry)) (now (line .entry)) octet output (r .kind) (r .value) (now (store .exit)) (now (line .exit)) output) ⌝ }
 {
@@ -201,8 +205,8 @@ fn receive_ignored(line: &mut [u32], octet: u8) -> OstrogoszAnswer
 
 // Any other octet but the flag.
 fn receive_other(
-    store: &mut [u8; 438],
-    line: &mut [u32; 7],
+    store: &mut Store,
+    line: &mut RecordNumbers,
     octet: u8,
     output: &mut [u8],
 ) -> OstrogoszAnswer
@@ -223,8 +227,8 @@ fn receive_other(
 // One octet of the line. The flag is apart, so that a call with any other octet touches little.
 #[no_mangle]
 pub extern "C" fn ostrogosz_receive(
-    store: &mut [u8; 438],
-    line: &mut [u32; 7],
+    store: &mut Store,
+    line: &mut RecordNumbers,
     octet: u8,
     output: &mut [u8],
 ) -> OstrogoszAnswer
@@ -234,7 +238,7 @@ pub extern "C" fn ostrogosz_receive(
         return receive_flag(store, line, output);
     }
     if line[0] == 1 {
-        if line[1] < 438 {
+        if line[1] < ucp_receiver::STORE_OCTETS as u32 {
             if octet != 0x7D {
                 return receive_plain(store, line, octet);
             }
@@ -249,7 +253,7 @@ pub extern "C" fn ostrogosz_receive(
 }
 
 // The call with a slice on the record that the line stands for.
-fn taken_by(store: &mut [u8; 438], line: &[u32; 7], octets: &[u8], output: &mut [u8]) -> Taken
+fn taken_by(store: &mut Store, line: &RecordNumbers, octets: &[u8], output: &mut [u8]) -> Taken
     ensures { λ r. ⌜ TakesFitting (now (store .entry)) (now (line .entry)) (now (octets .entry)) (now (output .entry)) r (now (store .exit)) (now (output .exit)) ⌝ }
 {
     ucp_receiver::slice::receive_slice(rest_in(line), counts_in(line), store, octets, output)
@@ -258,8 +262,8 @@ fn taken_by(store: &mut [u8; 438], line: &[u32; 7], octets: &[u8], output: &mut 
 // Octets of the line up to and including the one that brings the next answer.
 #[no_mangle]
 pub extern "C" fn ostrogosz_receive_slice(
-    store: &mut [u8; 438],
-    line: &mut [u32; 7],
+    store: &mut Store,
+    line: &mut RecordNumbers,
     octets: &[u8],
     output: &mut [u8],
 ) -> OstrogoszTaken

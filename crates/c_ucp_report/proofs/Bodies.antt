@@ -8,7 +8,7 @@ use Rattle.field_format.specs.Formats.{valueIn}
 use Rattle.ucp_kinds.specs.Report10.{reportFormat}
 use Rattle.c_lent.specs.Structs.{stored}
 use Rattle.c_ucp_report.specs.Struct.{reportStruct}
-use Rattle.c_ucp_report.specs.Parts.{leftStored, rightStored, othersStored}
+use Rattle.c_ucp_report.specs.Steps.{leftStored, rightStored, othersStored}
 
 -- the three parts behind zeros
 pub of-body : (body : List ℕ) → length body ≡ 28

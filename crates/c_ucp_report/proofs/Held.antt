@@ -11,15 +11,15 @@ use Rattle.crc_polynomial.specs.Bits.{Octets}
 use Rattle.field_layout.specs.Steps.{little16, little32}
 use Rattle.field_layout.proofs.Elements.{elements, by-elements}
 use Rattle.field_signed.specs.Signed.{signed, holds}
-use Rattle.ucp_answers.proofs.Conjunction.{both}
+use Rattle.field_format.proofs.Conjunction.{both}
 use Rattle.ucp_kinds.specs.declared.Report.{Report}
 use Rattle.field_format.specs.Formats.{bodyOf, fits}
 use Rattle.ucp_kinds.specs.Report10.{reportFormat}
 use Rattle.field_format.proofs.Formats.{fitting, bound}
-use Rattle.ucp_kinds.proofs.Gdl90Formats.{report-right}
+use Rattle.ucp_kinds.proofs.Formats.{report-right}
 use Rattle.c_lent.specs.Structs.{held}
 use Rattle.c_ucp_report.specs.Struct.{reportStruct}
-use Rattle.c_ucp_report.specs.Parts.{Small, leftOf, rightOf}
+use Rattle.c_ucp_report.specs.Steps.{Small, leftOf, rightOf}
 use Rattle.c_ucp_report.proofs.Numbers.{cut-24, cut-12, moves}
 
 pub body-length : (r : Report) → length (bodyOf (reportFormat 10) r) ≡ 28

@@ -1,2 +1,2 @@
 pub mod Struct
-pub mod Parts
+pub mod Steps

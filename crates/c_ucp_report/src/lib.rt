@@ -14,7 +14,7 @@ ghost use Rattle.c_lent.specs.Reads.{ReadsInto};
 ghost use Rattle.c_lent.specs.Writes.{WritesStructBody};
 ghost use Rattle.c_lent.specs.Structs.{stored, held};
 ghost use Rattle.c_ucp_report.specs.Struct.{reportStruct};
-ghost use Rattle.c_ucp_report.specs.Parts.{halvesOf, twoOf, fourOf, leftStored, rightStored, othersStored, Small, leftOf, rightOf};
+ghost use Rattle.c_ucp_report.specs.Steps.{halvesOf, twoOf, fourOf, leftStored, rightStored, othersStored, Small, leftOf, rightOf};
 
 // ---- reading
 

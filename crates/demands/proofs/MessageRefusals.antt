@@ -8,7 +8,8 @@ use native.Mathlib.Omega.{arith}
 use borrow.Author.Tests.{ltb-true, lt-ltb}
 use lib.Dec.{eqb, ltb}
 use lib.ListN.{length, getD}
-use Rattle.field_format.specs.Formats.{valueIn, refusalOf, reads}
+use Rattle.field_format.specs.Formats.{valueIn}
+use Rattle.ucp_answers.specs.Refusals.{refusalOf, reads}
 use Rattle.ucp_messages.specs.Formats.{Reading, format, uplink, unknown, readingOf}
 use Rattle.output_writing.specs.Answers.{refused, wrote}
 use Rattle.ucp_messages.specs.declared.Kind.{Kind}

@@ -9,7 +9,7 @@ use borrow.Author.Tests.{eqb-true, eq-eqb}
 use lib.Dec.{eqb}
 use lib.ListN.{length, getD, drop}
 use lib.Seq.{drop-cons, drop-drop, getD-drop}
-use Rattle.ucp_answers.proofs.Conjunction.{both}
+use Rattle.field_format.proofs.Conjunction.{both}
 use Rattle.field_format.specs.Formats.{standAt, HasId}
 
 and-true : (b c : Bool) → c ≡ true → (b && c) ≡ b

@@ -1,5 +1,5 @@
 pub mod Columns
 pub mod Heads
 pub mod Formats
-pub mod Answers
-pub mod Refusals
+pub mod ByOctets
+pub mod Conjunction

@@ -8,7 +8,6 @@ use lib.ListN.{length, getD, drop}
 use Rattle.field_layout.specs.Digits.{total}
 use Rattle.field_layout.specs.Layout.{Run, high as highRun, low as lowRun, layoutSize, layoutFields, layoutOctets, Whole}
 use Rattle.field_layout.specs.Texts.{textRuns}
-use Rattle.ucp_answers.specs.Refusals.{refusalBy, unlessRefused}
 use Rattle.field_layout.specs.declared.Text.{Text}
 use Rattle.field_format.specs.Columns.{Sort, unsigned, part, Column, field, flag, letters, Number, Of, _&_, Row, Made, made, rowWidths, rowTo, rowFrom, RowTyped, rowTested, RowBounded, RowSound}
 
@@ -133,11 +132,3 @@ module _ {A : Type 0} (f : Format A) where
   -- every number is one that its type has
   abbrev pub TypedAs : A → Type 0
   TypedAs a = RowTyped (columns (f .items)) (rowOf (f .items) a)
-
-  -- the refusal of a body that has the kind's ID: 11, 12, 13 or none, 0
-  unfoldable pub refusalOf : List ℕ → ℕ
-  refusalOf body = refusalBy (eqb (length body) bodySize) (standAt true 1 (drop 1 (f .head)) body) (f .ranges (valueIn body))
-
-  -- a reader's answer: the refusal, or what the value means
-  unfoldable pub reads : {B : Type 0} → (ℕ → B) → (A → B) → List ℕ → B
-  reads refused means body = unlessRefused refused (refusalOf body) (means (valueIn body))

@@ -1,12 +1,12 @@
 // What the programs share: standard input by the block, standard output, and clearing what was lent. What is read and written
 // no contract can say; each is safe, ends, and fixes what it can.
+use libc::STDIN_FILENO;
+use libc::STDOUT_FILENO;
 ghost use mathlib.Core.Path.{_≡_};
 ghost use Prim.Native.Nat.{min, _<_, _≤_};
 ghost use lib.ListN.{length};
 ghost use Rattle.io_streams.specs.Blocks.{Zeroed, WithinBlock, WrittenIfEmpty};
 ghost use Rattle.io_streams.specs.Turns.{Behind, over, hasEnded, AtEnd, ReadsBlock, BlockTurns};
-use libc::STDIN_FILENO;
-use libc::STDOUT_FILENO;
 
 // How far the input is told.
 pub enum Input {

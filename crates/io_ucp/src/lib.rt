@@ -1,10 +1,12 @@
 // What the programs that read the UCP line share, over the standard streams: the receiver's record from block to block, the
 // closing line, and clearing what was lent.
-ghost use Rattle.io_streams.specs.Blocks.{Zeroed};
-ghost use Rattle.io_ucp.specs.Records.{Closed, Ends};
 use io_streams::Input;
+use ucp_frame::BodyRoom;
 use ucp_receiver::Counts;
 use ucp_receiver::Rest;
+use ucp_receiver::Store;
+ghost use Rattle.io_streams.specs.Blocks.{Zeroed};
+ghost use Rattle.io_ucp.specs.Records.{Closed, Ends};
 
 // The receiver's record besides its store, from block to block.
 pub struct Progress {
@@ -33,7 +35,7 @@ pub fn write_ending(input: Input, text: &mut [u8], counts: Counts) -> bool
 }
 
 // Frames passed through all of these.
-pub fn clear_lent(store: &mut [u8; 438], room: &mut [u8; 436], block: &mut [u8], text: &mut [u8])
+pub fn clear_lent(store: &mut Store, room: &mut BodyRoom, block: &mut [u8], text: &mut [u8])
     ensures { λ r. ⌜ Zeroed (now (store .entry)) (now (store .exit)) ⌝ }
     ensures { λ r. ⌜ Zeroed (now (room .entry)) (now (room .exit)) ⌝ }
     ensures { λ r. ⌜ Zeroed (now (block .entry)) (now (block .exit)) ⌝ }

@@ -4,23 +4,26 @@
 //
 // Where a read or a write fails the line lister's rules hold: what was explained has been written out, the failure is said on
 // standard error, and no closing line follows.
+use io_streams::Input;
+use io_ucp::Progress;
+use text_output::TextRoom;
+use ucp_frame::BodyRoom;
+use ucp_receiver::Counts;
+use ucp_receiver::Rest;
+use ucp_receiver::Store;
 ghost use Rattle.ucp_receiver.specs.Octet.{stateOf};
 ghost use Rattle.text_ucp_listing.specs.Lists.{behindAll};
 ghost use Rattle.io_ucp.specs.Records.{Leaves};
 ghost use Rattle.io_streams.specs.Blocks.{Zeroed};
-use io_streams::Input;
-use io_ucp::Progress;
-use ucp_receiver::Counts;
-use ucp_receiver::Rest;
 
 // Explains the octets of a block, and writes each line out.
 fn explain_block(
     rest: Rest,
     counts: Counts,
-    store: &mut [u8; 438],
-    room: &mut [u8; 436],
+    store: &mut Store,
+    room: &mut BodyRoom,
     block: &[u8],
-    text: &mut [u8; 1536],
+    text: &mut TextRoom,
 ) -> Progress
     ensures { λ r. ⌜ Leaves (r .input) (stateOf (r .rest) (now (store .exit))) (r .counts) (behindAll (stateOf rest (now (store .entry))) counts (now (block .entry))) ⌝ }
 {
@@ -58,10 +61,10 @@ fn explain_block(
 
 // Explains all of the input, and answers whether it came to its end and all was written.
 fn explain_input(
-    store: &mut [u8; 438],
-    room: &mut [u8; 436],
+    store: &mut Store,
+    room: &mut BodyRoom,
     block: &mut [u8],
-    text: &mut [u8; 1536],
+    text: &mut TextRoom,
 ) -> bool {
     let mut rest = ucp_receiver::octet::fresh_rest();
     let mut counts = ucp_receiver::account::zero_counts();
@@ -79,7 +82,7 @@ fn explain_input(
 }
 
 // Frames, and what they say, passed through all of these.
-fn clear_lent(store: &mut [u8; 438], room: &mut [u8; 436], block: &mut [u8], text: &mut [u8; 1536])
+fn clear_lent(store: &mut Store, room: &mut BodyRoom, block: &mut [u8], text: &mut TextRoom)
     ensures { λ r. ⌜ Zeroed (now (store .entry)) (now (store .exit)) ⌝ }
     ensures { λ r. ⌜ Zeroed (now (room .entry)) (now (room .exit)) ⌝ }
     ensures { λ r. ⌜ Zeroed (now (block .entry)) (now (block .exit)) ⌝ }
@@ -89,10 +92,10 @@ fn clear_lent(store: &mut [u8; 438], room: &mut [u8; 436], block: &mut [u8], tex
 }
 
 fn main() {
-    let mut store = [0u8; 438];
-    let mut room = [0u8; 436];
+    let mut store = [0u8; ucp_receiver::STORE_OCTETS];
+    let mut room = [0u8; ucp_frame::LONGEST_BODY];
     let mut block = io::large_buffer();
-    let mut text = [0u8; 1536];
+    let mut text = [0u8; text_output::TEXT_ROOM];
     let whole = explain_input(&mut store, &mut room, &mut block, &mut text);
     clear_lent(&mut store, &mut room, &mut block, &mut text);
     if whole {

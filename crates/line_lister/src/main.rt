@@ -5,23 +5,25 @@
 // Where a read fails, what was listed so far has been written out already, the failure is said on standard error, and no
 // closing line follows: one stands only behind an input that was read to its end. Where a write fails the failure is said and
 // nothing more is written. A pipe that is closed behind the program ends it by a signal, and nothing is said.
+use io_streams::Input;
+use io_ucp::Progress;
+use ucp_frame::BodyRoom;
+use ucp_receiver::Counts;
+use ucp_receiver::Rest;
+use ucp_receiver::Store;
 ghost use Prim.Native.Nat.{_≤_};
 ghost use lib.ListN.{length};
 ghost use Rattle.text_ucp_listing.specs.Listing.{longestLine};
 ghost use Rattle.ucp_receiver.specs.Octet.{stateOf};
 ghost use Rattle.text_ucp_listing.specs.Lists.{behindAll};
 ghost use Rattle.io_ucp.specs.Records.{Leaves};
-use io_streams::Input;
-use io_ucp::Progress;
-use ucp_receiver::Counts;
-use ucp_receiver::Rest;
 
 // Lists the octets of a block, and writes the text out each time that it is full, and at the block's end.
 fn list_block(
     rest: Rest,
     counts: Counts,
-    store: &mut [u8; 438],
-    room: &mut [u8; 436],
+    store: &mut Store,
+    room: &mut BodyRoom,
     block: &[u8],
     text: &mut [u8],
 ) -> Progress
@@ -53,12 +55,7 @@ fn list_block(
 }
 
 // Lists all of the input, and answers whether it came to its end and all was written.
-fn list_input(
-    store: &mut [u8; 438],
-    room: &mut [u8; 436],
-    block: &mut [u8],
-    text: &mut [u8],
-) -> bool
+fn list_input(store: &mut Store, room: &mut BodyRoom, block: &mut [u8], text: &mut [u8]) -> bool
     requires { ⌜ longestLine ≤ length (now text) ⌝ }
 {
     let mut rest = ucp_receiver::octet::fresh_rest();
@@ -77,8 +74,8 @@ fn list_input(
 }
 
 fn main() {
-    let mut store = [0u8; 438];
-    let mut room = [0u8; 436];
+    let mut store = [0u8; ucp_receiver::STORE_OCTETS];
+    let mut room = [0u8; ucp_frame::LONGEST_BODY];
     let mut block = io::large_buffer();
     let mut text = io::large_buffer();
     let whole = list_input(&mut store, &mut room, &mut block, &mut text);

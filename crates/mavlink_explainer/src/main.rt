@@ -5,6 +5,8 @@
 //
 // Where a read or a write fails the line lister's rules hold: what was explained has been written out, the failure is said on
 // standard error, and no closing line follows.
+use io_streams::Input;
+use text_output::TextRoom;
 ghost use mathlib.Core.Path.{_≡_};
 ghost use mathlib.Core.Bool.{cond};
 ghost use Prim.Native.Nat.{_-_, _≤_};
@@ -14,7 +16,6 @@ ghost use Rattle.io_streams.specs.declared.Input.the-variants.{More, Ended};
 ghost use Rattle.io_streams.specs.Blocks.{Zeroed};
 ghost use Rattle.text_mavlink_explanation.specs.Decided.{frameRoom};
 ghost use Rattle.mavlink_explainer.specs.Blocks.{explains, Explores, FramesClosed};
-use io_streams::Input;
 
 // How far the frames are explained: how many, the octets that they used, and how many octets behind them are left of the block.
 // The input has ended where it is at its end or a frame was refused.
@@ -32,7 +33,7 @@ fn least_octets(last: bool) -> usize
     if last {
         return 1;
     }
-    50
+    mavlink_frame::LONGEST_FRAME
 }
 
 fn goes_on(last: bool) -> Input
@@ -65,13 +66,7 @@ fn progress(
 
 // Explains the frames of a block, and writes each line out. A frame is decided where 50 octets are there, or the input has
 // ended (`last`).
-fn explain_block(
-    frames: u64,
-    bytes: u64,
-    last: bool,
-    block: &[u8],
-    text: &mut [u8; 1536],
-) -> Progress
+fn explain_block(frames: u64, bytes: u64, last: bool, block: &[u8], text: &mut TextRoom) -> Progress
     ensures { λ r. ⌜ Explores last (now (block .entry)) frames bytes r ⌝ }
 {
     let mut count = 0;
@@ -113,7 +108,7 @@ fn carry(block: &mut [u8], from: usize, end: usize)
 }
 
 // The closing line, and whether it was written.
-fn write_closing(text: &mut [u8; 1536], frames: u64, bytes: u64) -> bool
+fn write_closing(text: &mut TextRoom, frames: u64, bytes: u64) -> bool
     ensures { λ r. ⌜ FramesClosed frames bytes (now (text .entry)) (now (text .exit)) ⌝ }
 {
     let n = text_mavlink_explanation::put_closing(text, frames, bytes);
@@ -122,7 +117,7 @@ fn write_closing(text: &mut [u8; 1536], frames: u64, bytes: u64) -> bool
 
 // Explains all of the input, and answers whether it came to its end or to a refused frame, and all was written. Octets that do
 // not decide a frame yet are carried over.
-fn explain_input(block: &mut [u8], text: &mut [u8; 1536]) -> bool {
+fn explain_input(block: &mut [u8], text: &mut TextRoom) -> bool {
     let mut frames: u64 = 0;
     let mut bytes: u64 = 0;
     let mut turn = io_streams::first_turn(block);
@@ -146,7 +141,7 @@ fn explain_input(block: &mut [u8], text: &mut [u8; 1536]) -> bool {
 }
 
 // Frames, and what they say, passed through both. What was carried over stood in the block.
-fn clear_lent(block: &mut [u8], text: &mut [u8; 1536])
+fn clear_lent(block: &mut [u8], text: &mut TextRoom)
     ensures { λ r. ⌜ Zeroed (now (block .entry)) (now (block .exit)) ⌝ }
     ensures { λ r. ⌜ Zeroed (now (text .entry)) (now (text .exit)) ⌝ }
 {
@@ -156,7 +151,7 @@ fn clear_lent(block: &mut [u8], text: &mut [u8; 1536])
 
 fn main() {
     let mut block = io::large_buffer();
-    let mut text = [0u8; 1536];
+    let mut text = [0u8; text_output::TEXT_ROOM];
     let whole = explain_input(&mut block, &mut text);
     clear_lent(&mut block, &mut text);
     if whole {

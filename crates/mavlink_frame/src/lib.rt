@@ -13,6 +13,9 @@ pub enum Found {
     Refused(u8),
 }
 
+// Octets of the longest frame, that of kind 202.
+pub const LONGEST_FRAME: usize = 50;
+
 // What a kind has: its message ID, the length of its payload, and the extra octet of its check.
 pub struct Kind {
     pub id: u8,

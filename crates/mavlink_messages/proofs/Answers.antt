@@ -16,7 +16,7 @@ use Rattle.mavlink_frame.specs.declared.Found.the-variants.{Frame}
 use Rattle.mavlink_frame.specs.Kinds.{kind, mavlinkKind}
 use Rattle.mavlink_frame.specs.Reader.{found}
 use Rattle.mavlink_frame.proofs.reader.Accepted.{Accepted, accepted}
-use Rattle.ucp_answers.proofs.Conjunction.{both}
+use Rattle.field_format.proofs.Conjunction.{both}
 use Rattle.mavlink_messages.specs.Messages.{payloadRead, readBy, readDue, ofLength, ofItsKind}
 
 pub tested : (id i n l : ℕ) → (eqb id i && eqb n l) ≡ true → (id ≡ i) × (n ≡ l)

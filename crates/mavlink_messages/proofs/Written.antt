@@ -17,7 +17,7 @@ use Rattle.mavlink_frame.specs.Writer as frame-writes
 use Rattle.mavlink_messages.specs.declared.Static as static-as
 use Rattle.mavlink_messages.specs.declared.Message.{Message}
 use Rattle.mavlink_messages.specs.declared.Message.the-variants.{DataStream, Static, Dynamic, Status, Traffic}
-use Rattle.ucp_answers.proofs.Conjunction.{both}
+use Rattle.field_format.proofs.Conjunction.{both}
 use Rattle.mavlink_messages.specs.Messages.{idOf, payloadOf, inRange, writeDue, messageFrame}
 
 pub refused : (m : Message) (h : Header) (output : List ℕ) → inRange m ≡ false

@@ -3,6 +3,7 @@ use field_layout::Text;
 use text_output::Base;
 use text_output::Printing;
 use text_output::Scale;
+use text_output::TextRoom;
 ghost use mathlib.Core.Path.{_≡_};
 ghost use lib.IntN.{pos};
 ghost use Rattle.text_fields.specs.declared.Reading.the-variants.{Known};
@@ -76,7 +77,7 @@ pub fn unless_unsigned(n: u32, mark: u32) -> Reading
 
 // ---- parts of a field
 
-fn put_label(text: &mut [u8; 1536], at: usize, label: &[u8]) -> usize
+fn put_label(text: &mut TextRoom, at: usize, label: &[u8]) -> usize
     ensures { λ r. ⌜ Clips (now (text .entry)) at (labelled (now (label .entry))) r (now (text .exit)) ⌝ }
 {
     let at = text_output::put_octet(text, at, b' ');
@@ -84,7 +85,7 @@ fn put_label(text: &mut [u8; 1536], at: usize, label: &[u8]) -> usize
     text_output::put_octet(text, at, b' ')
 }
 
-fn put_unit(text: &mut [u8; 1536], at: usize, unit: Unit) -> usize
+fn put_unit(text: &mut TextRoom, at: usize, unit: Unit) -> usize
     ensures { λ r. ⌜ Clips (now (text .entry)) at (unitShown unit) r (now (text .exit)) ⌝ }
 {
     match unit {
@@ -98,7 +99,7 @@ fn put_unit(text: &mut [u8; 1536], at: usize, unit: Unit) -> usize
     }
 }
 
-fn put_known(text: &mut [u8; 1536], at: usize, scale: Scale, unit: Unit, n: i64) -> usize
+fn put_known(text: &mut TextRoom, at: usize, scale: Scale, unit: Unit, n: i64) -> usize
     ensures { λ r. ⌜ Clips (now (text .entry)) at (readingShown scale unit (Known n)) r (now (text .exit)) ⌝ }
 {
     let at = text_output::put_fixed(text, at, scale, n);
@@ -107,7 +108,7 @@ fn put_known(text: &mut [u8; 1536], at: usize, scale: Scale, unit: Unit, n: i64)
 
 // ---- fields
 
-pub fn put_number(text: &mut [u8; 1536], at: usize, label: &[u8], n: u8) -> usize
+pub fn put_number(text: &mut TextRoom, at: usize, label: &[u8], n: u8) -> usize
     ensures { λ r. ⌜ Clips (now (text .entry)) at (fieldShown (now (label .entry)) (number n)) r (now (text .exit)) ⌝ }
 {
     let at = put_label(text, at, label);
@@ -115,7 +116,7 @@ pub fn put_number(text: &mut [u8; 1536], at: usize, label: &[u8], n: u8) -> usiz
 }
 
 pub fn put_reading(
-    text: &mut [u8; 1536],
+    text: &mut TextRoom,
     at: usize,
     label: &[u8],
     scale: Scale,
@@ -131,21 +132,21 @@ pub fn put_reading(
     }
 }
 
-pub fn put_squawk(text: &mut [u8; 1536], at: usize, label: &[u8], n: u16) -> usize
+pub fn put_squawk(text: &mut TextRoom, at: usize, label: &[u8], n: u16) -> usize
     ensures { λ r. ⌜ Clips (now (text .entry)) at (fieldShown (now (label .entry)) (squawk n)) r (now (text .exit)) ⌝ }
 {
     let at = put_label(text, at, label);
     text_output::put_padded(text, at, Base::Decimal, 4, n as u64)
 }
 
-pub fn put_hexadecimal(text: &mut [u8; 1536], at: usize, label: &[u8], digits: u8, n: u32) -> usize
+pub fn put_hexadecimal(text: &mut TextRoom, at: usize, label: &[u8], digits: u8, n: u32) -> usize
     ensures { λ r. ⌜ Clips (now (text .entry)) at (fieldShown (now (label .entry)) (hexadecimal digits n)) r (now (text .exit)) ⌝ }
 {
     let at = put_label(text, at, label);
     text_output::put_padded(text, at, Base::Hexadecimal, digits, n as u64)
 }
 
-pub fn put_quoted(text: &mut [u8; 1536], at: usize, label: &[u8], octets: &[u8]) -> usize
+pub fn put_quoted(text: &mut TextRoom, at: usize, label: &[u8], octets: &[u8]) -> usize
     ensures { λ r. ⌜ Clips (now (text .entry)) at (fieldShown (now (label .entry)) (quoted (now (octets .entry)))) r (now (text .exit)) ⌝ }
 {
     let at = put_label(text, at, label);
@@ -154,7 +155,7 @@ pub fn put_quoted(text: &mut [u8; 1536], at: usize, label: &[u8], octets: &[u8])
     text_output::put_octet(text, at, b'"')
 }
 
-pub fn put_text(text: &mut [u8; 1536], at: usize, label: &[u8], value: Text) -> usize
+pub fn put_text(text: &mut TextRoom, at: usize, label: &[u8], value: Text) -> usize
     ensures { λ r. ⌜ Clips (now (text .entry)) at (fieldShown (now (label .entry)) (textOf value)) r (now (text .exit)) ⌝ }
 {
     let octets = [
@@ -170,7 +171,7 @@ pub fn put_text(text: &mut [u8; 1536], at: usize, label: &[u8], value: Text) -> 
     put_quoted(text, at, label, &octets)
 }
 
-pub fn put_truth(text: &mut [u8; 1536], at: usize, label: &[u8], value: bool) -> usize
+pub fn put_truth(text: &mut TextRoom, at: usize, label: &[u8], value: bool) -> usize
     ensures { λ r. ⌜ Clips (now (text .entry)) at (fieldShown (now (label .entry)) (truth value)) r (now (text .exit)) ⌝ }
 {
     let at = put_label(text, at, label);
@@ -180,7 +181,7 @@ pub fn put_truth(text: &mut [u8; 1536], at: usize, label: &[u8], value: bool) ->
     text_output::put_word(text, at, b"no")
 }
 
-pub fn put_none(text: &mut [u8; 1536], at: usize, label: &[u8]) -> usize
+pub fn put_none(text: &mut TextRoom, at: usize, label: &[u8]) -> usize
     ensures { λ r. ⌜ Clips (now (text .entry)) at (fieldShown (now (label .entry)) none) r (now (text .exit)) ⌝ }
 {
     let at = put_label(text, at, label);

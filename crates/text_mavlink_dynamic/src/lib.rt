@@ -9,33 +9,34 @@ use text_fields::unless_signed_16;
 use text_fields::unless_signed_32;
 use text_fields::unless_unsigned;
 use text_output::Scale;
+use text_output::TextRoom;
 ghost use lib.ListN.{take, drop};
 ghost use Rattle.text_output.specs.Clips.{Clips};
 ghost use Rattle.text_fields.specs.Fields.{fieldShown, fieldsShown};
 ghost use Rattle.text_mavlink_dynamic.specs.Dynamic202.{degrees, dynamicAltitude, speed, dynamicFields};
 
-fn put_degrees(text: &mut [u8; 1536], at: usize, label: &[u8], n: i32) -> usize
+fn put_degrees(text: &mut TextRoom, at: usize, label: &[u8], n: i32) -> usize
     ensures { λ r. ⌜ Clips (now (text .entry)) at (fieldShown (now (label .entry)) (degrees n)) r (now (text .exit)) ⌝ }
 {
     let degrees = unless_signed_32(n);
     put_reading(text, at, label, Scale::TenMillionths, Unit::Bare, degrees)
 }
 
-fn put_altitude(text: &mut [u8; 1536], at: usize, label: &[u8], n: i32) -> usize
+fn put_altitude(text: &mut TextRoom, at: usize, label: &[u8], n: i32) -> usize
     ensures { λ r. ⌜ Clips (now (text .entry)) at (fieldShown (now (label .entry)) (dynamicAltitude n)) r (now (text .exit)) ⌝ }
 {
     let altitude = unless_signed_32(n);
     put_reading(text, at, label, Scale::Thousandths, Unit::Metres, altitude)
 }
 
-fn put_speed(text: &mut [u8; 1536], at: usize, label: &[u8], n: i16) -> usize
+fn put_speed(text: &mut TextRoom, at: usize, label: &[u8], n: i16) -> usize
     ensures { λ r. ⌜ Clips (now (text .entry)) at (fieldShown (now (label .entry)) (speed n)) r (now (text .exit)) ⌝ }
 {
     let n = unless_signed_16(n);
     put_reading(text, at, label, Scale::Hundredths, Unit::MetresPerSecond, n)
 }
 
-fn put_position(text: &mut [u8; 1536], at: usize, dynamic: Dynamic) -> usize
+fn put_position(text: &mut TextRoom, at: usize, dynamic: Dynamic) -> usize
     ensures { λ r. ⌜ Clips (now (text .entry)) at (fieldsShown (take 5 (dynamicFields dynamic))) r (now (text .exit)) ⌝ }
 {
     let utc = unless_unsigned(dynamic.utc_time, 4294967295);
@@ -46,7 +47,7 @@ fn put_position(text: &mut [u8; 1536], at: usize, dynamic: Dynamic) -> usize
     put_altitude(text, at, b"gnss altitude", dynamic.alt_gnss)
 }
 
-fn put_accuracy(text: &mut [u8; 1536], at: usize, dynamic: Dynamic) -> usize
+fn put_accuracy(text: &mut TextRoom, at: usize, dynamic: Dynamic) -> usize
     ensures { λ r. ⌜ Clips (now (text .entry)) at (fieldsShown (take 3 (drop 5 (dynamicFields dynamic)))) r (now (text .exit)) ⌝ }
 {
     let horizontal = unless_unsigned(dynamic.acc_horiz, 4294967295);
@@ -78,7 +79,7 @@ fn put_accuracy(text: &mut [u8; 1536], at: usize, dynamic: Dynamic) -> usize
     )
 }
 
-fn put_velocity(text: &mut [u8; 1536], at: usize, dynamic: Dynamic) -> usize
+fn put_velocity(text: &mut TextRoom, at: usize, dynamic: Dynamic) -> usize
     ensures { λ r. ⌜ Clips (now (text .entry)) at (fieldsShown (take 3 (drop 3 (drop 5 (dynamicFields dynamic))))) r (now (text .exit)) ⌝ }
 {
     let at = put_speed(text, at, b"vertical speed", dynamic.vel_vert);
@@ -86,7 +87,7 @@ fn put_velocity(text: &mut [u8; 1536], at: usize, dynamic: Dynamic) -> usize
     put_speed(text, at, b"east velocity", dynamic.ew_vog)
 }
 
-fn put_codes(text: &mut [u8; 1536], at: usize, dynamic: Dynamic) -> usize
+fn put_codes(text: &mut TextRoom, at: usize, dynamic: Dynamic) -> usize
     ensures { λ r. ⌜ Clips (now (text .entry)) at (fieldsShown (drop 3 (drop 3 (drop 5 (dynamicFields dynamic))))) r (now (text .exit)) ⌝ }
 {
     let satellites = unless_unsigned(dynamic.num_sats as u32, 255);
@@ -98,7 +99,7 @@ fn put_codes(text: &mut [u8; 1536], at: usize, dynamic: Dynamic) -> usize
     put_hexadecimal(text, at, b"control", 2, dynamic.control as u32)
 }
 
-pub fn put_dynamic(text: &mut [u8; 1536], at: usize, dynamic: Dynamic) -> usize
+pub fn put_dynamic(text: &mut TextRoom, at: usize, dynamic: Dynamic) -> usize
     ensures { λ r. ⌜ Clips (now (text .entry)) at (fieldsShown (dynamicFields dynamic)) r (now (text .exit)) ⌝ }
 {
     let at = put_position(text, at, dynamic);

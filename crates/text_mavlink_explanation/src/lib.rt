@@ -4,6 +4,7 @@ use mavlink_frame::Header;
 use mavlink_messages::Failures;
 use mavlink_messages::Message;
 use mavlink_messages::Read;
+use text_output::TextRoom;
 ghost use Rattle.mavlink_messages.specs.declared.Read.the-variants.{Message as ReadMessage, Refused as ReadRefused};
 ghost use Rattle.text_output.specs.Clips.{Clips};
 ghost use Rattle.text_mavlink_explanation.specs.Explanation.{frameLine, framesLine};
@@ -18,7 +19,7 @@ pub struct Explained {
 }
 
 fn put_frame(
-    text: &mut [u8; 1536],
+    text: &mut TextRoom,
     header: Header,
     used: usize,
     message: Message,
@@ -32,7 +33,7 @@ fn put_frame(
     text_output::put_octet(text, at, b'\n')
 }
 
-fn put_refused(text: &mut [u8; 1536], number: u8) -> usize
+fn put_refused(text: &mut TextRoom, number: u8) -> usize
     ensures { λ r. ⌜ Clips (now (text .entry)) 0 (frameLine (ReadRefused number)) r (now (text .exit)) ⌝ }
 {
     let at = text_refusals::put_refusal(text, 0, number);
@@ -40,7 +41,7 @@ fn put_refused(text: &mut [u8; 1536], number: u8) -> usize
 }
 
 // Explains the frame at the start of input, and puts its line at the start of text. Octets behind the frame are left.
-pub fn explain_frame(input: &[u8], text: &mut [u8; 1536]) -> Explained
+pub fn explain_frame(input: &[u8], text: &mut TextRoom) -> Explained
     ensures { λ r. ⌜ ExplainsFrame (now (input .entry)) (now (text .entry)) r (now (text .exit)) ⌝ }
 {
     let read = mavlink_messages::read_message(input);
@@ -64,7 +65,7 @@ pub fn explain_frame(input: &[u8], text: &mut [u8; 1536]) -> Explained
     }
 }
 
-fn put_closing_line(text: &mut [u8; 1536], frames: u64, bytes: u64) -> usize
+fn put_closing_line(text: &mut TextRoom, frames: u64, bytes: u64) -> usize
     ensures { λ r. ⌜ Clips (now (text .entry)) 0 (framesLine frames bytes) r (now (text .exit)) ⌝ }
 {
     let at = text_output::put_word(text, 0, b"frames ");
@@ -75,7 +76,7 @@ fn put_closing_line(text: &mut [u8; 1536], frames: u64, bytes: u64) -> usize
 }
 
 // The last line.
-pub fn put_closing(text: &mut [u8; 1536], frames: u64, bytes: u64) -> usize
+pub fn put_closing(text: &mut TextRoom, frames: u64, bytes: u64) -> usize
     ensures { λ r. ⌜ WholeFrame (now (text .entry)) (framesLine frames bytes) r (now (text .exit)) ⌝ }
 {
     put_closing_line(text, frames, bytes)

@@ -13,6 +13,7 @@ use text_fields::put_number;
 use text_fields::put_reading;
 use text_fields::put_text;
 use text_output::Scale;
+use text_output::TextRoom;
 use text_output::put_word;
 ghost use mathlib.Core.List.{_++_};
 ghost use lib.ListN.{take, drop};
@@ -21,7 +22,7 @@ ghost use Rattle.text_output.specs.Text.{codes};
 ghost use Rattle.text_fields.specs.Fields.{fieldShown, fieldsShown};
 ghost use Rattle.text_mavlink_messages.specs.Messages.{headerFields, dataStreamFields, staticFields, lowestShown, statusFields, mavlinkShown};
 
-fn put_heading(text: &mut [u8; 1536], at: usize, name: &[u8], header: Header) -> usize
+fn put_heading(text: &mut TextRoom, at: usize, name: &[u8], header: Header) -> usize
     ensures { λ r. ⌜ Clips (now (text .entry)) at (now (name .entry) ++ fieldsShown (headerFields header)) r (now (text .exit)) ⌝ }
 {
     let at = put_word(text, at, name);
@@ -30,7 +31,7 @@ fn put_heading(text: &mut [u8; 1536], at: usize, name: &[u8], header: Header) ->
     put_number(text, at, b"component", header.component)
 }
 
-fn put_data_stream(text: &mut [u8; 1536], at: usize, data_stream: DataStream) -> usize
+fn put_data_stream(text: &mut TextRoom, at: usize, data_stream: DataStream) -> usize
     ensures { λ r. ⌜ Clips (now (text .entry)) at (fieldsShown (dataStreamFields data_stream)) r (now (text .exit)) ⌝ }
 {
     let rate = text_fields::unsigned(data_stream.req_message_rate as u32);
@@ -41,7 +42,7 @@ fn put_data_stream(text: &mut [u8; 1536], at: usize, data_stream: DataStream) ->
     put_number(text, at, b"start", data_stream.start_stop)
 }
 
-fn put_vehicle(text: &mut [u8; 1536], at: usize, static_data: Static) -> usize
+fn put_vehicle(text: &mut TextRoom, at: usize, static_data: Static) -> usize
     ensures { λ r. ⌜ Clips (now (text .entry)) at (fieldsShown (take 4 (staticFields static_data))) r (now (text .exit)) ⌝ }
 {
     let stall = text_fields::unsigned(static_data.stall_speed as u32);
@@ -59,7 +60,7 @@ fn put_vehicle(text: &mut [u8; 1536], at: usize, static_data: Static) -> usize
     put_text(text, at, b"callsign", callsign)
 }
 
-fn put_airframe(text: &mut [u8; 1536], at: usize, static_data: Static) -> usize
+fn put_airframe(text: &mut TextRoom, at: usize, static_data: Static) -> usize
     ensures { λ r. ⌜ Clips (now (text .entry)) at (fieldsShown (drop 4 (staticFields static_data))) r (now (text .exit)) ⌝ }
 {
     let at = put_hexadecimal(text, at, b"capability", 2, static_data.capability as u32);
@@ -69,14 +70,14 @@ fn put_airframe(text: &mut [u8; 1536], at: usize, static_data: Static) -> usize
     put_number(text, at, b"longitudinal", static_data.gps_lon_offs)
 }
 
-fn put_static(text: &mut [u8; 1536], at: usize, static_data: Static) -> usize
+fn put_static(text: &mut TextRoom, at: usize, static_data: Static) -> usize
     ensures { λ r. ⌜ Clips (now (text .entry)) at (fieldsShown (staticFields static_data)) r (now (text .exit)) ⌝ }
 {
     let at = put_vehicle(text, at, static_data);
     put_airframe(text, at, static_data)
 }
 
-fn put_lowest(text: &mut [u8; 1536], at: usize, lowest: Lowest) -> usize
+fn put_lowest(text: &mut TextRoom, at: usize, lowest: Lowest) -> usize
     ensures { λ r. ⌜ Clips (now (text .entry)) at (fieldShown (codes "lowest") (lowestShown lowest)) r (now (text .exit)) ⌝ }
 {
     match lowest {
@@ -88,7 +89,7 @@ fn put_lowest(text: &mut [u8; 1536], at: usize, lowest: Lowest) -> usize
     }
 }
 
-fn put_status(text: &mut [u8; 1536], at: usize, status: Status, failures: Failures) -> usize
+fn put_status(text: &mut TextRoom, at: usize, status: Status, failures: Failures) -> usize
     ensures { λ r. ⌜ Clips (now (text .entry)) at (fieldsShown (statusFields status failures)) r (now (text .exit)) ⌝ }
 {
     let count = text_fields::unsigned(failures.count);
@@ -100,7 +101,7 @@ fn put_status(text: &mut [u8; 1536], at: usize, status: Status, failures: Failur
 
 // A message behind the octets that its frame has.
 pub fn put_message(
-    text: &mut [u8; 1536],
+    text: &mut TextRoom,
     at: usize,
     header: Header,
     message: Message,

@@ -12,6 +12,7 @@ use text_fields::signed_16;
 use text_fields::signed_32;
 use text_fields::unsigned;
 use text_output::Scale;
+use text_output::TextRoom;
 ghost use mathlib.Core.List.{[], _∷_, _++_};
 ghost use lib.ListN.{take, drop};
 ghost use Rattle.field_layout.specs.Texts.{textOctets};
@@ -20,7 +21,7 @@ ghost use Rattle.text_output.specs.Text.{codes};
 ghost use Rattle.text_fields.specs.Fields.{quoted, fieldShown, fieldsShown};
 ghost use Rattle.text_mavlink_traffic.specs.Traffic246.{squawkOrNone, trafficFields};
 
-fn put_position(text: &mut [u8; 1536], at: usize, traffic: Traffic) -> usize
+fn put_position(text: &mut TextRoom, at: usize, traffic: Traffic) -> usize
     ensures { λ r. ⌜ Clips (now (text .entry)) at (fieldsShown (take 4 (trafficFields traffic))) r (now (text .exit)) ⌝ }
 {
     let latitude = signed_32(traffic.lat);
@@ -53,7 +54,7 @@ fn put_position(text: &mut [u8; 1536], at: usize, traffic: Traffic) -> usize
     )
 }
 
-fn put_motion(text: &mut [u8; 1536], at: usize, traffic: Traffic) -> usize
+fn put_motion(text: &mut TextRoom, at: usize, traffic: Traffic) -> usize
     ensures { λ r. ⌜ Clips (now (text .entry)) at (fieldsShown (take 4 (drop 4 (trafficFields traffic)))) r (now (text .exit)) ⌝ }
 {
     let heading = unsigned(traffic.heading as u32);
@@ -79,7 +80,7 @@ fn put_motion(text: &mut [u8; 1536], at: usize, traffic: Traffic) -> usize
     put_hexadecimal(text, at, b"valid", 4, traffic.valid_flags as u32)
 }
 
-fn put_squawk_or_none(text: &mut [u8; 1536], at: usize, n: u16) -> usize
+fn put_squawk_or_none(text: &mut TextRoom, at: usize, n: u16) -> usize
     ensures { λ r. ⌜ Clips (now (text .entry)) at (fieldShown (codes "squawk") (squawkOrNone n)) r (now (text .exit)) ⌝ }
 {
     if n == 65535 {
@@ -89,7 +90,7 @@ fn put_squawk_or_none(text: &mut [u8; 1536], at: usize, n: u16) -> usize
 }
 
 // Nine characters.
-fn put_callsign(text: &mut [u8; 1536], at: usize, callsign: Text, ninth: u8) -> usize
+fn put_callsign(text: &mut TextRoom, at: usize, callsign: Text, ninth: u8) -> usize
     ensures { λ r. ⌜ Clips (now (text .entry)) at (fieldShown (codes "callsign") (quoted (textOctets callsign ++ ninth ∷ []))) r (now (text .exit)) ⌝ }
 {
     let octets = [
@@ -106,7 +107,7 @@ fn put_callsign(text: &mut [u8; 1536], at: usize, callsign: Text, ninth: u8) -> 
     put_quoted(text, at, b"callsign", &octets)
 }
 
-fn put_identity(text: &mut [u8; 1536], at: usize, traffic: Traffic) -> usize
+fn put_identity(text: &mut TextRoom, at: usize, traffic: Traffic) -> usize
     ensures { λ r. ⌜ Clips (now (text .entry)) at (fieldsShown (drop 4 (drop 4 (trafficFields traffic)))) r (now (text .exit)) ⌝ }
 {
     let callsign = traffic.callsign;
@@ -118,7 +119,7 @@ fn put_identity(text: &mut [u8; 1536], at: usize, traffic: Traffic) -> usize
     put_reading(text, at, b"age", Scale::Ones, Unit::Seconds, age)
 }
 
-pub fn put_traffic(text: &mut [u8; 1536], at: usize, traffic: Traffic) -> usize
+pub fn put_traffic(text: &mut TextRoom, at: usize, traffic: Traffic) -> usize
     ensures { λ r. ⌜ Clips (now (text .entry)) at (fieldsShown (trafficFields traffic)) r (now (text .exit)) ⌝ }
 {
     let at = put_position(text, at, traffic);

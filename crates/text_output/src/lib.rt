@@ -8,6 +8,11 @@ ghost use lib.IntN.{natAbs};
 ghost use Rattle.text_output.specs.Clips.{textRoom, Clips};
 ghost use Rattle.text_output.specs.Text.{hexDigit, hexPair, isPlain, backslashed, printedOctet, printed, numeral, natural, radix, padded, minus, places, fraction, fixed};
 
+// The room of a text, which is lent.
+pub const TEXT_ROOM: usize = 1536;
+
+pub type TextRoom = [u8; TEXT_ROOM];
+
 // How octets are written: as they are; in a text, escaped where they have to be; in hexadecimal, a space before each.
 pub enum Printing {
     Plain,
@@ -53,14 +58,14 @@ fn set_nothing(text: &mut [u8], at: usize) -> usize
     end
 }
 
-pub fn put_octet(text: &mut [u8; 1536], at: usize, octet: u8) -> usize
+pub fn put_octet(text: &mut TextRoom, at: usize, octet: u8) -> usize
     ensures { λ r. ⌜ Clips (now (text .entry)) at (octet ∷ []) r (now (text .exit)) ⌝ }
 {
     set_octet(text, at, octet)
 }
 
 // No text, from a place that may lie past the end.
-pub fn put_nothing(text: &mut [u8; 1536], at: usize) -> usize
+pub fn put_nothing(text: &mut TextRoom, at: usize) -> usize
     ensures { λ r. ⌜ Clips (now (text .entry)) at [] r (now (text .exit)) ⌝ }
 {
     set_nothing(text, at)
@@ -75,7 +80,7 @@ fn digit(d: u64) -> u8
     (d + 48 + (d + 6) / 16 * 39) as u8
 }
 
-fn put_pair(text: &mut [u8; 1536], at: usize, octet: u8) -> usize
+fn put_pair(text: &mut TextRoom, at: usize, octet: u8) -> usize
     ensures { λ r. ⌜ Clips (now (text .entry)) at (hexPair octet) r (now (text .exit)) ⌝ }
 {
     let n = octet as u64;
@@ -89,7 +94,7 @@ fn is_plain(x: u8) -> bool
     (0x20 <= x) & (x <= 0x7E) & !(x == 0x22) & !(x == 0x5C)
 }
 
-fn put_escaped(text: &mut [u8; 1536], at: usize, octet: u8) -> usize
+fn put_escaped(text: &mut TextRoom, at: usize, octet: u8) -> usize
     ensures { λ r. ⌜ Clips (now (text .entry)) at (backslashed octet) r (now (text .exit)) ⌝ }
 {
     if is_plain(octet) {
@@ -100,14 +105,14 @@ fn put_escaped(text: &mut [u8; 1536], at: usize, octet: u8) -> usize
     put_pair(text, at, octet)
 }
 
-fn put_hex(text: &mut [u8; 1536], at: usize, octet: u8) -> usize
+fn put_hex(text: &mut TextRoom, at: usize, octet: u8) -> usize
     ensures { λ r. ⌜ Clips (now (text .entry)) at (printedOctet Printing.Hex octet) r (now (text .exit)) ⌝ }
 {
     let at = put_octet(text, at, b' ');
     put_pair(text, at, octet)
 }
 
-fn put_printed_octet(text: &mut [u8; 1536], at: usize, printing: Printing, octet: u8) -> usize
+fn put_printed_octet(text: &mut TextRoom, at: usize, printing: Printing, octet: u8) -> usize
     ensures { λ r. ⌜ Clips (now (text .entry)) at (printedOctet printing octet) r (now (text .exit)) ⌝ }
 {
     match printing {
@@ -119,7 +124,7 @@ fn put_printed_octet(text: &mut [u8; 1536], at: usize, printing: Printing, octet
 
 // The octets of a slice from a place on.
 pub fn put_printed(
-    text: &mut [u8; 1536],
+    text: &mut TextRoom,
     at: usize,
     printing: Printing,
     octets: &[u8],
@@ -136,7 +141,7 @@ pub fn put_printed(
     at
 }
 
-pub fn put_word(text: &mut [u8; 1536], at: usize, word: &[u8]) -> usize
+pub fn put_word(text: &mut TextRoom, at: usize, word: &[u8]) -> usize
     ensures { λ r. ⌜ Clips (now (text .entry)) at (now (word .entry)) r (now (text .exit)) ⌝ }
 {
     put_printed(text, at, Printing::Plain, word, 0)
@@ -144,7 +149,7 @@ pub fn put_word(text: &mut [u8; 1536], at: usize, word: &[u8]) -> usize
 
 // ---- numbers
 
-fn put_numeral(text: &mut [u8; 1536], at: usize, padded: bool, base: u64, most: u8, n: u64) -> usize
+fn put_numeral(text: &mut TextRoom, at: usize, padded: bool, base: u64, most: u8, n: u64) -> usize
     requires { ⌜ (0 < base) × (base ≤ 16) ⌝ }
     ensures { λ r. ⌜ Clips (now (text .entry)) at (numeral padded base most n) r (now (text .exit)) ⌝ }
 {
@@ -158,7 +163,7 @@ fn put_numeral(text: &mut [u8; 1536], at: usize, padded: bool, base: u64, most: 
     put_octet(text, at, digit(n % base))
 }
 
-pub fn put_natural(text: &mut [u8; 1536], at: usize, n: u64) -> usize
+pub fn put_natural(text: &mut TextRoom, at: usize, n: u64) -> usize
     ensures { λ r. ⌜ Clips (now (text .entry)) at (natural n) r (now (text .exit)) ⌝ }
 {
     put_numeral(text, at, false, 10, 20, n)
@@ -174,7 +179,7 @@ fn size(n: i64) -> u64
     n as u64
 }
 
-fn put_minus(text: &mut [u8; 1536], at: usize, n: i64) -> usize
+fn put_minus(text: &mut TextRoom, at: usize, n: i64) -> usize
     ensures { λ r. ⌜ Clips (now (text .entry)) at (minus n) r (now (text .exit)) ⌝ }
 {
     if n < 0 {
@@ -193,7 +198,7 @@ fn radix_of(base: Base) -> u64
 }
 
 // So many digits, the low ones of the number.
-pub fn put_padded(text: &mut [u8; 1536], at: usize, base: Base, digits: u8, n: u64) -> usize
+pub fn put_padded(text: &mut TextRoom, at: usize, base: Base, digits: u8, n: u64) -> usize
     ensures { λ r. ⌜ Clips (now (text .entry)) at (padded base digits n) r (now (text .exit)) ⌝ }
 {
     put_numeral(text, at, true, radix_of(base), digits, n)
@@ -224,7 +229,7 @@ fn whole_of(scale: Scale) -> u64
     }
 }
 
-fn put_fraction(text: &mut [u8; 1536], at: usize, places: u8, n: u64) -> usize
+fn put_fraction(text: &mut TextRoom, at: usize, places: u8, n: u64) -> usize
     ensures { λ r. ⌜ Clips (now (text .entry)) at (fraction places n) r (now (text .exit)) ⌝ }
 {
     if places == 0 {
@@ -235,7 +240,7 @@ fn put_fraction(text: &mut [u8; 1536], at: usize, places: u8, n: u64) -> usize
 }
 
 // So many small units, in wholes.
-pub fn put_fixed(text: &mut [u8; 1536], at: usize, scale: Scale, n: i64) -> usize
+pub fn put_fixed(text: &mut TextRoom, at: usize, scale: Scale, n: i64) -> usize
     ensures { λ r. ⌜ Clips (now (text .entry)) at (fixed scale n) r (now (text .exit)) ⌝ }
 {
     let small = size(n);

@@ -1,4 +1,5 @@
 // A refusal by its number and in words.
+use text_output::TextRoom;
 use text_output::put_nothing;
 use text_output::put_octet;
 use text_output::put_word;
@@ -31,7 +32,7 @@ fn find(rows: &[u8], number: u8) -> usize
 }
 
 // The octets from a place up to a line's end.
-fn put_line(text: &mut [u8; 1536], at: usize, rows: &[u8], from: usize) -> usize
+fn put_line(text: &mut TextRoom, at: usize, rows: &[u8], from: usize) -> usize
     ensures { λ r. ⌜ Clips (now (text .entry)) at (line (drop from (now (rows .entry)))) r (now (text .exit)) ⌝ }
 {
     let mut at = put_nothing(text, at);
@@ -47,7 +48,7 @@ fn put_line(text: &mut [u8; 1536], at: usize, rows: &[u8], from: usize) -> usize
     at
 }
 
-fn put_row(text: &mut [u8; 1536], at: usize, rows: &[u8], number: u8) -> usize
+fn put_row(text: &mut TextRoom, at: usize, rows: &[u8], number: u8) -> usize
     ensures { λ r. ⌜ Clips (now (text .entry)) at (line (seek false number (now (rows .entry)) (now (rows .entry)))) r (now (text .exit)) ⌝ }
 {
     let from = find(rows, number);
@@ -55,7 +56,7 @@ fn put_row(text: &mut [u8; 1536], at: usize, rows: &[u8], number: u8) -> usize
 }
 
 // A line for each row of `rows` (specs/Refusals), in its order, behind the words for a number that has none.
-fn put_reason(text: &mut [u8; 1536], at: usize, number: u8) -> usize
+fn put_reason(text: &mut TextRoom, at: usize, number: u8) -> usize
     ensures { λ r. ⌜ Clips (now (text .entry)) at (reason number) r (now (text .exit)) ⌝ }
 {
     put_row(
@@ -82,7 +83,7 @@ fn put_reason(text: &mut [u8; 1536], at: usize, number: u8) -> usize
     )
 }
 
-pub fn put_refusal(text: &mut [u8; 1536], at: usize, number: u8) -> usize
+pub fn put_refusal(text: &mut TextRoom, at: usize, number: u8) -> usize
     ensures { λ r. ⌜ Clips (now (text .entry)) at (refusal number) r (now (text .exit)) ⌝ }
 {
     let at = put_word(text, at, b"no ");

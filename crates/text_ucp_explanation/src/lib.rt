@@ -1,10 +1,13 @@
 // A line explained: for each answer of the receiver a line of text, with a message's fields by name and in users' units.
 use text_output::Printing;
+use text_output::TextRoom;
+use ucp_frame::BodyRoom;
 use ucp_messages::Message;
 use ucp_messages::Read;
 use ucp_receiver::Answer;
 use ucp_receiver::Counts;
 use ucp_receiver::Rest;
+use ucp_receiver::Store;
 use ucp_receiver::Taken;
 ghost use mathlib.Core.Path.{_≡_};
 ghost use lib.ListN.{length};
@@ -17,14 +20,14 @@ ghost use Rattle.text_output.specs.Clips.{Clips};
 ghost use Rattle.text_ucp_explanation.specs.Explanation.{readLine, explanation};
 ghost use Rattle.text_ucp_explanation.specs.Calls.{ExplainsAnswer};
 
-fn put_refused(text: &mut [u8; 1536], number: u8) -> usize
+fn put_refused(text: &mut TextRoom, number: u8) -> usize
     ensures { λ r. ⌜ Clips (now (text .entry)) 0 (explanation (refused number)) r (now (text .exit)) ⌝ }
 {
     let at = text_refusals::put_refusal(text, 0, number);
     text_output::put_octet(text, at, b'\n')
 }
 
-fn put_unread(text: &mut [u8; 1536], number: u8, body: &[u8]) -> usize
+fn put_unread(text: &mut TextRoom, number: u8, body: &[u8]) -> usize
     ensures { λ r. ⌜ Clips (now (text .entry)) 0 (readLine (unread number) (now (body .entry))) r (now (text .exit)) ⌝ }
 {
     let at = text_refusals::put_refusal(text, 0, number);
@@ -34,7 +37,7 @@ fn put_unread(text: &mut [u8; 1536], number: u8, body: &[u8]) -> usize
     text_output::put_octet(text, at, b'\n')
 }
 
-fn put_read(text: &mut [u8; 1536], message: Message, body: &[u8]) -> usize
+fn put_read(text: &mut TextRoom, message: Message, body: &[u8]) -> usize
     ensures { λ r. ⌜ Clips (now (text .entry)) 0 (readLine (means message) (now (body .entry))) r (now (text .exit)) ⌝ }
 {
     let at = text_output::put_word(text, 0, b"ok ");
@@ -43,7 +46,7 @@ fn put_read(text: &mut [u8; 1536], message: Message, body: &[u8]) -> usize
     text_output::put_octet(text, at, b'\n')
 }
 
-fn put_body(text: &mut [u8; 1536], body: &[u8]) -> usize
+fn put_body(text: &mut TextRoom, body: &[u8]) -> usize
     ensures { λ r. ⌜ Clips (now (text .entry)) 0 (readLine (messageDue (now (body .entry))) (now (body .entry))) r (now (text .exit)) ⌝ }
 {
     let read = ucp_messages::read_message(body);
@@ -54,7 +57,7 @@ fn put_body(text: &mut [u8; 1536], body: &[u8]) -> usize
 }
 
 // The line of an answer, where there is one. A body stands at the start of room.
-fn put_answer(text: &mut [u8; 1536], answer: Answer, room: &[u8]) -> usize
+fn put_answer(text: &mut TextRoom, answer: Answer, room: &[u8]) -> usize
     requires { ⌜ (length (now room) ≡ bodyRoom) × BodyWithin answer bodyRoom ⌝ }
     ensures { λ r. ⌜ Clips (now (text .entry)) 0 (explanation (verdictOf answer (now (room .entry)))) r (now (text .exit)) ⌝ }
 {
@@ -75,10 +78,10 @@ pub struct Explained {
 pub fn explain_next(
     rest: Rest,
     counts: Counts,
-    store: &mut [u8; 438],
-    room: &mut [u8; 436],
+    store: &mut Store,
+    room: &mut BodyRoom,
     line: &[u8],
-    text: &mut [u8; 1536],
+    text: &mut TextRoom,
 ) -> Explained
     ensures { λ r. ⌜ ExplainsAnswer rest counts (now (store .entry)) (now (room .entry)) (now (line .entry)) (now (text .entry)) r (now (store .exit)) (now (room .exit)) (now (text .exit)) ⌝ }
 {

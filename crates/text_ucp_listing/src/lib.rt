@@ -1,4 +1,9 @@
 // The text of a listing: a line for each answer of the receiver, and a last line with its counts.
+use ucp_frame::BodyRoom;
+use ucp_receiver::Answer;
+use ucp_receiver::Counts;
+use ucp_receiver::Rest;
+use ucp_receiver::Store;
 ghost use mathlib.Core.Path.{_≡_};
 ghost use mathlib.Core.List.{[], _∷_};
 ghost use Prim.Native.Nat.{_+_, _<_, _≤_};
@@ -9,9 +14,6 @@ ghost use Rattle.text_output.specs.Text.{hexDigit};
 ghost use Rattle.text_ucp_listing.specs.Listing.{bodyRoom, longestLine, decimal, hexOctets, newline, okLine, noLine, counted, bytesReceived, closingLine};
 ghost use Rattle.text_ucp_listing.specs.Lists.{Lists, PutsClosing};
 ghost use Rattle.text_ucp_listing.specs.Steps.{BodyWithin, PutsLine, lineOfAnswer};
-use ucp_receiver::Answer;
-use ucp_receiver::Counts;
-use ucp_receiver::Rest;
 
 // ---- numbers
 
@@ -115,8 +117,8 @@ pub struct Listed {
 pub fn list_some(
     rest: Rest,
     counts: Counts,
-    store: &mut [u8; 438],
-    room: &mut [u8; 436],
+    store: &mut Store,
+    room: &mut BodyRoom,
     line: &[u8],
     text: &mut [u8],
 ) -> Listed

@@ -8,6 +8,7 @@ use text_fields::put_text;
 use text_fields::put_truth;
 use text_output::Printing;
 use text_output::Scale;
+use text_output::TextRoom;
 use text_output::put_word;
 use ucp_kinds::Control;
 use ucp_kinds::Heartbeat;
@@ -28,7 +29,7 @@ fn since_midnight(heartbeat: Heartbeat) -> u32
     heartbeat.time_stamp as u32 + heartbeat.status_2 as u32 / 128 * 65536
 }
 
-fn put_heartbeat(text: &mut [u8; 1536], at: usize, heartbeat: Heartbeat) -> usize
+fn put_heartbeat(text: &mut TextRoom, at: usize, heartbeat: Heartbeat) -> usize
     ensures { λ r. ⌜ Clips (now (text .entry)) at (messageShown (HeartbeatMessage heartbeat) []) r (now (text .exit)) ⌝ }
 {
     let time = text_fields::unsigned(since_midnight(heartbeat));
@@ -39,21 +40,21 @@ fn put_heartbeat(text: &mut [u8; 1536], at: usize, heartbeat: Heartbeat) -> usiz
     put_hexadecimal(text, at, b"counts", 4, heartbeat.counts as u32)
 }
 
-fn put_uplink(text: &mut [u8; 1536], at: usize, body: &[u8]) -> usize
+fn put_uplink(text: &mut TextRoom, at: usize, body: &[u8]) -> usize
     ensures { λ r. ⌜ Clips (now (text .entry)) at (messageShown UplinkMessage (now (body .entry))) r (now (text .exit)) ⌝ }
 {
     let at = put_word(text, at, b" uplink payload");
     text_output::put_printed(text, at, Printing::Hex, body, 1)
 }
 
-fn put_request(text: &mut [u8; 1536], at: usize, request: Request) -> usize
+fn put_request(text: &mut TextRoom, at: usize, request: Request) -> usize
     ensures { λ r. ⌜ Clips (now (text .entry)) at (messageShown (RequestMessage request) []) r (now (text .exit)) ⌝ }
 {
     let at = put_word(text, at, b" request");
     put_number(text, at, b"requested", request.requested_id)
 }
 
-fn put_modes(text: &mut [u8; 1536], at: usize, control: Control) -> usize
+fn put_modes(text: &mut TextRoom, at: usize, control: Control) -> usize
     ensures { λ r. ⌜ Clips (now (text .entry)) at (fieldsShown (take 5 (controlFields control))) r (now (text .exit)) ⌝ }
 {
     let at = put_truth(text, at, b"1090es", control.es_enabled);
@@ -63,7 +64,7 @@ fn put_modes(text: &mut [u8; 1536], at: usize, control: Control) -> usize
     put_truth(text, at, b"ident", control.ident)
 }
 
-fn put_flight(text: &mut [u8; 1536], at: usize, control: Control) -> usize
+fn put_flight(text: &mut TextRoom, at: usize, control: Control) -> usize
     ensures { λ r. ⌜ Clips (now (text .entry)) at (fieldsShown (drop 5 (controlFields control))) r (now (text .exit)) ⌝ }
 {
     let identity = control.identity;
@@ -83,7 +84,7 @@ fn put_flight(text: &mut [u8; 1536], at: usize, control: Control) -> usize
     put_text(text, at, b"identity", identity)
 }
 
-fn put_control(text: &mut [u8; 1536], at: usize, control: Control) -> usize
+fn put_control(text: &mut TextRoom, at: usize, control: Control) -> usize
     ensures { λ r. ⌜ Clips (now (text .entry)) at (messageShown (ControlMessage control) []) r (now (text .exit)) ⌝ }
 {
     let at = put_word(text, at, b" control");
@@ -91,7 +92,7 @@ fn put_control(text: &mut [u8; 1536], at: usize, control: Control) -> usize
     put_flight(text, at, control)
 }
 
-fn put_airframe(text: &mut [u8; 1536], at: usize, initialization: Initialization) -> usize
+fn put_airframe(text: &mut TextRoom, at: usize, initialization: Initialization) -> usize
     ensures { λ r. ⌜ Clips (now (text .entry)) at (fieldsShown (drop 4 (initializationFields initialization))) r (now (text .exit)) ⌝ }
 {
     let at = text_ucp_reports::put_knots(
@@ -105,7 +106,7 @@ fn put_airframe(text: &mut [u8; 1536], at: usize, initialization: Initialization
     put_number(text, at, b"longitudinal", initialization.longitudinal)
 }
 
-fn put_initialization(text: &mut [u8; 1536], at: usize, initialization: Initialization) -> usize
+fn put_initialization(text: &mut TextRoom, at: usize, initialization: Initialization) -> usize
     ensures { λ r. ⌜ Clips (now (text .entry)) at (messageShown (InitializationMessage initialization) []) r (now (text .exit)) ⌝ }
 {
     let callsign = initialization.callsign;
@@ -118,7 +119,7 @@ fn put_initialization(text: &mut [u8; 1536], at: usize, initialization: Initiali
 }
 
 // A message by its kind's name and its fields. An uplink's payload stands in its body.
-pub fn put_message(text: &mut [u8; 1536], at: usize, message: Message, body: &[u8]) -> usize
+pub fn put_message(text: &mut TextRoom, at: usize, message: Message, body: &[u8]) -> usize
     ensures { λ r. ⌜ Clips (now (text .entry)) at (messageShown message (now (body .entry))) r (now (text .exit)) ⌝ }
 {
     match message {

@@ -7,6 +7,7 @@ use text_fields::put_number;
 use text_fields::put_reading;
 use text_fields::put_text;
 use text_output::Scale;
+use text_output::TextRoom;
 use text_output::put_word;
 use ucp_kinds::GeometricAltitude;
 use ucp_kinds::Report;
@@ -17,7 +18,7 @@ ghost use Rattle.text_output.specs.Text.{codes};
 ghost use Rattle.text_fields.specs.Fields.{fieldShown, fieldsShown};
 ghost use Rattle.text_ucp_reports.specs.Reports.{angle, knots, reportFields, geometricFields};
 
-fn put_angle(text: &mut [u8; 1536], at: usize, label: &[u8], n: i32) -> usize
+fn put_angle(text: &mut TextRoom, at: usize, label: &[u8], n: i32) -> usize
     ensures { λ r. ⌜ Clips (now (text .entry)) at (fieldShown (now (label .entry)) (angle n)) r (now (text .exit)) ⌝ }
 {
     put_reading(
@@ -31,14 +32,14 @@ fn put_angle(text: &mut [u8; 1536], at: usize, label: &[u8], n: i32) -> usize
 }
 
 // In knots, or no data where it is FFF.
-pub fn put_knots(text: &mut [u8; 1536], at: usize, label: &[u8], n: u16) -> usize
+pub fn put_knots(text: &mut TextRoom, at: usize, label: &[u8], n: u16) -> usize
     ensures { λ r. ⌜ Clips (now (text .entry)) at (fieldShown (now (label .entry)) (knots n)) r (now (text .exit)) ⌝ }
 {
     let speed = text_fields::unless_unsigned(n as u32, 4095);
     put_reading(text, at, label, Scale::Ones, Unit::Knots, speed)
 }
 
-fn put_position(text: &mut [u8; 1536], at: usize, report: Report) -> usize
+fn put_position(text: &mut TextRoom, at: usize, report: Report) -> usize
     ensures { λ r. ⌜ Clips (now (text .entry)) at (fieldsShown (take 5 (reportFields report))) r (now (text .exit)) ⌝ }
 {
     let at = put_number(text, at, b"alert", report.alert);
@@ -48,7 +49,7 @@ fn put_position(text: &mut [u8; 1536], at: usize, report: Report) -> usize
     put_angle(text, at, b"longitude", report.longitude)
 }
 
-fn put_motion(text: &mut [u8; 1536], at: usize, report: Report) -> usize
+fn put_motion(text: &mut TextRoom, at: usize, report: Report) -> usize
     ensures { λ r. ⌜ Clips (now (text .entry)) at (fieldsShown (take 7 (drop 5 (reportFields report)))) r (now (text .exit)) ⌝ }
 {
     let altitude = readings::altitude(report.altitude);
@@ -70,7 +71,7 @@ fn put_motion(text: &mut [u8; 1536], at: usize, report: Report) -> usize
     put_reading(text, at, b"track", Scale::TenMillionths, Unit::Bare, track)
 }
 
-fn put_vehicle(text: &mut [u8; 1536], at: usize, report: Report) -> usize
+fn put_vehicle(text: &mut TextRoom, at: usize, report: Report) -> usize
     ensures { λ r. ⌜ Clips (now (text .entry)) at (fieldsShown (drop 7 (drop 5 (reportFields report)))) r (now (text .exit)) ⌝ }
 {
     let callsign = report.callsign;
@@ -81,7 +82,7 @@ fn put_vehicle(text: &mut [u8; 1536], at: usize, report: Report) -> usize
 }
 
 // Ownship and traffic are told apart by the name.
-pub fn put_report(text: &mut [u8; 1536], at: usize, name: &[u8], report: Report) -> usize
+pub fn put_report(text: &mut TextRoom, at: usize, name: &[u8], report: Report) -> usize
     ensures { λ r. ⌜ Clips (now (text .entry)) at (now (name .entry) ++ fieldsShown (reportFields report)) r (now (text .exit)) ⌝ }
 {
     let at = put_word(text, at, name);
@@ -90,7 +91,7 @@ pub fn put_report(text: &mut [u8; 1536], at: usize, name: &[u8], report: Report)
     put_vehicle(text, at, report)
 }
 
-pub fn put_geometric(text: &mut [u8; 1536], at: usize, geometric: GeometricAltitude) -> usize
+pub fn put_geometric(text: &mut TextRoom, at: usize, geometric: GeometricAltitude) -> usize
     ensures { λ r. ⌜ Clips (now (text .entry)) at (codes " geometric altitude" ++ fieldsShown (geometricFields geometric)) r (now (text .exit)) ⌝ }
 {
     let altitude = readings::geometric(geometric.altitude);

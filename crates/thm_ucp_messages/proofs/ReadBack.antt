@@ -5,16 +5,15 @@ use borrow.Author.Tests.{eqb-true}
 use lib.ListN.{length}
 use Rattle.ucp_answers.specs.Refusals.{refusalBy}
 use Rattle.field_format.specs.Formats.{bodyOf}
-use Rattle.field_format.proofs.Formats as formats
+use Rattle.ucp_answers.proofs.RoundTrips as formats
 use Rattle.ucp_kinds.specs.Heartbeat0.{heartbeatFormat}
 use Rattle.ucp_kinds.specs.Uplink7.{uplinkFits}
 use Rattle.ucp_kinds.specs.Report10.{reportFormat}
 use Rattle.ucp_kinds.specs.GeometricAltitude11.{geometricFormat}
-use Rattle.ucp_kinds.proofs.Gdl90Formats.{heartbeat-right, report-right, geometric-right}
+use Rattle.ucp_kinds.proofs.Formats.{heartbeat-right, report-right, geometric-right, request-right, control-right, initialization-right}
 use Rattle.ucp_kinds.specs.Request44.{requestFormat}
 use Rattle.ucp_kinds.specs.Control45.{controlFormat}
 use Rattle.ucp_kinds.specs.Initialization117.{initializationFormat}
-use Rattle.ucp_kinds.proofs.ControlFormats.{request-right, control-right, initialization-right}
 use Rattle.ucp_messages.specs.declared.Message.the-variants.{Heartbeat, Uplink, Ownship, GeometricAltitude, Traffic, Request, Control, Initialization}
 use Rattle.ucp_messages.specs.Kinds.{kindOf}
 use Rattle.ucp_messages.specs.Reads.{means, refused, answerAs}

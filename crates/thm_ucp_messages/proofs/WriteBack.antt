@@ -9,8 +9,9 @@ use borrow.Author.Tests.{eqb-true, eq-eqb}
 use lib.Dec.{eqb}
 use lib.ListN.{length, getD, drop, length-drop}
 use Rattle.crc_polynomial.specs.Bits.{Octets}
-use Rattle.field_format.specs.Formats.{Format, Right, HasId, fits, bodyOf, valueIn, refusalOf, reads}
-use Rattle.field_format.proofs.Formats as formats
+use Rattle.field_format.specs.Formats.{Format, Right, HasId, fits, bodyOf, valueIn}
+use Rattle.ucp_answers.specs.Refusals.{refusalOf, reads}
+use Rattle.ucp_answers.proofs.RoundTrips as formats
 use Rattle.ucp_messages.specs.declared.Kind.{Kind}
 use Rattle.ucp_messages.specs.declared.Kind.the-variants.{Heartbeat, Uplink, Ownship, GeometricAltitude, Traffic, Request, Control, Initialization, Unknown}
 use Rattle.ucp_messages.specs.declared.Message.{Message}
@@ -19,11 +20,10 @@ use Rattle.ucp_kinds.specs.Heartbeat0.{heartbeatFormat}
 use Rattle.ucp_kinds.specs.Uplink7.{uplinkFits}
 use Rattle.ucp_kinds.specs.Report10.{reportFormat}
 use Rattle.ucp_kinds.specs.GeometricAltitude11.{geometricFormat}
-use Rattle.ucp_kinds.proofs.Gdl90Formats.{heartbeat-right, report-right, geometric-right}
+use Rattle.ucp_kinds.proofs.Formats.{heartbeat-right, report-right, geometric-right, request-right, control-right, initialization-right}
 use Rattle.ucp_kinds.specs.Request44.{requestFormat}
 use Rattle.ucp_kinds.specs.Control45.{controlFormat}
 use Rattle.ucp_kinds.specs.Initialization117.{initializationFormat}
-use Rattle.ucp_kinds.proofs.ControlFormats.{request-right, control-right, initialization-right}
 use Rattle.ucp_messages.specs.Kinds.{kindOf, kindIn}
 use Rattle.ucp_messages.specs.Reads.{means, refused, meansUnlessRefused, answerAs}
 use Rattle.ucp_messages.specs.Bodies.{messageFits, messageBody}

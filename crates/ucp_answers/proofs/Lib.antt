@@ -1,3 +1,5 @@
 pub mod Writers
 pub mod Readers
-pub mod Conjunction
+pub mod Refusals
+pub mod Answers
+pub mod RoundTrips

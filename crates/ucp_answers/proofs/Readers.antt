@@ -18,26 +18,26 @@ unfolding refusalBy
 by-field range n e = e
 
 module _ {A : Type 0} (refused : ℕ → A) where
-  pub wrong-length : {length : Bool} (fixed range : Bool) (m : A) → length ≡ false → refused 11 ≡ unlessRefused refused (refusalBy length fixed range) m
+  pub wrong-length : {rightLength : Bool} (fixed range : Bool) (m : A) → rightLength ≡ false → refused 11 ≡ unlessRefused refused (refusalBy rightLength fixed range) m
   wrong-length fixed range m e = rw (e, by-length fixed range)
 
-  pub wrong-fixed : {length fixed : Bool} (range : Bool) (m : A) → length ≡ true → fixed ≡ false
-      → refused 12 ≡ unlessRefused refused (refusalBy length fixed range) m
+  pub wrong-fixed : {rightLength fixed : Bool} (range : Bool) (m : A) → rightLength ≡ true → fixed ≡ false
+      → refused 12 ≡ unlessRefused refused (refusalBy rightLength fixed range) m
   wrong-fixed range m e f = rw (e, f, by-fixed range)
 
-  pub wrong-field : {length fixed range : Bool} (m : A) → length ≡ true → fixed ≡ true → range ≡ false
-      → refused 13 ≡ unlessRefused refused (refusalBy length fixed range) m
+  pub wrong-field : {rightLength fixed range : Bool} (m : A) → rightLength ≡ true → fixed ≡ true → range ≡ false
+      → refused 13 ≡ unlessRefused refused (refusalBy rightLength fixed range) m
   wrong-field m e f g = rw (e, f, g, by-field false 13 refl)
 
   -- none fails
-  pub right : {length fixed range : Bool} {m n : A} → length ≡ true → fixed ≡ true → range ≡ true → m ≡ n
-      → m ≡ unlessRefused refused (refusalBy length fixed range) n
+  pub right : {rightLength fixed range : Bool} {m n : A} → rightLength ≡ true → fixed ≡ true → range ≡ true → m ≡ n
+      → m ≡ unlessRefused refused (refusalBy rightLength fixed range) n
   right e f g h = rw (e, f, g, h, by-field true 0 refl)
 
 -- the same answer in other terms
-pub told : {A B : Type 0} (f : A → B) (refused : ℕ → A) (refusal : ℕ) (message : A)
+pub in-other-terms : {A B : Type 0} (f : A → B) (refused : ℕ → A) (refusal : ℕ) (message : A)
     → f (unlessRefused refused refusal message) ≡ unlessRefused (λ n. f (refused n)) refusal (f message)
-told f refused refusal message = go (eqb refusal 0)
+in-other-terms f refused refusal message = go (eqb refusal 0)
   where
     go : (b : Bool) → f (cond b message (refused refusal)) ≡ cond b (f message) (f (refused refusal))
     go true = refl

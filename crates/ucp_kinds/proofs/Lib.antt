@@ -1,3 +1,2 @@
 pub mod Uplink
-pub mod Gdl90Formats
-pub mod ControlFormats
+pub mod Formats

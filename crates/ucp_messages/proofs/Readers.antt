@@ -2,7 +2,7 @@
 use mathlib.Core.Path.{_≡_, ap, _∙_}
 use mathlib.Core.List.{List}
 use Prim.Native.Nat.{ℕ}
-use Rattle.ucp_answers.proofs.Readers.{told}
+use Rattle.ucp_answers.proofs.Readers.{in-other-terms}
 use Rattle.ucp_kinds.specs.declared.HeartbeatRead.{HeartbeatRead}
 use Rattle.ucp_kinds.specs.declared.HeartbeatRead.the-variants as heartbeat
 use Rattle.ucp_kinds.specs.declared.UplinkRead.{UplinkRead}
@@ -17,8 +17,9 @@ use Rattle.ucp_kinds.specs.declared.ControlRead.{ControlRead}
 use Rattle.ucp_kinds.specs.declared.ControlRead.the-variants as control
 use Rattle.ucp_kinds.specs.declared.InitializationRead.{InitializationRead}
 use Rattle.ucp_kinds.specs.declared.InitializationRead.the-variants as initialization
-use Rattle.field_format.specs.Formats.{valueIn, refusalOf, reads}
-use Rattle.field_format.proofs.Answers.{retold}
+use Rattle.field_format.specs.Formats.{valueIn}
+use Rattle.ucp_answers.specs.Refusals.{refusalOf, reads}
+use Rattle.ucp_answers.proofs.Answers.{in-terms-of}
 use Rattle.ucp_kinds.specs.Heartbeat0.{heartbeatFormat}
 use Rattle.ucp_kinds.specs.Uplink7.{uplinkRefusal, uplinkRead}
 use Rattle.ucp_kinds.specs.Report10.{reportFormat}
@@ -36,7 +37,7 @@ heartbeatAnswer (heartbeat.Refused number) = refused number
 
 pub heartbeat-answer : {r : HeartbeatRead} (body : List ℕ) → r ≡ reads heartbeatFormat heartbeat.Refused heartbeat.Heartbeat body → heartbeatAnswer r ≡ answerAs kind.Heartbeat body
 unfolding answerAs
-heartbeat-answer body e = ap heartbeatAnswer e ∙ retold heartbeatFormat heartbeatAnswer heartbeat.Refused heartbeat.Heartbeat body
+heartbeat-answer body e = ap heartbeatAnswer e ∙ in-terms-of heartbeatFormat heartbeatAnswer heartbeat.Refused heartbeat.Heartbeat body
 
 abbrev pub uplinkAnswer : UplinkRead → ReaderAnswer
 uplinkAnswer uplink.Uplink = means message.Uplink
@@ -52,7 +53,7 @@ ownshipAnswer (report.Refused number) = refused number
 
 pub ownship-answer : {r : ReportRead} (body : List ℕ) → r ≡ reads (reportFormat 10) report.Refused report.Report body → ownshipAnswer r ≡ answerAs kind.Ownship body
 unfolding answerAs reads refusalOf valueIn
-ownship-answer body e = ap ownshipAnswer e ∙ retold (reportFormat 10) ownshipAnswer report.Refused report.Report body
+ownship-answer body e = ap ownshipAnswer e ∙ in-terms-of (reportFormat 10) ownshipAnswer report.Refused report.Report body
 
 abbrev pub geometricAnswer : GeometricAltitudeRead → ReaderAnswer
 geometricAnswer (geometric.GeometricAltitude a) = means (message.GeometricAltitude a)
@@ -60,7 +61,7 @@ geometricAnswer (geometric.Refused number) = refused number
 
 pub geometric-answer : {r : GeometricAltitudeRead} (body : List ℕ) → r ≡ reads geometricFormat geometric.Refused geometric.GeometricAltitude body → geometricAnswer r ≡ answerAs kind.GeometricAltitude body
 unfolding answerAs
-geometric-answer body e = ap geometricAnswer e ∙ retold geometricFormat geometricAnswer geometric.Refused geometric.GeometricAltitude body
+geometric-answer body e = ap geometricAnswer e ∙ in-terms-of geometricFormat geometricAnswer geometric.Refused geometric.GeometricAltitude body
 
 abbrev pub trafficAnswer : ReportRead → ReaderAnswer
 trafficAnswer (report.Report r) = means (message.Traffic r)
@@ -68,7 +69,7 @@ trafficAnswer (report.Refused number) = refused number
 
 pub traffic-answer : {r : ReportRead} (body : List ℕ) → r ≡ reads (reportFormat 10) report.Refused report.Report body → trafficAnswer r ≡ answerAs kind.Traffic body
 unfolding answerAs reads refusalOf valueIn
-traffic-answer body e = ap trafficAnswer e ∙ retold (reportFormat 10) trafficAnswer report.Refused report.Report body
+traffic-answer body e = ap trafficAnswer e ∙ in-terms-of (reportFormat 10) trafficAnswer report.Refused report.Report body
 
 abbrev pub requestAnswer : RequestRead → ReaderAnswer
 requestAnswer (request.Request r) = means (message.Request r)
@@ -76,7 +77,7 @@ requestAnswer (request.Refused number) = refused number
 
 pub request-answer : {r : RequestRead} (body : List ℕ) → r ≡ reads requestFormat request.Refused request.Request body → requestAnswer r ≡ answerAs kind.Request body
 unfolding answerAs
-request-answer body e = ap requestAnswer e ∙ retold requestFormat requestAnswer request.Refused request.Request body
+request-answer body e = ap requestAnswer e ∙ in-terms-of requestFormat requestAnswer request.Refused request.Request body
 
 abbrev pub controlAnswer : ControlRead → ReaderAnswer
 controlAnswer (control.Control c) = means (message.Control c)
@@ -84,7 +85,7 @@ controlAnswer (control.Refused number) = refused number
 
 pub control-answer : {r : ControlRead} (body : List ℕ) → r ≡ reads controlFormat control.Refused control.Control body → controlAnswer r ≡ answerAs kind.Control body
 unfolding answerAs
-control-answer body e = ap controlAnswer e ∙ retold controlFormat controlAnswer control.Refused control.Control body
+control-answer body e = ap controlAnswer e ∙ in-terms-of controlFormat controlAnswer control.Refused control.Control body
 
 abbrev pub initializationAnswer : InitializationRead → ReaderAnswer
 initializationAnswer (initialization.Initialization i) = means (message.Initialization i)
@@ -92,4 +93,4 @@ initializationAnswer (initialization.Refused number) = refused number
 
 pub initialization-answer : {r : InitializationRead} (body : List ℕ) → r ≡ reads initializationFormat initialization.Refused initialization.Initialization body → initializationAnswer r ≡ answerAs kind.Initialization body
 unfolding answerAs
-initialization-answer body e = ap initializationAnswer e ∙ retold initializationFormat initializationAnswer initialization.Refused initialization.Initialization body
+initialization-answer body e = ap initializationAnswer e ∙ in-terms-of initializationFormat initializationAnswer initialization.Refused initialization.Initialization body

@@ -4,7 +4,7 @@ use mathlib.Core.Path.{_≡_}
 use mathlib.Core.List.{List}
 use Prim.Native.Nat.{ℕ}
 use Rattle.ucp_answers.specs.Refusals
-use Rattle.field_format.specs.Formats.{refusalOf, reads}
+use Rattle.ucp_answers.specs.Refusals.{refusalOf, reads}
 use Rattle.ucp_kinds.specs.Uplink7.{uplinkRefusal}
 use Rattle.ucp_messages.specs.declared.Kind.{Kind}
 use Rattle.ucp_messages.specs.declared.Message.{Message}

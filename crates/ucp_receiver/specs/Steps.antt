@@ -1,4 +1,4 @@
--- What the parts of closing a stretch ensure. Assumes nothing.
+-- What the steps of the receiver ensure: of a stretch that is closed, and of a call with a slice. Assumes nothing.
 use mathlib.Core.Path.{_≡_}
 use mathlib.Core.List.{List}
 use Prim.Native.Nat.{ℕ, _≤_, _+_, _<_}

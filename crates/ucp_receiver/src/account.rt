@@ -1,11 +1,11 @@
 // The byte account: what a flag, and octets other than the flag, add to it.
+use super::Answer;
 use super::Counts;
 ghost use mathlib.Core.Path.{_≡_};
 ghost use mathlib.Core.List.{List};
 ghost use Prim.Native.Nat.{ℕ, _%_, _^_};
 ghost use Rattle.ucp_receiver.specs.Answers.{verdictOf};
 ghost use Rattle.ucp_receiver.specs.Account.{zeroCounts, countedFlag, countedSkipped, countedOpen, repeated};
-use super::Answer;
 
 // At the start.
 pub fn zero_counts() -> Counts

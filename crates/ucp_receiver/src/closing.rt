@@ -1,6 +1,7 @@
 // The flag that closes a stretch without a fault: the answer that is due by the stored octets, and the body put out where it is
 // one.
 use super::Answer;
+use super::Store;
 ghost use mathlib.Core.Path.{_≡_};
 ghost use mathlib.Core.List.{_++_};
 ghost use Prim.Native.Nat.{_+_, _*_, _<_, _≤_};
@@ -44,13 +45,13 @@ fn judge(store: &[u8], stored: usize, room: usize) -> Answer
 }
 
 // A stretch without a fault up to its flag. `stored` is over 438 in no record that a fresh one leads to.
-fn judge_stretch(store: &[u8; 438], stored: usize, room: usize) -> Answer
+fn judge_stretch(store: &Store, stored: usize, room: usize) -> Answer
     ensures { λ r. ⌜ Judges r (now (store .entry)) room (closedStretch stored (now (store .entry)) room) ⌝ }
 {
     if stored == 0 {
         return Answer::Nothing;
     }
-    if 438 < stored {
+    if super::STORE_OCTETS < stored {
         return Answer::Refused(3);
     }
     judge(store, stored, room)
@@ -69,7 +70,7 @@ fn deliver(store: &[u8], n: usize, output: &mut [u8])
 }
 
 // The answer at the flag, with the body put out where one is due.
-pub fn close_stretch(store: &[u8; 438], stored: usize, output: &mut [u8]) -> Answer
+pub fn close_stretch(store: &Store, stored: usize, output: &mut [u8]) -> Answer
     ensures { λ r. ⌜ Closes r (now (store .entry)) (now (output .entry)) (now (output .exit)) (closedStretch stored (now (store .entry)) (length (now (output .entry)))) ⌝ }
 {
     let answer = judge_stretch(store, stored, output.len());

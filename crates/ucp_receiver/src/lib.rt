@@ -5,6 +5,11 @@ pub mod closing;
 pub mod octet;
 pub mod slice;
 
+// The store: unstuffed octets of the open stretch, a body of 436 and its check at most.
+pub const STORE_OCTETS: usize = 438;
+
+pub type Store = [u8; STORE_OCTETS];
+
 // Where the line stands.
 pub enum Phase {
     // No flag yet: nothing is stored.

@@ -1,23 +1,24 @@
 // The receiver by the octet. The store is lent, so that a frame's octets rest in one place; the small rest of the record
 // goes in and comes back by value.
+use super::Answer;
+use super::Counts;
 use super::Phase;
 use super::Received;
 use super::Rest;
+use super::Store;
 ghost use mathlib.Core.Path.{_≡_};
 ghost use lib.ListN.{length};
 ghost use Rattle.ucp_receiver.specs.Closing.{Closes};
 ghost use Rattle.ucp_receiver.specs.Octet.{Receives, Advances, storing, advancedIn, closedIn, countedBy, freshRest, stateOf};
-use super::Answer;
-use super::Counts;
 
 // ---- an octet other than the flag
 
 // An unstuffed octet is stored behind the others; the 439th is a fault.
-fn put(rest: Rest, store: &mut [u8; 438], octet: u8) -> Rest
+fn put(rest: Rest, store: &mut Store, octet: u8) -> Rest
     ensures { λ r. ⌜ stateOf r (now (store .exit)) ≡ storing octet (stateOf rest (now (store .entry))) ⌝ }
 {
     let at = rest.stored;
-    if at < 438 {
+    if at < super::STORE_OCTETS {
         store[at] = octet;
         Rest {
             phase: Phase::Reading,
@@ -32,7 +33,7 @@ fn put(rest: Rest, store: &mut [u8; 438], octet: u8) -> Rest
 }
 
 // The octet behind an escape.
-fn unescape(rest: Rest, store: &mut [u8; 438], octet: u8) -> Rest
+fn unescape(rest: Rest, store: &mut Store, octet: u8) -> Rest
     ensures { λ r. ⌜ stateOf r (now (store .exit)) ≡ advancedIn Phase.Escape octet (stateOf rest (now (store .entry))) ⌝ }
 {
     if octet == 0x5E {
@@ -48,7 +49,7 @@ fn unescape(rest: Rest, store: &mut [u8; 438], octet: u8) -> Rest
 }
 
 // Any octet other than the flag.
-fn advance(rest: Rest, store: &mut [u8; 438], octet: u8) -> Rest
+fn advance(rest: Rest, store: &mut Store, octet: u8) -> Rest
     ensures { λ r. ⌜ stateOf r (now (store .exit)) ≡ advancedIn (rest .phase) octet (stateOf rest (now (store .entry))) ⌝ }
 {
     let phase = rest.phase;
@@ -73,7 +74,7 @@ fn advance(rest: Rest, store: &mut [u8; 438], octet: u8) -> Rest
 // ---- the flag
 
 // The answer, in every phase, with the body put out where one is due.
-fn close(rest: Rest, store: &[u8; 438], output: &mut [u8]) -> Answer
+fn close(rest: Rest, store: &Store, output: &mut [u8]) -> Answer
     ensures { λ r. ⌜ Closes r (now (store .entry)) (now (output .entry)) (now (output .exit)) (closedIn (rest .phase) (stateOf rest (now (store .entry))) (length (now (output .entry)))) ⌝ }
 {
     let phase = rest.phase;
@@ -105,16 +106,11 @@ pub fn count_octets(counts: Counts, phase: Phase, n: usize) -> Counts
 // ---- one octet
 
 // The flag: the answer is due, the store is cleared, and the next stretch begins.
-pub fn receive_flag(
-    rest: Rest,
-    counts: Counts,
-    store: &mut [u8; 438],
-    output: &mut [u8],
-) -> Received
+pub fn receive_flag(rest: Rest, counts: Counts, store: &mut Store, output: &mut [u8]) -> Received
     ensures { λ r. ⌜ Receives rest counts (now (store .entry)) 0x7E (now (output .entry)) r (now (store .exit)) (now (output .exit)) ⌝ }
 {
     let answer = close(rest, store, output);
-    *store = [0; 438];
+    *store = [0; super::STORE_OCTETS];
     Received {
         rest: Rest {
             phase: Phase::Reading, // whatever the last one was
@@ -126,7 +122,7 @@ pub fn receive_flag(
 }
 
 // Any other octet brings no answer.
-pub fn receive_other(rest: Rest, counts: Counts, store: &mut [u8; 438], octet: u8) -> Received
+pub fn receive_other(rest: Rest, counts: Counts, store: &mut Store, octet: u8) -> Received
     ensures { λ r. ⌜ Advances rest counts (now (store .entry)) octet r (now (store .exit)) ⌝ }
 {
     let phase = rest.phase;
@@ -141,7 +137,7 @@ pub fn receive_other(rest: Rest, counts: Counts, store: &mut [u8; 438], octet: u
 pub fn receive(
     rest: Rest,
     counts: Counts,
-    store: &mut [u8; 438],
+    store: &mut Store,
     octet: u8,
     output: &mut [u8],
 ) -> Received

@@ -1,5 +1,12 @@
 // The receiver by the slice: what `receive` does octet by octet, up to and including the octet that brings the next answer.
+use super::Answer;
+use super::Counts;
+use super::Phase;
+use super::Received;
+use super::Rest;
+use super::Store;
 use super::Taken;
+ghost use Rattle.ucp_frame.specs.Stretch.{storeOctets};
 ghost use mathlib.Core.Path.{_≡_};
 ghost use mathlib.Core.List.{List};
 ghost use Prim.Native.Nat.{ℕ, _+_, _<_, _≤_};
@@ -7,11 +14,6 @@ ghost use lib.ListN.{length};
 ghost use Rattle.ucp_receiver.specs.Octet.{Receives};
 ghost use Rattle.ucp_receiver.specs.Slice.{Takes};
 ghost use Rattle.ucp_receiver.specs.Steps.{PutsPlain, NoFlag, Ignores, Passes, isAnswer, Turns};
-use super::Answer;
-use super::Counts;
-use super::Phase;
-use super::Received;
-use super::Rest;
 
 // How many octets of a slice were passed without a full step.
 struct Passed {
@@ -22,18 +24,18 @@ struct Passed {
 
 // How many octets there is room for in the store and that the slice has.
 fn most_plain(stored: usize, line: &[u8], from: usize) -> usize
-    requires { ⌜ (stored ≤ 438) × (from ≤ length (now line)) ⌝ }
-    ensures { λ r. ⌜ (stored + r ≤ 438) × (from + r ≤ length (now (line .entry))) ⌝ }
+    requires { ⌜ (stored ≤ storeOctets) × (from ≤ length (now line)) ⌝ }
+    ensures { λ r. ⌜ (stored + r ≤ storeOctets) × (from + r ≤ length (now (line .entry))) ⌝ }
 {
-    let room = 438 - stored;
+    let room = super::STORE_OCTETS - stored;
     let left = line.len() - from;
     if room < left { room } else { left }
 }
 
 // Octets that are neither flag nor escape are stored as they are, up to the first other one: how many. Apart from the step
 // of `receive`, so that its loop is short.
-fn put_plain(store: &mut [u8; 438], stored: usize, line: &[u8], from: usize) -> usize
-    requires { ⌜ (stored ≤ 438) × (from ≤ length (now line)) ⌝ }
+fn put_plain(store: &mut Store, stored: usize, line: &[u8], from: usize) -> usize
+    requires { ⌜ (stored ≤ storeOctets) × (from ≤ length (now line)) ⌝ }
     ensures { λ r. ⌜ PutsPlain (now (store .entry)) stored (now (line .entry)) from r (now (store .exit)) ⌝ }
 {
     let most = most_plain(stored, line, from);
@@ -83,12 +85,12 @@ fn pass_ignored(rest: Rest, counts: Counts, line: &[u8], from: usize) -> Passed
 }
 
 // The octets that a stretch without a fault only stores.
-fn pass_plain(rest: Rest, counts: Counts, store: &mut [u8; 438], line: &[u8], from: usize) -> Passed
+fn pass_plain(rest: Rest, counts: Counts, store: &mut Store, line: &[u8], from: usize) -> Passed
     requires { ⌜ (from ≤ length (now line)) × (rest .phase ≡ Phase.Reading) ⌝ }
     ensures { λ r. ⌜ Passes rest counts (now (store .entry)) (now (line .entry)) from r (now (store .exit)) ⌝ }
 {
     let stored = rest.stored;
-    if stored <= 438 {
+    if stored <= super::STORE_OCTETS {
         let n = put_plain(store, stored, line, from);
         Passed {
             rest: Rest {
@@ -108,7 +110,7 @@ fn pass_plain(rest: Rest, counts: Counts, store: &mut [u8; 438], line: &[u8], fr
 }
 
 // Octets that need no full step, as many as there are at `from`.
-fn pass(rest: Rest, counts: Counts, store: &mut [u8; 438], line: &[u8], from: usize) -> Passed
+fn pass(rest: Rest, counts: Counts, store: &mut Store, line: &[u8], from: usize) -> Passed
     requires { ⌜ from ≤ length (now line) ⌝ }
     ensures { λ r. ⌜ Passes rest counts (now (store .entry)) (now (line .entry)) from r (now (store .exit)) ⌝ }
 {
@@ -128,7 +130,7 @@ fn pass(rest: Rest, counts: Counts, store: &mut [u8; 438], line: &[u8], from: us
 
 // One octet, by a full step: `super::octet::receive` written out. With two callers `receive_flag` stays a function of its own in
 // the compiled code, so that neither of them carries it for every octet.
-fn step(rest: Rest, counts: Counts, store: &mut [u8; 438], octet: u8, output: &mut [u8]) -> Received
+fn step(rest: Rest, counts: Counts, store: &mut Store, octet: u8, output: &mut [u8]) -> Received
     ensures { λ r. ⌜ Receives rest counts (now (store .entry)) octet (now (output .entry)) r (now (store .exit)) (now (output .exit)) ⌝ }
 {
     if octet == 0x7E {
@@ -142,7 +144,7 @@ fn step(rest: Rest, counts: Counts, store: &mut [u8; 438], octet: u8, output: &m
 fn turn(
     rest: Rest,
     counts: Counts,
-    store: &mut [u8; 438],
+    store: &mut Store,
     line: &[u8],
     from: usize,
     output: &mut [u8],
@@ -189,7 +191,7 @@ fn answered(answer: Answer) -> bool
 pub fn receive_slice(
     rest: Rest,
     counts: Counts,
-    store: &mut [u8; 438],
+    store: &mut Store,
     line: &[u8],
     output: &mut [u8],
 ) -> Taken

@@ -16,7 +16,7 @@ pub fn refusal(body: &[u8], output: &[u8]) -> u8
     if n == 0 {
         return 7;
     }
-    if 436 < n {
+    if ucp_frame::LONGEST_BODY < n {
         return 7;
     }
     // The most that a frame of n octets takes. Only where that is too much is this very frame measured.

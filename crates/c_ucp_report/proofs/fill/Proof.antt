@@ -1,7 +1,7 @@
 -- `c_ucp_report::fill` meets its contract: the three parts behind zeros. Assumes nothing.
 use mathlib.Core.Path.{_∙_}
 use denote.Ref.{now}
-use Rattle.c_ucp_report.specs.Parts.{rightStored, othersStored}
+use Rattle.c_ucp_report.specs.Steps.{rightStored, othersStored}
 use Rattle.c_ucp_report.proofs.Bodies.{of-body}
 use borrow.Author.Needs.{needs}
 use Rattle.c_ucp_report.proofs.fill.Statement.{statement}

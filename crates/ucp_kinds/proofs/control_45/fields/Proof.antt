@@ -7,7 +7,7 @@ use mir.ValLaws.{toZ-ofZ}
 use Rattle.field_layout.specs.Digits.{isSet}
 use Rattle.field_signed.specs.Signed.{signed}
 use Rattle.field_format.specs.Formats.{valueIn}
-use Rattle.field_format.proofs.Answers.{by-octets}
+use Rattle.field_format.proofs.ByOctets.{by-octets}
 use Rattle.ucp_kinds.specs.Control45.{controlFormat}
 use borrow.Author.Needs.{needs}
 use Rattle.ucp_kinds.proofs.control_45.fields.Statement.{statement}

@@ -3,7 +3,7 @@ use mathlib.Core.Path.{sym, _∙_}
 use native.Mathlib.Omega.{arith}
 use borrow.Author.Tests.{not-true, not-false}
 use Rattle.ucp_kinds.specs.declared.ControlRead.the-variants.{Control as ControlIs, Refused}
-use Rattle.field_format.proofs.Answers.{refused-11, refused-12, refused-13, accepted, other, same}
+use Rattle.ucp_answers.proofs.Answers.{refused-11, refused-12, refused-13, accepted, other, same}
 use Rattle.ucp_kinds.specs.Control45.{controlFormat}
 use borrow.Author.Needs.{needs}
 use Rattle.ucp_kinds.proofs.control_45.read.Statement.{statement}

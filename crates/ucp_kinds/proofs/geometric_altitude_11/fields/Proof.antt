@@ -5,7 +5,7 @@ use mir.Syntax.{w16}
 use mir.ValLaws.{toZ-ofZ}
 use Rattle.field_signed.specs.Signed.{signed}
 use Rattle.field_format.specs.Formats.{valueIn}
-use Rattle.field_format.proofs.Answers.{by-octets}
+use Rattle.field_format.proofs.ByOctets.{by-octets}
 use Rattle.ucp_kinds.specs.GeometricAltitude11.{geometricFormat}
 use borrow.Author.Needs.{needs}
 use Rattle.ucp_kinds.proofs.geometric_altitude_11.fields.Statement.{statement}

@@ -2,7 +2,7 @@
 use mathlib.Core.Path.{refl}
 use native.Mathlib.Omega.{arith}
 use Rattle.ucp_kinds.specs.declared.GeometricAltitudeRead.the-variants.{GeometricAltitude as GeometricAltitudeIs, Refused}
-use Rattle.field_format.proofs.Answers.{refused-11, accepted}
+use Rattle.ucp_answers.proofs.Answers.{refused-11, accepted}
 use Rattle.ucp_kinds.specs.GeometricAltitude11.{geometricFormat}
 use Rattle.ucp_kinds.proofs.geometric_altitude_11.read.Statement.{statement}
 use Rattle.ucp_kinds.proofs.geometric_altitude_11.read.Tie as tie

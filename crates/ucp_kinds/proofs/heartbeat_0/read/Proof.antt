@@ -2,7 +2,7 @@
 use mathlib.Core.Path.{refl}
 use native.Mathlib.Omega.{arith}
 use Rattle.ucp_kinds.specs.declared.HeartbeatRead.the-variants.{Heartbeat as HeartbeatIs, Refused}
-use Rattle.field_format.proofs.Answers.{refused-11, accepted}
+use Rattle.ucp_answers.proofs.Answers.{refused-11, accepted}
 use Rattle.ucp_kinds.specs.Heartbeat0.{heartbeatFormat}
 use Rattle.ucp_kinds.proofs.heartbeat_0.read.Statement.{statement}
 use Rattle.ucp_kinds.proofs.heartbeat_0.read.Tie as tie

@@ -3,7 +3,7 @@ use mathlib.Core.Path.{_∙_, ap}
 use Prim.Native.Nat.{ℕ, _/_, _%_}
 use denote.Ref.{now}
 use Rattle.field_format.specs.Formats.{valueIn}
-use Rattle.field_format.proofs.Answers.{by-octets}
+use Rattle.field_format.proofs.ByOctets.{by-octets}
 use Rattle.ucp_kinds.specs.Initialization117.{initializationFormat}
 use borrow.Author.Needs.{needs}
 use Rattle.ucp_kinds.proofs.initialization_117.fields.Statement.{statement}

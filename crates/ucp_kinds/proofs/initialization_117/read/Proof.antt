@@ -3,7 +3,7 @@ use mathlib.Core.Path.{sym, _∙_}
 use native.Mathlib.Omega.{arith}
 use borrow.Author.Tests.{not-true, not-false}
 use Rattle.ucp_kinds.specs.declared.InitializationRead.the-variants.{Initialization as InitializationIs, Refused}
-use Rattle.field_format.proofs.Answers.{refused-11, refused-12, refused-13, accepted, other, same}
+use Rattle.ucp_answers.proofs.Answers.{refused-11, refused-12, refused-13, accepted, other, same}
 use Rattle.ucp_kinds.specs.Initialization117.{initializationFormat}
 use borrow.Author.Needs.{needs}
 use Rattle.ucp_kinds.proofs.initialization_117.read.Statement.{statement}

@@ -4,7 +4,7 @@ use mir.ValLaws.{toZ-ofZ}
 use Rattle.field_format.specs.Formats.{bodyOf}
 use Rattle.field_format.proofs.Formats.{bound}
 use Rattle.ucp_kinds.specs.Report10.{reportFormat}
-use Rattle.ucp_kinds.proofs.Gdl90Formats.{report-right}
+use Rattle.ucp_kinds.proofs.Formats.{report-right}
 use borrow.Author.Needs.{needs}
 use Rattle.ucp_kinds.proofs.report_10.octets.Statement.{statement}
 use Rattle.ucp_kinds.proofs.report_10.octets.Tie as tie

@@ -2,7 +2,7 @@
 use mathlib.Core.Path.{refl}
 use native.Mathlib.Omega.{arith}
 use Rattle.ucp_kinds.specs.declared.ReportRead.the-variants.{Report as ReportIs, Refused}
-use Rattle.field_format.proofs.Answers.{refused-11, accepted}
+use Rattle.ucp_answers.proofs.Answers.{refused-11, accepted}
 use Rattle.ucp_kinds.specs.Report10.{reportFormat}
 use Rattle.ucp_kinds.proofs.report_10.read.Statement.{statement}
 use Rattle.ucp_kinds.proofs.report_10.read.Tie as tie

@@ -4,7 +4,7 @@ use Rattle.ucp_answers.proofs.Writers.{fitting, refused-13, body-put}
 use Rattle.field_format.specs.Formats.{bodyOf, fits}
 use Rattle.field_format.proofs.Formats.{fitting as bounds}
 use Rattle.ucp_kinds.specs.Report10.{reportFormat}
-use Rattle.ucp_kinds.proofs.Gdl90Formats.{report-right}
+use Rattle.ucp_kinds.proofs.Formats.{report-right}
 use borrow.Author.Needs.{needs}
 use Rattle.ucp_kinds.proofs.report_10.write.Statement.{statement}
 use Rattle.ucp_kinds.proofs.report_10.write.Tie as tie

@@ -2,7 +2,7 @@
 use mathlib.Core.Path.{refl}
 use native.Mathlib.Omega.{arith}
 use Rattle.ucp_kinds.specs.declared.RequestRead.the-variants.{Request as RequestIs, Refused}
-use Rattle.field_format.proofs.Answers.{refused-11, refused-12, accepted, other, same}
+use Rattle.ucp_answers.proofs.Answers.{refused-11, refused-12, accepted, other, same}
 use Rattle.ucp_kinds.specs.Request44.{requestFormat}
 use borrow.Author.Needs.{needs}
 use Rattle.ucp_kinds.proofs.request_44.read.Statement.{statement}

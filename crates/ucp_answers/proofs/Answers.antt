@@ -1,19 +1,14 @@
--- A reader's answers by a kind's format: the first test that fails gives the refusal, and what a body of a known length carries
--- is found octet by octet. Assumes nothing.
-use mathlib.Core.Path.{_≡_, refl, sym, ap, _∙_}
-use mathlib.Core.Bool.{Bool, true, false, _&&_}
-use mathlib.Core.List.{List, [], _∷_}
+-- A reader's answers by a kind's format: the first test that fails gives the refusal. Assumes nothing.
+use mathlib.Core.Path.{_≡_, sym, ap, _∙_}
+use mathlib.Core.Bool.{true, false}
+use mathlib.Core.List.{List}
 use Prim.Native.Nat.{ℕ}
 use borrow.Author.Tests.{eq-eqb, ne-eqb}
 use lib.Dec.{eqb}
-use lib.ListN.{length, getD, drop}
-use Rattle.field_layout.proofs.Elements.{elements, by-elements}
-use Rattle.ucp_answers.proofs.Readers.{wrong-length, wrong-fixed, wrong-field, right, told}
-use Rattle.field_format.specs.Formats.{Format, standAt, bodySize, valueIn, refusalOf, reads}
-
--- the value that a body carries, by the body's octets
-pub by-octets : {A : Type 0} (f : Format A) (n : ℕ) (body : List ℕ) → length body ≡ n → valueIn f (elements n 0 body) ≡ valueIn f body
-by-octets f n body e = sym (ap (valueIn f) (by-elements n body e))
+use lib.ListN.{length, drop}
+use Rattle.ucp_answers.proofs.Readers.{wrong-length, wrong-fixed, wrong-field, right, in-other-terms}
+use Rattle.field_format.specs.Formats.{Format, standAt, bodySize, valueIn}
+use Rattle.ucp_answers.specs.Refusals.{refusalOf, reads}
 
 module _ {A B : Type 0} (f : Format A) (refused : ℕ → B) (means : A → B) (body : List ℕ) where
   pub refused-11 : (length body ≡ bodySize f → ⊥) → refused 11 ≡ reads f refused means body
@@ -34,10 +29,10 @@ module _ {A B : Type 0} (f : Format A) (refused : ℕ → B) (means : A → B) (
     accepted r = right refused (eq-eqb _ _ n) h (ap (f .ranges) (sym e) ∙ r) (ap means e)
 
 -- the same answer in other terms
-pub retold : {A B C : Type 0} (f : Format A) (g : B → C) (refused : ℕ → B) (means : A → B) (body : List ℕ)
+pub in-terms-of : {A B C : Type 0} (f : Format A) (g : B → C) (refused : ℕ → B) (means : A → B) (body : List ℕ)
     → g (reads f refused means body) ≡ reads f (λ n. g (refused n)) (λ a. g (means a)) body
 unfolding reads
-retold f g refused means body = told g refused (refusalOf f body) (means (valueIn f body))
+in-terms-of f g refused means body = in-other-terms g refused (refusalOf f body) (means (valueIn f body))
 
 -- an octet that was found is another than the fixed one, or the same
 module _ {x found octet : ℕ} (e : found ≡ octet) where

@@ -1,11 +1,28 @@
 -- The formats of these kinds are right. Assumes nothing.
 use mathlib.Core.Path.{_≡_, refl}
 use mathlib.Core.List.{[], _∷_}
+use Prim.Native.Nat.{ℕ}
 use native.Mathlib.Omega.{arith}
 use Rattle.field_format.specs.Formats.{Right, offsets}
+use Rattle.ucp_kinds.specs.Heartbeat0.{heartbeatFormat}
+use Rattle.ucp_kinds.specs.Report10.{reportFormat}
+use Rattle.ucp_kinds.specs.GeometricAltitude11.{geometricFormat}
 use Rattle.ucp_kinds.specs.Request44.{requestFormat}
 use Rattle.ucp_kinds.specs.Control45.{controlFormat}
 use Rattle.ucp_kinds.specs.Initialization117.{initializationFormat}
+
+pub heartbeat-right : Right heartbeatFormat
+heartbeat-right = record { whole = omega arith; sound = omega arith; back = λ h. refl; again = λ r. refl }
+
+pub report-right : (id : ℕ) → Right (reportFormat id)
+report-right id = record { whole = omega arith; sound = omega arith; back = λ r. refl; again = λ r. refl }
+
+pub geometric-right : Right geometricFormat
+geometric-right = record { whole = omega arith; sound = omega arith; back = λ g. refl; again = λ r. refl }
+
+-- the document's offsets, behind the ID
+report-offsets : (id : ℕ) → offsets (reportFormat id) ≡ 1 ∷ 2 ∷ 5 ∷ 8 ∷ 11 ∷ 13 ∷ 14 ∷ 18 ∷ 19 ∷ 27 ∷ []
+report-offsets id = refl
 
 pub request-right : Right requestFormat
 request-right = record { whole = omega arith; sound = omega arith; back = λ q. refl; again = λ r. refl }
