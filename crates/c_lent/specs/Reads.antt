@@ -7,6 +7,7 @@ use Prim.Native.Nat.{ℕ}
 use lib.Dec.{eqb, ltb}
 use lib.ListN.{length, getD}
 use Rattle.field_format.specs.Formats.{Format, valueIn}
+use Rattle.refusals.specs.Numbers as because
 use Rattle.ucp_answers.specs.Refusals.{refusalOf}
 use Rattle.c_lent.specs.Structs.{Struct, stored}
 
@@ -16,7 +17,7 @@ hasId id body = ltb 0 (length body) && eqb (getD body 0 0) id
 
 -- 10 for a body of another kind, then the kind's own refusal; 0, where none is due
 unfoldable pub refusalAs : ℕ → List ℕ → ℕ → ℕ
-refusalAs id body refusal = cond (hasId id body) refusal 10
+refusalAs id body refusal = cond (hasId id body) refusal because.unknownId
 
 -- one call, whole: the refusal that is due, the octets of the struct and those that were lent; the answer, and what is left
 pub record FillsStruct (due : ℕ) (octets before : List ℕ) (answer : ℕ) (after : List ℕ) : Type 0 where

@@ -2,6 +2,7 @@
 use mathlib.Core.Bool.{cond}
 use mathlib.Core.List.{List}
 use Prim.Native.Nat.{ℕ}
+use Rattle.refusals.specs.Numbers as because
 use Rattle.ucp_frame.specs.Frame.{frame}
 use Rattle.ucp_writer.specs.Room.{frameDue}
 use Rattle.field_format.specs.Formats.{fits, bodyOf}
@@ -13,7 +14,7 @@ use Rattle.ucp_kinds.specs.Control45.{controlFormat}
 
 -- 13 for a field outside its range, then what the frame writer answers to the body
 unfoldable pub sendControlDue : Control → List ℕ → WriterAnswer
-sendControlDue c buffer = cond (fits controlFormat c) (frameDue (bodyOf controlFormat c) buffer) (refused 13)
+sendControlDue c buffer = cond (fits controlFormat c) (frameDue (bodyOf controlFormat c) buffer) (refused because.field)
 
 -- one call, whole: the control, the buffer as at entry, what is given back, and the buffer as at return
 abbrev pub SendsControl : Control → List ℕ → OstrogoszWritten → List ℕ → Type 0

@@ -78,19 +78,19 @@ pub extern "C" fn ostrogosz_read_control_at(body: &[u8], message: &mut [u8; 24])
 {
     let n = body.len();
     if n == 0 {
-        return 10;
+        return refusals::UNKNOWN_ID as u32;
     }
     if body[0] != 45 {
-        return 10;
+        return refusals::UNKNOWN_ID as u32;
     }
     if n != 18 {
-        return 11;
+        return refusals::MESSAGE_LENGTH as u32;
     }
     if body[1] != 1 {
-        return 12;
+        return refusals::FIXED as u32;
     }
     if !body_fits(body) {
-        return 13;
+        return refusals::FIELD as u32;
     }
     fill(body, message);
     0
@@ -150,13 +150,13 @@ fn write(message: &[u8], output: &mut [u8]) -> OstrogoszWritten
 {
     if !(numbers_fit(message) & field_texts::pairs::is_padded_at(message, 15)) {
         return OstrogoszWritten {
-            refusal: 13,
+            refusal: refusals::FIELD as u32,
             length: 0,
         };
     }
     if output.len() < 18 {
         return OstrogoszWritten {
-            refusal: 8,
+            refusal: refusals::OUTPUT_LENGTH as u32,
             length: 0,
         };
     }
@@ -200,7 +200,7 @@ fn send(message: &[u8], buffer: &mut [u8]) -> OstrogoszWritten
 {
     if !(numbers_fit(message) & field_texts::pairs::is_padded_at(message, 15)) {
         return OstrogoszWritten {
-            refusal: 13,
+            refusal: refusals::FIELD as u32,
             length: 0,
         };
     }

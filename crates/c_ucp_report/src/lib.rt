@@ -163,13 +163,13 @@ pub extern "C" fn ostrogosz_read_ownship_at(body: &[u8], message: &mut [u8; 40])
 {
     let n = body.len();
     if n == 0 {
-        return 10;
+        return refusals::UNKNOWN_ID as u32;
     }
     if body[0] != 10 {
-        return 10;
+        return refusals::UNKNOWN_ID as u32;
     }
     if n != 28 {
-        return 11;
+        return refusals::MESSAGE_LENGTH as u32;
     }
     fill(body, message);
     0
@@ -307,13 +307,13 @@ fn write(message: &[u8], output: &mut [u8]) -> OstrogoszWritten
 {
     if !fits(message) {
         return OstrogoszWritten {
-            refusal: 13,
+            refusal: refusals::FIELD as u32,
             length: 0,
         };
     }
     if output.len() < 28 {
         return OstrogoszWritten {
-            refusal: 8,
+            refusal: refusals::OUTPUT_LENGTH as u32,
             length: 0,
         };
     }

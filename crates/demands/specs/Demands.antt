@@ -10,6 +10,7 @@ use mathlib.Core.List.{List, [], _∷_, _++_, map}
 use mathlib.Core.Logic.{_⊎_, _↔_}
 use Prim.Native.Nat.{ℕ, _+_, _≤_, _<_}
 use lib.ListN.{length, drop}
+use Rattle.refusals.specs.Numbers as because
 use Rattle.ucp_frame.specs.Frame.{frame, longestBody, longestFrame}
 use Rattle.output_writing.specs.declared.Written.{Written}
 use Rattle.output_writing.specs.Answers.{WriterAnswer, refused, wrote, writerAnswer, Writing}
@@ -48,14 +49,14 @@ use Rattle.thm_ucp_receiver.specs.Promises.{AnswersAs, AnswersByHistory, Stretc
 pub record Demand1 : Type 0 where
   pub writerRefuses7 :
       (body output after : List ℕ) (r : Written) → WritesFrame body output r after
-      → (writerAnswer r ≡ refused 7) ↔ ((length body ≡ 0) ⊎ (longestBody < length body))
+      → (writerAnswer r ≡ refused because.bodyLength) ↔ ((length body ≡ 0) ⊎ (longestBody < length body))
   pub writerRefuses8 :
       (body output after : List ℕ) (r : Written) → WritesFrame body output r after
-      → (writerAnswer r ≡ refused 8)
+      → (writerAnswer r ≡ refused because.outputLength)
       ↔ ((1 ≤ length body) × (length body ≤ longestBody) × (length output < length (frame body)))
   pub writerRefuses :
       (body output after : List ℕ) (r : Written) (number : ℕ) → WritesFrame body output r after → writerAnswer r ≡ refused number
-      → ((number ≡ 7) ⊎ (number ≡ 8)) × (after ≡ output)
+      → ((number ≡ because.bodyLength) ⊎ (number ≡ because.outputLength)) × (after ≡ output)
   pub refusalWritesNothing :
       (due : WriterAnswer) (octets output after : List ℕ) (r : Written) (number : ℕ) → Writing due octets output r after
       → writerAnswer r ≡ refused number → after ≡ output
@@ -67,16 +68,16 @@ pub record Demand1 : Type 0 where
       (m : ucp.Message) (payload output after : List ℕ) (r : Written) (number : ℕ)
       → Message.WritesBody (messageFits m payload) (messageBody m payload) output r after
       → (writerAnswer r ≡ refused number)
-      ↔ (((number ≡ 13) × (messageFits m payload ≡ false))
-      ⊎ ((number ≡ 8) × (messageFits m payload ≡ true) × (length output < length (messageBody m payload))))
+      ↔ (((number ≡ because.field) × (messageFits m payload ≡ false))
+      ⊎ ((number ≡ because.outputLength) × (messageFits m payload ≡ true) × (length output < length (messageBody m payload))))
   pub mavlinkReaderRefuses :
       (input : List ℕ) (number : ℕ) → readDue input ≡ mavlink-read.Refused number → (20 ≤ number) × (number ≤ 25)
   pub mavlinkWriterRefuses :
       (m : mavlink.Message) (h : Header) (output after : List ℕ) (r : Written) (number : ℕ)
       → Writing (writeDue m output) (messageFrame m h) output r after
       → (writerAnswer r ≡ refused number)
-      ↔ (((number ≡ 25) × (inRange m ≡ false))
-      ⊎ ((number ≡ 8) × (inRange m ≡ true) × (length output < length (payloadOf m) + 8)))
+      ↔ (((number ≡ because.mavlinkField) × (inRange m ≡ false))
+      ⊎ ((number ≡ because.outputLength) × (inRange m ≡ true) × (length output < length (payloadOf m) + 8)))
   pub receiverRefuses :
       (rest : Rest) (counts : Counts) (store : List ℕ) (octet : ℕ) (output : List ℕ) (given : Received)
       (storeAfter outputThen : List ℕ) (number : ℕ)
@@ -129,7 +130,7 @@ ReceiverLists =
     × ((before : List Observed) (last : Observed) → calls ≡ before ++ last ∷ []
     → (a b : List ℕ) → TwoBodies a b → 1 ≤ length a → length a ≤ longestBody → AtMostThreeBits a b ⊎ Within16Bits a b
     → EndsIn (carrying a b) (upTo before last)
-    → receiver-answers.receiverAnswer (last .given .answer) ≡ refusal 5)
+    → receiver-answers.receiverAnswer (last .given .answer) ≡ refusal because.wrongCheck)
 
 -- Demand 3. The check's strength, and with it the receiver's lists and the writer's.
 pub record Demand3 : Type 0 where

@@ -6,6 +6,7 @@ use Prim.Native.Nat.{ℕ, _+_, _*_}
 use lib.Dec.{eqb, ltb}
 use lib.ListN.{length, getD, take, drop}
 use Rattle.crc_x25.specs.Check.{x25}
+use Rattle.refusals.specs.Numbers as because
 use Rattle.mavlink_frame.specs.declared.Kind.{Kind}
 use Rattle.mavlink_frame.specs.declared.Header.{Header}
 use Rattle.mavlink_frame.specs.declared.Lookup.{Lookup}
@@ -34,18 +35,18 @@ checkDue n extra s = x25 (take (n + 5) (drop 1 s) ++ extra ∷ [])
 unfoldable pub foundOf : Kind → List ℕ → Found
 foundOf k s =
     cond (eqb (getD s 1 0) (k .length))
-    (cond (ltb (length s) (k .length + 8)) (Refused 20)
+    (cond (ltb (length s) (k .length + 8)) (Refused because.mavlinkShort)
     (cond (eqb (checkAt (k .length) s) (checkDue (k .length) (k .extra) s)) (Frame (k .id) (headerAt s) (k .length + 8))
-    (Refused 24)))
-    (Refused 23)
+    (Refused because.mavlinkWrongCheck)))
+    (Refused because.mavlinkLength)
 
 abbrev pub foundBy : Lookup → List ℕ → Found
 foundBy (Known k) s = foundOf k s
-foundBy Unknown s = Refused 22
+foundBy Unknown s = Refused because.mavlinkUnknownId
 
 unfoldable pub found : List ℕ → Found
 found s =
-    cond (eqb (length s) 0) (Refused 20)
+    cond (eqb (length s) 0) (Refused because.mavlinkShort)
     (cond (eqb (getD s 0 0) start)
-    (cond (ltb (length s) 6) (Refused 20) (foundBy (mavlinkKind (getD s 5 0)) s))
-    (Refused 21))
+    (cond (ltb (length s) 6) (Refused because.mavlinkShort) (foundBy (mavlinkKind (getD s 5 0)) s))
+    (Refused because.mavlinkStart))

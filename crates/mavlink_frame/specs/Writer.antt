@@ -4,6 +4,7 @@ use mathlib.Core.List.{List, []}
 use Prim.Native.Nat.{ℕ, _+_}
 use lib.Dec.{eqb, ltb}
 use lib.ListN.{length}
+use Rattle.refusals.specs.Numbers as because
 use Rattle.output_writing.specs.Answers.{WriterAnswer, refused, wrote}
 use Rattle.mavlink_frame.specs.declared.Kind.{Kind}
 use Rattle.mavlink_frame.specs.declared.Header.{Header}
@@ -14,15 +15,15 @@ use Rattle.mavlink_frame.specs.Frame.{mavlinkFrame}
 
 -- 8 for an output shorter than a frame of so many octets, else the frame
 abbrev pub roomFor : ℕ → List ℕ → WriterAnswer
-roomFor octets output = cond (ltb (length output) octets) (refused 8) (wrote octets)
+roomFor octets output = cond (ltb (length output) octets) (refused because.outputLength) (wrote octets)
 
 -- 22 for an ID that no kind has, 23 for a payload that is not of the kind's length, then 8
 unfoldable pub writeOf : Kind → List ℕ → List ℕ → WriterAnswer
-writeOf k payload output = cond (eqb (length payload) (k .length)) (roomFor (length payload + 8) output) (refused 23)
+writeOf k payload output = cond (eqb (length payload) (k .length)) (roomFor (length payload + 8) output) (refused because.mavlinkLength)
 
 abbrev pub writeBy : Lookup → List ℕ → List ℕ → WriterAnswer
 writeBy (Known k) payload output = writeOf k payload output
-writeBy Unknown payload output = refused 22
+writeBy Unknown payload output = refused because.mavlinkUnknownId
 
 abbrev pub frameWriteDue : ℕ → List ℕ → List ℕ → WriterAnswer
 frameWriteDue id = writeBy (mavlinkKind id)

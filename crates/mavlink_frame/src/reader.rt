@@ -14,18 +14,18 @@ pub fn read_frame(input: &[u8]) -> Found
 {
     let n = input.len();
     if n == 0 {
-        return Found::Refused(20);
+        return Found::Refused(refusals::MAVLINK_SHORT);
     }
     let first = input[0];
     if first != 0xFE {
-        return Found::Refused(21);
+        return Found::Refused(refusals::MAVLINK_START);
     }
     if n < 6 {
-        return Found::Refused(20);
+        return Found::Refused(refusals::MAVLINK_SHORT);
     }
     match super::kind_of(input[5]) {
         Lookup::Known(kind) => read_kind(kind, input),
-        Lookup::Unknown => Found::Refused(22),
+        Lookup::Unknown => Found::Refused(refusals::MAVLINK_UNKNOWN_ID),
     }
 }
 
@@ -36,16 +36,16 @@ fn read_kind(kind: Kind, input: &[u8]) -> Found
 {
     let length = input[1];
     if length != kind.length {
-        return Found::Refused(23);
+        return Found::Refused(refusals::MAVLINK_LENGTH);
     }
     let end = kind.length as usize + 6;
     if input.len() < end + 2 {
-        return Found::Refused(20);
+        return Found::Refused(refusals::MAVLINK_SHORT);
     }
     let check = crc_x25::x25_check(&input[1..end], kind.extra);
     let sent = little(input[end], input[end + 1]);
     if sent != check {
-        return Found::Refused(24);
+        return Found::Refused(refusals::MAVLINK_WRONG_CHECK);
     }
     let header = Header {
         sequence: input[2],

@@ -19,7 +19,7 @@ pub fn write_frame(id: u8, header: Header, payload: &[u8], output: &mut [u8]) ->
 {
     match super::kind_of(id) {
         Lookup::Known(kind) => write_kind(kind, header, payload, output),
-        Lookup::Unknown => Written::Refused(22),
+        Lookup::Unknown => Written::Refused(refusals::MAVLINK_UNKNOWN_ID),
     }
 }
 
@@ -28,10 +28,10 @@ fn write_kind(kind: Kind, header: Header, payload: &[u8], output: &mut [u8]) -> 
 {
     let n = payload.len();
     if n != kind.length as usize {
-        return Written::Refused(23);
+        return Written::Refused(refusals::MAVLINK_LENGTH);
     }
     if output.len() < n + 8 {
-        return Written::Refused(8);
+        return Written::Refused(refusals::OUTPUT_LENGTH);
     }
     fill(kind, header, payload, output);
     Written::Wrote(n + 8)

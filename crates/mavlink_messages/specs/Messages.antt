@@ -6,6 +6,7 @@ use Prim.Native.Nat.{ℕ, _+_, _-_}
 use lib.Dec.{eqb}
 use lib.ListN.{length}
 use Rattle.field_format.specs.Formats.{bodyOf, valueIn}
+use Rattle.refusals.specs.Numbers as because
 use Rattle.output_writing.specs.Answers.{WriterAnswer, refused}
 use Rattle.mavlink_frame.specs.declared.Header.{Header}
 use Rattle.mavlink_frame.specs.declared.Lookup.{Lookup}
@@ -58,7 +59,7 @@ failuresOf (Traffic t) = noFailures
 
 -- ---- reading: 20 to 24 as the frame says, then 25
 abbrev pub judgedBy : Bool → Header → ℕ → Message → Read
-judgedBy fits h used m = cond fits (read-as.Message h used m (failuresOf m)) (read-as.Refused 25)
+judgedBy fits h used m = cond fits (read-as.Message h used m (failuresOf m)) (read-as.Refused because.mavlinkField)
 
 abbrev pub messageJudged : Header → ℕ → Message → Read
 messageJudged h used m = judgedBy (inRange m) h used m
@@ -71,7 +72,7 @@ payloadRead id h used p =
     (cond (eqb id 202) (messageJudged h used (Dynamic (valueIn dynamicFormat p)))
     (cond (eqb id 203) (messageJudged h used (Status (valueIn statusFormat p)))
     (cond (eqb id 246) (messageJudged h used (Traffic (valueIn trafficFormat p)))
-    (read-as.Refused 22)))))
+    (read-as.Refused because.mavlinkUnknownId)))))
 
 abbrev pub readBy : Found → List ℕ → Read
 readBy (found-as.Refused number) s = read-as.Refused number
@@ -90,7 +91,7 @@ ofItsKind id = ofLength (mavlinkKind id)
 
 -- ---- writing: 25, then 8
 abbrev pub writeDue : Message → List ℕ → WriterAnswer
-writeDue m output = cond (inRange m) (roomFor (length (payloadOf m) + 8) output) (refused 25)
+writeDue m output = cond (inRange m) (roomFor (length (payloadOf m) + 8) output) (refused because.mavlinkField)
 
 abbrev pub messageFrame : Message → Header → List ℕ
 messageFrame m h = frameOf (idOf m) h (payloadOf m)

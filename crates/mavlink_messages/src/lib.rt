@@ -174,7 +174,7 @@ pub fn write_message(message: Message, header: Header, output: &mut [u8]) -> Wri
     ensures { λ r. ⌜ Writing (writeDue message (now (output .entry))) (messageFrame message header) (now (output .entry)) r (now (output .exit)) ⌝ }
 {
     if !in_range(message) {
-        return Written::Refused(25);
+        return Written::Refused(refusals::MAVLINK_FIELD);
     }
     match message {
         Message::DataStream(data_stream) => {
@@ -245,7 +245,7 @@ fn read_payload(id: u8, header: Header, used: usize, payload: &[u8]) -> Read
         let fits = traffic_246::in_range(traffic);
         return judge(fits, header, used, Message::Traffic(traffic));
     }
-    Read::Refused(22)
+    Read::Refused(refusals::MAVLINK_UNKNOWN_ID)
 }
 
 // 25 for a message with a field outside its range. (Each kind's test stands with its reader: it then works on registers.)
@@ -253,7 +253,7 @@ fn judge(fits: bool, header: Header, used: usize, message: Message) -> Read
     ensures { λ r. ⌜ r ≡ judgedBy fits header used message ⌝ }
 {
     if !fits {
-        return Read::Refused(25);
+        return Read::Refused(refusals::MAVLINK_FIELD);
     }
     let failures = message_failures(message);
     Read::Message(header, used, message, failures)

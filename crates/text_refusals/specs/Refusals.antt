@@ -4,6 +4,7 @@ use mathlib.Core.Bool.{cond}
 use mathlib.Core.List.{List, [], _∷_, _++_}
 use Prim.Native.Nat.{ℕ}
 use lib.Dec.{eqb}
+use Rattle.refusals.specs.Numbers as because
 use Rattle.text_output.specs.Text.{codes, natural}
 
 pub record Wording : Type 0 where
@@ -17,22 +18,22 @@ number says words = record { number = number; words = codes words }
 -- the numbers below 20 are the UCP line's, the others MAVLink's
 abbrev pub rows : List Wording
 rows =
-    1 says " bad escape"
-    ∷ 2 says " escape before the flag"
-    ∷ 3 says " too long"
-    ∷ 4 says " too short"
-    ∷ 5 says " check wrong"
-    ∷ 6 says " no room for the body"
-    ∷ 10 says " unknown message"
-    ∷ 11 says " wrong length"
-    ∷ 12 says " wrong version, signature or subtype"
-    ∷ 13 says " field outside its range"
-    ∷ 20 says " too few bytes"
-    ∷ 21 says " first byte not fe"
-    ∷ 22 says " unknown message"
-    ∷ 23 says " wrong length"
-    ∷ 24 says " check wrong"
-    ∷ 25 says " field outside its range"
+    because.badEscape says " bad escape"
+    ∷ because.escapeBeforeFlag says " escape before the flag"
+    ∷ because.tooLong says " too long"
+    ∷ because.tooShort says " too short"
+    ∷ because.wrongCheck says " check wrong"
+    ∷ because.room says " no room for the body"
+    ∷ because.unknownId says " unknown message"
+    ∷ because.messageLength says " wrong length"
+    ∷ because.fixed says " wrong version, signature or subtype"
+    ∷ because.field says " field outside its range"
+    ∷ because.mavlinkShort says " too few bytes"
+    ∷ because.mavlinkStart says " first byte not fe"
+    ∷ because.mavlinkUnknownId says " unknown message"
+    ∷ because.mavlinkLength says " wrong length"
+    ∷ because.mavlinkWrongCheck says " check wrong"
+    ∷ because.mavlinkField says " field outside its range"
     ∷ []
 
 -- where no row has the number

@@ -2,6 +2,7 @@
 use mathlib.Core.Path.{_≡_}
 use mathlib.Core.List.{List, [], _∷_, _++_}
 use Prim.Native.Nat.{ℕ}
+use Rattle.refusals.specs.Numbers as because
 use Rattle.ucp_frame.specs.Frame.{frame}
 use Rattle.ucp_frame.specs.Stretch.{Verdict, silent, refused, delivered}
 use Rattle.ucp_history.specs.History.{Call, answer}
@@ -33,10 +34,10 @@ pub record FrameExamples : Type 0 where
   pub frame-7D7E :
       frame (0x7D ∷ 0x7E ∷ [])
       ≡ 0x7E ∷ 0x7D ∷ 0x5D ∷ 0x7D ∷ 0x5E ∷ 0x7D ∷ 0x5E ∷ 0x7D ∷ 0x5D ∷ 0x7E ∷ []
-  pub wrong-check : answers (0x7E ∷ 0x2C ∷ 0x02 ∷ 0x2B ∷ 0xC4 ∷ 0xE7 ∷ 0x7E ∷ []) ≡ refused 5 ∷ []
-  pub bad-escape : answers (0x7E ∷ 0x7D ∷ 0x00 ∷ 0x7E ∷ []) ≡ refused 1 ∷ []
-  pub escape-last : answers (0x7E ∷ 0x7D ∷ 0x7E ∷ []) ≡ refused 2 ∷ []
-  pub too-short : answers (0x7E ∷ 0x01 ∷ 0x01 ∷ 0x7E ∷ []) ≡ refused 4 ∷ []
+  pub wrong-check : answers (0x7E ∷ 0x2C ∷ 0x02 ∷ 0x2B ∷ 0xC4 ∷ 0xE7 ∷ 0x7E ∷ []) ≡ refused because.wrongCheck ∷ []
+  pub bad-escape : answers (0x7E ∷ 0x7D ∷ 0x00 ∷ 0x7E ∷ []) ≡ refused because.badEscape ∷ []
+  pub escape-last : answers (0x7E ∷ 0x7D ∷ 0x7E ∷ []) ≡ refused because.escapeBeforeFlag ∷ []
+  pub too-short : answers (0x7E ∷ 0x01 ∷ 0x01 ∷ 0x7E ∷ []) ≡ refused because.tooShort ∷ []
   pub no-answer : answers (0x7E ∷ 0x7E ∷ []) ≡ []
   -- bodies 2C 02 2B and 2D 12 0A share check E7C5: four bits over 17 places, just past demand 3
   pub shared-check : FourBitsUnseen
@@ -60,6 +61,6 @@ flippedLine = 0x7E ∷ 0x2C ∷ 0x01 ∷ 0x01 ∷ 0x2C ∷ 0x7E ∷ 0xC8 ∷ 0xF
 pub record DataOctetBecomesFlag : Type 0 where
   pub sent : frame sentBody ≡ sentLine
   pub received : answers sentLine ≡ delivered sentBody ∷ []
-  pub flipped : answers flippedLine ≡ delivered (0x2C ∷ 0x01 ∷ []) ∷ refused 4 ∷ []
+  pub flipped : answers flippedLine ≡ delivered (0x2C ∷ 0x01 ∷ []) ∷ refused because.tooShort ∷ []
   -- of the receiver's step: the call that takes the new flag puts that body out
   pub step : sliceRun fresh zeroCounts flippedLine 436 .verdict ≡ delivered (0x2C ∷ 0x01 ∷ [])

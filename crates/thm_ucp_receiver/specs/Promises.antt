@@ -8,6 +8,7 @@ use lib.Dec.{ltb}
 use lib.ListN.{length, take, getD}
 use Rattle.crc_polynomial.specs.Bits.{Octets}
 use Rattle.crc_gdl90.specs.Check.{frameCheck, frameCheckOctets}
+use Rattle.refusals.specs.Numbers as because
 use Rattle.ucp_frame.specs.Stuffing.{flag, stuffed}
 use Rattle.ucp_frame.specs.Frame.{frame, longestBody}
 use Rattle.ucp_frame.specs.Stretch.{Verdict, silent, refused, delivered, storeOctets, verdict}
@@ -120,7 +121,7 @@ DeliveredIsFrame =
 
 -- the answer to a frame's closing flag: the body, or 6 where the room is shorter
 abbrev pub frameAnswer : List ℕ → ℕ → Verdict
-frameAnswer b room = cond (ltb room (length b)) (refused 6) (delivered b)
+frameAnswer b room = cond (ltb room (length b)) (refused because.room) (delivered b)
 
 -- a line that ends in a frame has that as its last answer
 abbrev pub FrameIsDelivered : Type 0
@@ -152,4 +153,4 @@ abbrev pub WrongCheckRefused : Type 0
 WrongCheckRefused =
     (a b : List ℕ) → BodyLength a → (frameCheck a ≡ frameCheck b → ⊥)
     → (before : List Observed) (o : Observed) → Line (before ++ o ∷ []) → EndsIn (carrying a b) (upTo before o)
-    → receiverAnswer (o .given .answer) ≡ refusal 5
+    → receiverAnswer (o .given .answer) ≡ refusal because.wrongCheck

@@ -6,11 +6,12 @@ use lib.Dec.{eqb}
 use mathlib.Core.List.{List}
 use lib.ListN.{length, drop}
 use Rattle.field_format.specs.Formats.{Format, standAt, bodySize, valueIn}
+use Rattle.refusals.specs.Numbers as because
 
 -- 11 for another length than the kind's, then 12 for a wrong version, signature or subtype, then 13 for a field outside
 -- its range; 0, where none is due
 unfoldable pub refusalBy : Bool → Bool → Bool → ℕ
-refusalBy rightLength fixedOctets inRanges = cond rightLength (cond fixedOctets (cond inRanges 0 13) 12) 11
+refusalBy rightLength fixedOctets inRanges = cond rightLength (cond fixedOctets (cond inRanges 0 because.field) because.fixed) because.messageLength
 
 -- the refusal, or the message where there is none
 abbrev pub unlessRefused : {A : Type 0} → (ℕ → A) → ℕ → A → A

@@ -10,5 +10,5 @@ pub fn put(body: &[u8], output: &mut [u8]) -> Written
     if field_layout::store(body, output) {
         return Written::Wrote(body.len());
     }
-    Written::Refused(8)
+    Written::Refused(refusals::OUTPUT_LENGTH)
 }

@@ -6,6 +6,7 @@ use Prim.Native.Nat.{ℕ, _+_, _*_, _-_}
 use lib.Dec.{eqb, ltb}
 use lib.ListN.{length, take, getD}
 use Rattle.crc_gdl90.specs.Check.{frameCheck}
+use Rattle.refusals.specs.Numbers as because
 use Rattle.ucp_frame.specs.Unstuffing.{Ending, whole, escapeLast, badEscape, Unstuffed, unstuffed}
 
 -- an answer in the paper's terms: none, a refusal's number, or the body that is put out
@@ -28,20 +29,20 @@ checkSent octets = getD octets (length octets - 2) 0 + getD octets (length octet
 -- decided at the flag, in the table's order: 4, 5, 6, or the body
 unfoldable pub atFlag : List ℕ → ℕ → Verdict
 atFlag octets room =
-    cond (ltb (length octets) 3) (refused 4)
+    cond (ltb (length octets) 3) (refused because.tooShort)
     (cond (eqb (checkSent octets) (frameCheck (withoutCheck octets)))
-    (cond (ltb room (length (withoutCheck octets))) (refused 6)
+    (cond (ltb room (length (withoutCheck octets))) (refused because.room)
     (delivered (withoutCheck octets)))
-    (refused 5))
+    (refused because.wrongCheck))
 
 abbrev pub byEnding : Ending → List ℕ → ℕ → Verdict
-byEnding badEscape octets room = refused 1
-byEnding escapeLast octets room = refused 2
+byEnding badEscape octets room = refused because.badEscape
+byEnding escapeLast octets room = refused because.escapeBeforeFlag
 byEnding whole octets room = atFlag octets room
 
 -- the first fault from the left is kept: the 439th unstuffed octet comes before whatever ends the reading
 unfoldable pub judged : Unstuffed → ℕ → Verdict
-judged u room = cond (ltb storeOctets (length (u .octets))) (refused 3) (byEnding (u .ending) (u .octets) room)
+judged u room = cond (ltb storeOctets (length (u .octets))) (refused because.tooLong) (byEnding (u .ending) (u .octets) room)
 
 -- a stretch with no octet in it gives no answer
 unfoldable pub verdict : List ℕ → ℕ → Verdict

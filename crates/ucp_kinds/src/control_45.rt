@@ -39,14 +39,14 @@ pub fn read(body: &[u8]) -> ControlRead
     ensures { λ r. ⌜ r ≡ reads controlFormat ControlRead.Refused ControlRead.Control (now (body .entry)) ⌝ }
 {
     if body.len() != 18 {
-        return ControlRead::Refused(11);
+        return ControlRead::Refused(refusals::MESSAGE_LENGTH);
     }
     if field_layout::octet(body, 1) != 1 {
-        return ControlRead::Refused(12);
+        return ControlRead::Refused(refusals::FIXED);
     }
     let fields = fields(body);
     if !in_range(fields) {
-        return ControlRead::Refused(13);
+        return ControlRead::Refused(refusals::FIELD);
     }
     ControlRead::Control(fields)
 }
@@ -116,7 +116,7 @@ pub fn write(control: Control, output: &mut [u8]) -> Written
     ensures { λ r. ⌜ WritesBody (fits controlFormat control) (bodyOf controlFormat control) (now (output .entry)) r (now (output .exit)) ⌝ }
 {
     if !fits(control) {
-        return Written::Refused(13);
+        return Written::Refused(refusals::FIELD);
     }
     let body = octets(control);
     ucp_answers::put(&body, output)

@@ -24,7 +24,7 @@ pub fn read(body: &[u8]) -> GeometricAltitudeRead
     ensures { λ r. ⌜ r ≡ reads geometricFormat GeometricAltitudeRead.Refused GeometricAltitudeRead.GeometricAltitude (now (body .entry)) ⌝ }
 {
     if body.len() != 5 {
-        return GeometricAltitudeRead::Refused(11);
+        return GeometricAltitudeRead::Refused(refusals::MESSAGE_LENGTH);
     }
     GeometricAltitudeRead::GeometricAltitude(fields(body))
 }

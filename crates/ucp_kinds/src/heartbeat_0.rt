@@ -26,7 +26,7 @@ pub fn read(body: &[u8]) -> HeartbeatRead
     ensures { λ r. ⌜ r ≡ reads heartbeatFormat HeartbeatRead.Refused HeartbeatRead.Heartbeat (now (body .entry)) ⌝ }
 {
     if body.len() != 7 {
-        return HeartbeatRead::Refused(11);
+        return HeartbeatRead::Refused(refusals::MESSAGE_LENGTH);
     }
     HeartbeatRead::Heartbeat(fields(body))
 }

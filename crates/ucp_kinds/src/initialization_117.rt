@@ -31,17 +31,17 @@ pub fn read(body: &[u8]) -> InitializationRead
     ensures { λ r. ⌜ r ≡ reads initializationFormat InitializationRead.Refused InitializationRead.Initialization (now (body .entry)) ⌝ }
 {
     if body.len() != 19 {
-        return InitializationRead::Refused(11);
+        return InitializationRead::Refused(refusals::MESSAGE_LENGTH);
     }
     if field_layout::octet(body, 1) != 65 {
-        return InitializationRead::Refused(12);
+        return InitializationRead::Refused(refusals::FIXED);
     }
     if field_layout::octet(body, 2) != 1 {
-        return InitializationRead::Refused(12);
+        return InitializationRead::Refused(refusals::FIXED);
     }
     let fields = fields(body);
     if !in_range(fields) {
-        return InitializationRead::Refused(13);
+        return InitializationRead::Refused(refusals::FIELD);
     }
     InitializationRead::Initialization(fields)
 }
@@ -99,7 +99,7 @@ pub fn write(initialization: Initialization, output: &mut [u8]) -> Written
     ensures { λ r. ⌜ WritesBody (fits initializationFormat initialization) (bodyOf initializationFormat initialization) (now (output .entry)) r (now (output .exit)) ⌝ }
 {
     if !fits(initialization) {
-        return Written::Refused(13);
+        return Written::Refused(refusals::FIELD);
     }
     let body = octets(initialization);
     ucp_answers::put(&body, output)

@@ -47,7 +47,7 @@ pub fn read(body: &[u8]) -> ReportRead
     ensures { λ r. ⌜ r ≡ reads (reportFormat 10) ReportRead.Refused ReportRead.Report (now (body .entry)) ⌝ }
 {
     if body.len() != 28 {
-        return ReportRead::Refused(11);
+        return ReportRead::Refused(refusals::MESSAGE_LENGTH);
     }
     ReportRead::Report(fields(body))
 }
@@ -197,7 +197,7 @@ fn write(id: u8, report: Report, output: &mut [u8]) -> Written
     ensures { λ r. ⌜ WritesBody (fits (reportFormat id) report) (bodyOf (reportFormat id) report) (now (output .entry)) r (now (output .exit)) ⌝ }
 {
     if !fits(report) {
-        return Written::Refused(13);
+        return Written::Refused(refusals::FIELD);
     }
     let body = octets(id, report);
     ucp_answers::put(&body, output)

@@ -23,10 +23,10 @@ pub fn read(body: &[u8]) -> RequestRead
     ensures { λ r. ⌜ r ≡ reads requestFormat RequestRead.Refused RequestRead.Request (now (body .entry)) ⌝ }
 {
     if body.len() != 3 {
-        return RequestRead::Refused(11);
+        return RequestRead::Refused(refusals::MESSAGE_LENGTH);
     }
     if field_layout::octet(body, 1) != 2 {
-        return RequestRead::Refused(12);
+        return RequestRead::Refused(refusals::FIXED);
     }
     RequestRead::Request(fields(body))
 }

@@ -10,7 +10,7 @@ pub fn read(body: &[u8]) -> UplinkRead
     ensures { λ r. ⌜ r ≡ uplinkRead (now (body .entry)) ⌝ }
 {
     if body.len() != 436 {
-        return UplinkRead::Refused(11);
+        return UplinkRead::Refused(refusals::MESSAGE_LENGTH);
     }
     UplinkRead::Uplink
 }
@@ -19,10 +19,10 @@ pub fn write(payload: &[u8], output: &mut [u8]) -> Written
     ensures { λ r. ⌜ WritesBody (uplinkFits (now (payload .entry))) (uplinkBody (now (payload .entry))) (now (output .entry)) r (now (output .exit)) ⌝ }
 {
     if payload.len() != 435 {
-        return Written::Refused(13);
+        return Written::Refused(refusals::FIELD);
     }
     if output.len() < 436 {
-        return Written::Refused(8);
+        return Written::Refused(refusals::OUTPUT_LENGTH);
     }
     output[0] = 7;
     field_layout::store(payload, &mut output[1..]);

@@ -3,6 +3,7 @@
 use mathlib.Core.Path.{_≡_}
 use mathlib.Core.List.{List}
 use Prim.Native.Nat.{ℕ}
+use Rattle.refusals.specs.Numbers as because
 use Rattle.ucp_answers.specs.Refusals
 use Rattle.ucp_answers.specs.Refusals.{refusalOf, reads}
 use Rattle.ucp_kinds.specs.Uplink7.{uplinkRefusal}
@@ -31,12 +32,12 @@ meansUnlessRefused refusal message = Refusals.unlessRefused refused refusal (mea
 abbrev pub refusalByReading : Reading → List ℕ → ℕ
 refusalByReading (format f message) body = refusalOf f body
 refusalByReading uplink body = uplinkRefusal body
-refusalByReading unknown body = 10
+refusalByReading unknown body = because.unknownId
 
 abbrev pub answerBy : Reading → List ℕ → ReaderAnswer
 answerBy (format f message) body = reads f refused (λ a. means (message a)) body
 answerBy uplink body = meansUnlessRefused (uplinkRefusal body) Uplink
-answerBy unknown body = refused 10
+answerBy unknown body = refused because.unknownId
 
 -- the refusal of a body as a message of a kind, and the answer to it
 unfoldable pub refusalIn : Kind → List ℕ → ℕ

@@ -78,7 +78,7 @@ pub fn read_message(body: &[u8]) -> Read
     ensures { λ r. ⌜ Reads (now (body .entry)) r ⌝ }
 {
     if body.len() == 0 {
-        return Read::Refused(10);
+        return Read::Refused(refusals::UNKNOWN_ID);
     }
     match kind_of(body[0]) {
         Kind::Heartbeat => kinds::heartbeat(body),
@@ -89,7 +89,7 @@ pub fn read_message(body: &[u8]) -> Read
         Kind::Request => kinds::request(body),
         Kind::Control => kinds::control(body),
         Kind::Initialization => kinds::initialization(body),
-        Kind::Unknown => Read::Refused(10),
+        Kind::Unknown => Read::Refused(refusals::UNKNOWN_ID),
     }
 }
 

@@ -5,6 +5,7 @@ use mathlib.Core.List.{List}
 use Prim.Native.Nat.{ℕ}
 use lib.Dec.{eqb, ltb}
 use lib.ListN.{take}
+use Rattle.refusals.specs.Numbers as because
 use Rattle.ucp_frame.specs.Stretch.{Verdict, silent, refused, storeOctets, atFlag}
 use Rattle.ucp_receiver.specs.declared.Answer.{Answer}
 use Rattle.ucp_receiver.specs.Answers.{receiverAnswer, answerFor, verdictOf, outputAtFlag}
@@ -13,7 +14,7 @@ use Rattle.ucp_receiver.specs.Answers.{receiverAnswer, answerFor, verdic
 abbrev pub closedStretch : ℕ → List ℕ → ℕ → Verdict
 closedStretch stored store room =
     cond (eqb stored 0) silent
-    (cond (ltb storeOctets stored) (refused 3)
+    (cond (ltb storeOctets stored) (refused because.tooLong)
     (atFlag (take stored store) room))
 
 -- the answer, with the output as at entry and as at return

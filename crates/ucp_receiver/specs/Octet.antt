@@ -6,6 +6,7 @@ use mathlib.Core.List.{List}
 use Prim.Native.Nat.{ℕ, _+_}
 use lib.Dec.{eqb, ltb}
 use lib.ListN.{length, set, replicate}
+use Rattle.refusals.specs.Numbers as because
 use Rattle.ucp_frame.specs.Stuffing.{flag, escape}
 use Rattle.ucp_frame.specs.Stretch.{Verdict, silent, refused, storeOctets}
 use Rattle.ucp_receiver.specs.declared.Answer.the-variants.{Nothing}
@@ -66,9 +67,9 @@ advancedIn TooLong x s = s
 abbrev pub closedIn : Phase → State → ℕ → Verdict
 closedIn Hunting s room = silent
 closedIn Reading s room = closedStretch (s .rest .stored) (s .store) room
-closedIn Escape s room = refused 2
-closedIn BadEscape s room = refused 1
-closedIn TooLong s room = refused 3
+closedIn Escape s room = refused because.escapeBeforeFlag
+closedIn BadEscape s room = refused because.badEscape
+closedIn TooLong s room = refused because.tooLong
 
 -- ---- one octet
 

@@ -30,16 +30,16 @@ fn judge(store: &[u8], stored: usize, room: usize) -> Answer
     ensures { λ r. ⌜ Judges r (now (store .entry)) room (atFlag (take stored (now (store .entry))) room) ⌝ }
 {
     if stored < 3 {
-        return Answer::Refused(4);
+        return Answer::Refused(refusals::TOO_SHORT);
     }
     let n = stored - 2;
     let sent = check_sent(store, n);
     let check = crc_gdl90::frame_check_by_shifts(&store[..n]);
     if sent != check {
-        return Answer::Refused(5);
+        return Answer::Refused(refusals::WRONG_CHECK);
     }
     if room < n {
-        return Answer::Refused(6);
+        return Answer::Refused(refusals::ROOM);
     }
     Answer::Delivered(n)
 }
@@ -52,7 +52,7 @@ fn judge_stretch(store: &Store, stored: usize, room: usize) -> Answer
         return Answer::Nothing;
     }
     if super::STORE_OCTETS < stored {
-        return Answer::Refused(3);
+        return Answer::Refused(refusals::TOO_LONG);
     }
     judge(store, stored, room)
 }

@@ -82,9 +82,9 @@ fn close(rest: Rest, store: &Store, output: &mut [u8]) -> Answer
     match phase {
         Phase::Hunting => Answer::Nothing,
         Phase::Reading => super::closing::close_stretch(store, stored, output),
-        Phase::Escape => Answer::Refused(2),
-        Phase::BadEscape => Answer::Refused(1),
-        Phase::TooLong => Answer::Refused(3),
+        Phase::Escape => Answer::Refused(refusals::ESCAPE_BEFORE_FLAG),
+        Phase::BadEscape => Answer::Refused(refusals::BAD_ESCAPE),
+        Phase::TooLong => Answer::Refused(refusals::TOO_LONG),
     }
 }
 

@@ -3,6 +3,7 @@
 use mathlib.Core.Bool.{cond}
 use mathlib.Core.List.{List}
 use Prim.Native.Nat.{ℕ}
+use Rattle.refusals.specs.Numbers as because
 use Rattle.ucp_frame.specs.Frame.{frame}
 use Rattle.ucp_writer.specs.Room.{frameDue}
 use Rattle.ucp_messages.specs.declared.Message.{Message}
@@ -13,7 +14,7 @@ use Rattle.output_writing.specs.Answers.{WriterAnswer, refused, Writing}
 -- the answer that is due: 13 for a field outside its range, then what the frame writer answers to the message's body
 unfoldable pub sendDue : Message → List ℕ → List ℕ → WriterAnswer
 sendDue message payload buffer =
-    cond (messageFits message payload) (frameDue (messageBody message payload) buffer) (refused 13)
+    cond (messageFits message payload) (frameDue (messageBody message payload) buffer) (refused because.field)
 
 -- one call, whole: the message, the payload and the buffer as at entry, the answer, and the buffer as at return
 abbrev pub Sends : Message → List ℕ → List ℕ → Written → List ℕ → Type 0

@@ -4,14 +4,15 @@ use mathlib.Core.List.{List}
 use Prim.Native.Nat.{ℕ}
 use lib.Dec.{eqb, ltb}
 use lib.ListN.{length}
+use Rattle.refusals.specs.Numbers as because
 use Rattle.ucp_frame.specs.Frame.{frame, longestBody}
 use Rattle.output_writing.specs.Answers.{WriterAnswer, refused, wrote}
 
 -- the answer that is due: 7 for a body of 0 or more than 436 octets, then 8 for an output shorter than this very frame
 unfoldable pub frameDue : List ℕ → List ℕ → WriterAnswer
 frameDue body output =
-    cond (eqb (length body) 0 || ltb longestBody (length body)) (refused 7)
-    (cond (ltb (length output) (length (frame body))) (refused 8)
+    cond (eqb (length body) 0 || ltb longestBody (length body)) (refused because.bodyLength)
+    (cond (ltb (length output) (length (frame body))) (refused because.outputLength)
     (wrote (length (frame body))))
 
 -- the number of a refusal, and 0 of what is none

@@ -14,17 +14,17 @@ pub fn refusal(body: &[u8], output: &[u8]) -> u8
 {
     let n = body.len();
     if n == 0 {
-        return 7;
+        return refusals::BODY_LENGTH;
     }
     if ucp_frame::LONGEST_BODY < n {
-        return 7;
+        return refusals::BODY_LENGTH;
     }
     // The most that a frame of n octets takes. Only where that is too much is this very frame measured.
     let most = 2 * n + 6;
     if output.len() < most {
         let exact = frame_length(body);
         if output.len() < exact {
-            return 8;
+            return refusals::OUTPUT_LENGTH;
         }
     }
     0
