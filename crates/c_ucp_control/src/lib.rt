@@ -78,19 +78,19 @@ pub extern "C" fn ostrogosz_read_control_at(body: &[u8], message: &mut [u8; 24])
 {
     let n = body.len();
     if n == 0 {
-        return refusals::UNKNOWN_ID as u32;
+        return c_lent::UNKNOWN_ID;
     }
     if body[0] != 45 {
-        return refusals::UNKNOWN_ID as u32;
+        return c_lent::UNKNOWN_ID;
     }
     if n != 18 {
-        return refusals::MESSAGE_LENGTH as u32;
+        return c_lent::MESSAGE_LENGTH;
     }
     if body[1] != 1 {
-        return refusals::FIXED as u32;
+        return c_lent::FIXED;
     }
     if !body_fits(body) {
-        return refusals::FIELD as u32;
+        return c_lent::FIELD;
     }
     fill(body, message);
     0
@@ -150,13 +150,13 @@ fn write(message: &[u8], output: &mut [u8]) -> OstrogoszWritten
 {
     if !(numbers_fit(message) & field_texts::pairs::is_padded_at(message, 15)) {
         return OstrogoszWritten {
-            refusal: refusals::FIELD as u32,
+            refusal: c_lent::FIELD,
             length: 0,
         };
     }
     if output.len() < 18 {
         return OstrogoszWritten {
-            refusal: refusals::OUTPUT_LENGTH as u32,
+            refusal: c_lent::OUTPUT_LENGTH,
             length: 0,
         };
     }
@@ -200,7 +200,7 @@ fn send(message: &[u8], buffer: &mut [u8]) -> OstrogoszWritten
 {
     if !(numbers_fit(message) & field_texts::pairs::is_padded_at(message, 15)) {
         return OstrogoszWritten {
-            refusal: refusals::FIELD as u32,
+            refusal: c_lent::FIELD,
             length: 0,
         };
     }

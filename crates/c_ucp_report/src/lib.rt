@@ -163,13 +163,13 @@ pub extern "C" fn ostrogosz_read_ownship_at(body: &[u8], message: &mut [u8; 40])
 {
     let n = body.len();
     if n == 0 {
-        return refusals::UNKNOWN_ID as u32;
+        return c_lent::UNKNOWN_ID;
     }
     if body[0] != 10 {
-        return refusals::UNKNOWN_ID as u32;
+        return c_lent::UNKNOWN_ID;
     }
     if n != 28 {
-        return refusals::MESSAGE_LENGTH as u32;
+        return c_lent::MESSAGE_LENGTH;
     }
     fill(body, message);
     0
@@ -307,13 +307,13 @@ fn write(message: &[u8], output: &mut [u8]) -> OstrogoszWritten
 {
     if !fits(message) {
         return OstrogoszWritten {
-            refusal: refusals::FIELD as u32,
+            refusal: c_lent::FIELD,
             length: 0,
         };
     }
     if output.len() < 28 {
         return OstrogoszWritten {
-            refusal: refusals::OUTPUT_LENGTH as u32,
+            refusal: c_lent::OUTPUT_LENGTH,
             length: 0,
         };
     }

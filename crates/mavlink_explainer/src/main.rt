@@ -46,7 +46,7 @@ fn goes_on(last: bool) -> Input
 }
 
 // So many frames more, of so many octets.
-fn progress(
+fn progressed(
     frames: u64,
     bytes: u64,
     count: usize,
@@ -77,15 +77,15 @@ fn explain_block(frames: u64, bytes: u64, last: bool, block: &[u8], text: &mut T
         let explained = text_mavlink_explanation::explain_frame(&block[used..], text);
         let n = explained.written;
         if !io_streams::write_first(text, n) {
-            return progress(frames, bytes, count, used, left, Input::Failed);
+            return progressed(frames, bytes, count, used, left, Input::Failed);
         }
         if explained.refused {
-            return progress(frames, bytes, count, used, left, Input::Ended);
+            return progressed(frames, bytes, count, used, left, Input::Ended);
         }
         count += 1;
         left -= explained.used;
     }
-    progress(
+    progressed(
         frames,
         bytes,
         count,

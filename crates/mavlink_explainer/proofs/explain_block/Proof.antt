@@ -43,7 +43,7 @@ returns c =
     let block = now (a .block) in
     let least = c .before .before .before .before .before .before .before .before .before .before .least-octets in
     let within : l .left ≤ length block = omega (arith, l .inv .0) in
-    rw (c .progress .ensures) (record { leaves = record { carries = tt; within = within }; explored = tt })
+    rw (c .progressed .ensures) (record { leaves = record { carries = tt; within = within }; explored = tt })
 
 returns-2 : tie.Need-returns-2 Inv-loop μ-loop
 returns-2 c =
@@ -52,7 +52,7 @@ returns-2 c =
     let block = now (a .block) in
     let least = c .before .before .before .before .before .before .before .before .before .before .before .least-octets in
     let within : l .left ≤ length block = omega (arith, l .inv .0) in
-    rw (c .progress2 .ensures)
+    rw (c .progressed2 .ensures)
     (at-refused (least .result) block (l .count) (l .left) within (l .inv .1) (a .last) (least .ensures) (a .frames) (a .bytes) (c .before .before .before .before .before .before .before .before .before .loop-test .taken) (sym (explained (c .before .before .before .before .before .before) .refuses) ∙ c .before .if2 .taken))
 
 add-count : tie.Need-add-count Inv-loop μ-loop
@@ -85,7 +85,7 @@ returns-3 c =
     let block = now (a .block) in
     let least = c .before .before .before .before .least-octets in
     let within : l .left ≤ length block = omega (arith, l .inv .0) in
-    rw (c .progress3 .ensures, c .before .goes-on .ensures)
+    rw (c .progressed3 .ensures, c .before .goes-on .ensures)
     (at-end (least .result) block (l .count) (l .left) within (l .inv .1) (a .last) (least .ensures) (a .frames) (a .bytes) (omega (arith, c .before .before .loop-test .left)))
 
 pub explain-block-spec : {M : Type 1} → statement M

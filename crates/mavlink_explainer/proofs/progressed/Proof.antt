@@ -1,0 +1,10 @@
+-- `mavlink_explainer::progressed` meets its contract. Assumes nothing.
+use borrow.Author.Needs.{needs}
+use Rattle.mavlink_explainer.proofs.progressed.Statement.{statement}
+use Rattle.mavlink_explainer.proofs.progressed.Tie as tie
+
+returns : tie.Need-returns
+returns c = rw (c .before .wrapping-add-u64 .ensures, c .wrapping-add-u642 .ensures)
+
+pub progressed-spec : {M : Type 1} → statement M
+progressed-spec = tie.close (tie.spec (λ c κs. search needs) (λ c κs. search needs) returns)
