@@ -1,8 +1,10 @@
 -- The turns of a program that works on its input block by block. Assumes nothing.
 use mathlib.Core.Path.{_≡_}
 use mathlib.Core.Bool.{Bool, true, false, cond}
+use mathlib.Core.List.{List}
 use Prim.Native.Nat.{ℕ, _+_, _-_, _<_, _≤_}
 use lib.Dec.{eqb}
+use lib.ListN.{take}
 use Rattle.io_streams.specs.declared.Got.{Got}
 use Rattle.io_streams.specs.declared.Got.the-variants.{Octets, Ended as NoMore, Failed as ReadFailed}
 use Rattle.io_streams.specs.declared.Input.{Input}
@@ -14,6 +16,10 @@ abbrev pub Behind : Got → ℕ → ℕ → Type 0
 Behind (Octets n) held block = held + n ≤ block
 Behind NoMore held block = Unit {0}
 Behind ReadFailed held block = Unit {0}
+
+-- the octets held at the start of the block stay
+abbrev pub Held : ℕ → List ℕ → List ℕ → Type 0
+Held held before after = take held after ≡ take held before
 
 -- nothing more is to be done
 abbrev pub over : Input → Turn

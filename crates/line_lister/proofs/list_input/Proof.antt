@@ -21,7 +21,7 @@ onward : (c : tie.After-next-turn Inv-loop μ-loop)
     → let l = c .before .before .before .before .before .before .before .before .before .before .before .before .before .loop in Onward (l .turn .left) (length (l .block)) (c .next-turn .result)
 onward c =
     let l = c .before .before .before .before .before .before .before .before .before .before .before .before .before .loop in
-    turns-onward (l .turn .left) (length (l .block)) 0 (c .next-turn .result) (c .before .before .before .before .before .before .list-block .result .input) (c .next-turn .ensures)
+    turns-onward (l .turn .left) (length (l .block)) 0 (c .next-turn .result) (c .before .before .before .before .before .before .list-block .result .input) (c .next-turn .ensures .0)
 
 loop-holds : tie.Need-loop-holds Inv-loop μ-loop
 loop-holds c = let a = c .before .before .before .before .before .before .before .before .args in let t = c .before .before .first-turn in (refl, refl, omega (arith, reads-onward _ (length (now (a .block))) 0 (t .result) (t .result .input) (t .ensures) .within, t .kept .0))
