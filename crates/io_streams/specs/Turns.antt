@@ -18,8 +18,8 @@ Behind NoMore held block = Unit {0}
 Behind ReadFailed held block = Unit {0}
 
 -- the octets held at the start of the block stay
-abbrev pub Held : ℕ → List ℕ → List ℕ → Type 0
-Held held before after = take held after ≡ take held before
+abbrev pub KeepsHeld : ℕ → List ℕ → List ℕ → Type 0
+KeepsHeld held before after = take held after ≡ take held before
 
 -- nothing more is to be done
 abbrev pub over : Input → Turn

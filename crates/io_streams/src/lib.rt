@@ -6,7 +6,7 @@ ghost use mathlib.Core.Path.{_≡_};
 ghost use Prim.Native.Nat.{min, _<_, _≤_};
 ghost use lib.ListN.{length};
 ghost use Rattle.io_streams.specs.Blocks.{Zeroed, WithinBlock, WrittenIfEmpty};
-ghost use Rattle.io_streams.specs.Turns.{Behind, Held, over, hasEnded, AtEnd, ReadsBlock, BlockTurns};
+ghost use Rattle.io_streams.specs.Turns.{Behind, KeepsHeld, over, hasEnded, AtEnd, ReadsBlock, BlockTurns};
 
 // Whether there is more of the input.
 pub enum Input {
@@ -75,14 +75,14 @@ fn end_turn(held: usize, left: u64) -> Turn
 fn read_behind(block: &mut [u8], held: usize) -> Got
     requires { ⌜ held ≤ length (now block) ⌝ }
     ensures { λ r. ⌜ Behind r held (length (now (block .entry))) ⌝ }
-    ensures { λ r. ⌜ Held held (now (block .entry)) (now (block .exit)) ⌝ }
+    ensures { λ r. ⌜ KeepsHeld held (now (block .entry)) (now (block .exit)) ⌝ }
 {
     read_block(&mut block[held..])
 }
 
 fn read_turn(block: &mut [u8], held: usize, left: u64) -> Turn
     ensures { λ r. ⌜ ReadsBlock (r .input) left (length (now (block .entry))) held r ⌝ }
-    ensures { λ r. ⌜ Held held (now (block .entry)) (now (block .exit)) ⌝ }
+    ensures { λ r. ⌜ KeepsHeld held (now (block .entry)) (now (block .exit)) ⌝ }
 {
     if left == 0 {
         return last_turn(Input::Failed);
@@ -112,7 +112,7 @@ pub fn first_turn(block: &mut [u8]) -> Turn
 // behind them. Nothing is read where the work is at its end or has failed.
 pub fn next_turn(told: Input, block: &mut [u8], held: usize, left: u64) -> Turn
     ensures { λ r. ⌜ BlockTurns told left (length (now (block .entry))) held r ⌝ }
-    ensures { λ r. ⌜ Held held (now (block .entry)) (now (block .exit)) ⌝ }
+    ensures { λ r. ⌜ KeepsHeld held (now (block .entry)) (now (block .exit)) ⌝ }
 {
     match told {
         Input::More => read_turn(block, held, left),

@@ -10,7 +10,7 @@ use Rattle.field_layout.specs.Texts.{textOctets}
 use Rattle.text_output.specs.declared.Printing.the-variants.{Escaped}
 use Rattle.text_output.specs.declared.Base.the-variants.{Decimal, Hexadecimal}
 use Rattle.text_output.specs.declared.Scale.{Scale}
-use Rattle.text_output.specs.Text.{codes, printed, natural, padded, fixed}
+use Rattle.text_output.specs.Text.{codes, printed, natural, padded, fixedPoint}
 use Rattle.text_fields.specs.declared.Reading.{Reading}
 use Rattle.text_fields.specs.declared.Reading.the-variants.{NoData, Known}
 use Rattle.text_fields.specs.declared.Unit.{Unit}
@@ -35,7 +35,7 @@ unitShown MetresPerSecond = codes " metres per second"
 
 abbrev pub readingShown : Scale → Unit → Reading → List ℕ
 readingShown scale unit NoData = codes "no data"
-readingShown scale unit (Known z) = fixed scale z ++ unitShown unit
+readingShown scale unit (Known z) = fixedPoint scale z ++ unitShown unit
 
 -- ---- values
 

@@ -8,7 +8,7 @@ use lib.ListN.{length, length-append}
 use Rattle.text_output.specs.declared.Printing.the-variants.{Escaped}
 use Rattle.text_output.specs.declared.Scale.{Scale}
 use Rattle.text_output.specs.declared.Scale.the-variants.{Ones, Hundredths, Thousandths, TenMillionths}
-use Rattle.text_output.specs.Text.{isPlain, backslashed, printed, minus, places, fraction, fixed}
+use Rattle.text_output.specs.Text.{isPlain, backslashed, printed, minus, places, fraction, fixedPoint}
 use Rattle.text_output.proofs.Numerals.{numeral-most}
 
 pub either-most : (b : Bool) (xs ys : List ℕ) {k : ℕ} → length xs ≤ k → length ys ≤ k → length (cond b xs ys) ≤ k
@@ -38,8 +38,8 @@ places-most Hundredths = omega arith
 places-most Thousandths = omega arith
 places-most TenMillionths = omega arith
 
-pub fixed-most : (s : Scale) (z : ℤ) → length (fixed s z) ≤ 29
-unfolding fixed
+pub fixed-most : (s : Scale) (z : ℤ) → length (fixedPoint s z) ≤ 29
+unfolding fixedPoint
 fixed-most s z =
     simp length-append
     (omega (arith, places-most s, minus-most z, numeral-most false 10 20 (natAbs z / 10 ^ places s), fraction-most (places s) (natAbs z % 10 ^ places s)))

@@ -83,6 +83,6 @@ abbrev pub fraction : ℕ → ℕ → List ℕ
 fraction zero n = []
 fraction (suc more) n = codes "." ++ numeral true 10 (suc more) n
 
-unfoldable pub fixed : Scale → ℤ → List ℕ
-fixed s z =
+unfoldable pub fixedPoint : Scale → ℤ → List ℕ
+fixedPoint s z =
     minus z ++ (natural (natAbs z / 10 ^ places s) ++ fraction (places s) (natAbs z % 10 ^ places s))

@@ -6,7 +6,7 @@ ghost use Prim.Native.Nat.{_<_, _≤_, _^_};
 ghost use lib.ListN.{length, drop};
 ghost use lib.IntN.{natAbs};
 ghost use Rattle.text_output.specs.Clips.{textRoom, Clips};
-ghost use Rattle.text_output.specs.Text.{hexDigit, hexPair, isPlain, backslashed, printedOctet, printed, numeral, natural, radix, padded, minus, places, fraction, fixed};
+ghost use Rattle.text_output.specs.Text.{hexDigit, hexPair, isPlain, backslashed, printedOctet, printed, numeral, natural, radix, padded, minus, places, fraction, fixedPoint};
 
 // The room of a text, which is lent.
 pub const TEXT_ROOM: usize = 1536;
@@ -241,7 +241,7 @@ fn put_fraction(text: &mut TextRoom, at: usize, places: u8, n: u64) -> usize
 
 // So many small units, in wholes.
 pub fn put_fixed(text: &mut TextRoom, at: usize, scale: Scale, n: i64) -> usize
-    ensures { λ r. ⌜ Clips (now (text .entry)) at (fixed scale n) r (now (text .exit)) ⌝ }
+    ensures { λ r. ⌜ Clips (now (text .entry)) at (fixedPoint scale n) r (now (text .exit)) ⌝ }
 {
     let small = size(n);
     let whole = whole_of(scale);

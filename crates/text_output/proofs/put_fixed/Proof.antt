@@ -3,14 +3,14 @@ use mathlib.Core.Path.{_≡_}
 use lib.IntN.{natAbs}
 use mir.Syntax.{w64}
 use mir.ValLaws.{toZ-ofZ}
-use Rattle.text_output.specs.Text.{fixed}
+use Rattle.text_output.specs.Text.{fixedPoint}
 use Rattle.text_output.proofs.Clipped.{then}
 use borrow.Author.Needs.{needs}
 use Rattle.text_output.proofs.put_fixed.Statement.{statement}
 use Rattle.text_output.proofs.put_fixed.Tie as tie
 
 returns : tie.Need-returns
-unfolding fixed
+unfolding fixedPoint
 returns c =
     let z = c .before .before .before .before .before .before .before .before .before .args .n in
     let f = c .before .before .before .before .before .before .before .before .before .fits .n in
