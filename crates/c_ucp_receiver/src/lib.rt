@@ -18,6 +18,9 @@ ghost use Rattle.c_ucp_receiver.specs.Numbers.{phaseOf, phaseNumber, res
 // The record besides the store, as C has it: phase, octets stored, and the five counts.
 pub type RecordNumbers = [u32; 7];
 
+// The store's size, as wide as the numbers of the record.
+const STORE_OCTETS: u32 = ucp_receiver::STORE_OCTETS as u32;
+
 // kind: 0 nothing, 1 delivered, 2 refused. value: how many octets were delivered, or the refusal's number.
 #[repr(C)]
 pub struct OstrogoszAnswer {
@@ -238,7 +241,7 @@ pub extern "C" fn ostrogosz_receive(
         return receive_flag(store, line, output);
     }
     if line[0] == 1 {
-        if line[1] < ucp_receiver::STORE_OCTETS as u32 {
+        if line[1] < STORE_OCTETS {
             if octet != 0x7D {
                 return receive_plain(store, line, octet);
             }
