@@ -45,7 +45,7 @@ uplinkAnswer (uplink.Refused number) = refused number
 
 pub uplink-answer : {r : UplinkRead} (body : List ℕ) → r ≡ uplinkRead body → uplinkAnswer r ≡ answerAs kind.Uplink body
 unfolding answerAs refusalIn uplinkRead
-uplink-answer body e = ap uplinkAnswer e ∙ told uplinkAnswer uplink.Refused (uplinkRefusal body) uplink.Uplink
+uplink-answer body e = ap uplinkAnswer e ∙ in-other-terms uplinkAnswer uplink.Refused (uplinkRefusal body) uplink.Uplink
 
 abbrev pub ownshipAnswer : ReportRead → ReaderAnswer
 ownshipAnswer (report.Report r) = means (message.Ownship r)
