@@ -8,7 +8,7 @@ use lib.Dec.{eqb, ltb}
 use lib.ListN.{length, getD, take, length-take}
 use borrow.Author.Tests.{ltb-true, ne-eqb}
 use Rattle.crc_gdl90.specs.Check.{frameCheck}
-use Rattle.ucp_frame.specs.Stuffing.{flag, escape}
+use Rattle.ucp_frame.specs.Frame.{flag, escape}
 use Rattle.ucp_frame.specs.Stretch.{Verdict, silent, refused, delivered, storeOctets, atFlag, withoutCheck, checkSent}
 use Rattle.ucp_receiver.specs.declared.Phase.{Phase}
 use Rattle.ucp_receiver.specs.declared.Phase.the-variants.{Hunting, Reading, Escape, BadEscape, TooLong}

@@ -8,7 +8,7 @@ use lib.ListN.{length, getD, set}
 use lib.Dec.{eqb}
 use lib.Seq.{set-getD}
 use borrow.Author.Tests.{lt-ltb, ne-eqb, eqb-true, eqb-false}
-use Rattle.ucp_frame.specs.Stuffing.{flag, escape}
+use Rattle.ucp_frame.specs.Frame.{flag, escape}
 use Rattle.ucp_frame.specs.Stretch.{storeOctets}
 use Rattle.ucp_receiver.specs.declared.Phase.{Phase}
 use Rattle.ucp_receiver.specs.declared.Phase.the-variants.{Reading, BadEscape, TooLong}

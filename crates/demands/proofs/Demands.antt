@@ -7,12 +7,12 @@ use lib.ListN.{length}
 use Rattle.ucp_frame.specs.Frame.{frame}
 use Rattle.ucp_frame.specs.Stretch.{Verdict, silent, refused, delivered}
 use Rattle.ucp_frame.proofs.Frame.{frame-length-longest}
-use Rattle.output_writing.specs.Answers.{outputAfter}
+use Rattle.output_writing.specs.Writing.{outputAfter}
 use Rattle.thm_mavlink_messages.proofs.RoundTrips as mavlink-trips
 use Rattle.thm_ucp_messages.proofs.Delivery.{sent-is-delivered}
 use Rattle.thm_ucp_messages.proofs.ReadBack as message-read
 use Rattle.thm_ucp_messages.proofs.WriteBack as message-write
-use Rattle.ucp_messages.specs.Bodies.{messageFits, messageBody}
+use Rattle.ucp_messages.specs.Messages.{messageFits, messageBody}
 use Rattle.ucp_messages.specs.Kinds.{kindIn}
 use Rattle.demands.proofs.MessageRefusals.{tabled-message, message-refused, mavlink-refused, tabled-mavlink}
 use Rattle.ucp_writer.proofs.room.Due.{refused-so, refused-7, refused-8, due-accepted}

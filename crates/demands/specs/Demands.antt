@@ -1,6 +1,6 @@
 -- The tender's demands 1 to 3, in one place. Each is a statement over what the running functions ensure of a call, or over the
 -- definitions that their contracts cite, so it holds of what runs: `WritesFrame` of `ucp_writer::write_frame`, `Receives` of
--- `ucp_receiver::octet::receive` and `Takes` of `receive_slice`; of the messages `Reads`, `WritesFrame` and `Sends` (ucp_messages,
+-- `ucp_receiver::octet::receive` and `Takes` of `receive_slice`; of the messages `Reads`, `WritesBody` and `Sends` (ucp_messages,
 -- ucp_answers, ucp_send); of MAVLink `readDue` and `writeDue` (mavlink_messages). That every call on every input returns,
 -- with no undefined step, is what proving a Rattle function means, and no public function asks anything of its caller. Proved
 -- in proofs/Demands.antt. Assumes nothing.
@@ -13,7 +13,7 @@ use lib.ListN.{length, drop}
 use Rattle.refusals.specs.Numbers as because
 use Rattle.ucp_frame.specs.Frame.{frame, longestBody, longestFrame}
 use Rattle.output_writing.specs.declared.Written.{Written}
-use Rattle.output_writing.specs.Answers.{WriterAnswer, refused, wrote, writerAnswer, Writing}
+use Rattle.output_writing.specs.Writing.{WriterAnswer, refused, wrote, writerAnswer, Writing}
 use Rattle.ucp_writer.specs.Writes.{WritesFrame}
 use Rattle.mavlink_frame.specs.declared.Header.{Header}
 use Rattle.mavlink_messages.specs.declared.Message as mavlink
@@ -32,9 +32,9 @@ use Rattle.ucp_history.specs.History.{answer}
 use Rattle.crc_gdl90_strength.specs.Strength.{TwoBodies, AtMostThreeBits, Within16Bits, Strength}
 use Rattle.ucp_messages.specs.declared.Message as ucp
 use Rattle.ucp_messages.specs.declared.Read as ucp-read
-use Rattle.ucp_messages.specs.Bodies.{messageFits, messageBody}
+use Rattle.ucp_messages.specs.Messages.{messageFits, messageBody}
 use Rattle.ucp_messages.specs.Kinds.{kindIn}
-use Rattle.ucp_messages.specs.Reads as Reads
+use Rattle.ucp_messages.specs.Messages as Reads
 use Rattle.ucp_answers.specs.Writes as Message
 use Rattle.thm_ucp_writer.specs.Calls.{WriterLists}
 use Rattle.thm_ucp_receiver.specs.Line.{Observed, callOf, upTo, Line}

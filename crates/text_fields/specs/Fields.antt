@@ -6,7 +6,7 @@ use Prim.Native.Nat.{ℕ}
 use lib.Dec.{eqb}
 use lib.IntN.{ℤ, pos, negsuc}
 use Rattle.field_layout.specs.declared.Text.{Text}
-use Rattle.field_layout.specs.Texts.{textOctets}
+use Rattle.field_layout.specs.Layout.{textOctets}
 use Rattle.text_output.specs.declared.Printing.the-variants.{Escaped}
 use Rattle.text_output.specs.declared.Base.the-variants.{Decimal, Hexadecimal}
 use Rattle.text_output.specs.declared.Scale.{Scale}

@@ -15,7 +15,7 @@ ghost use Rattle.ucp_receiver.specs.Answers.{verdictOf};
 ghost use Rattle.text_ucp_listing.specs.Listing.{bodyRoom};
 ghost use Rattle.text_ucp_listing.specs.Steps.{BodyWithin};
 ghost use Rattle.ucp_frame.specs.Stretch.{refused};
-ghost use Rattle.ucp_messages.specs.Reads.{messageDue, means, refused as unread};
+ghost use Rattle.ucp_messages.specs.Messages.{messageDue, means, refused as unread};
 ghost use Rattle.text_output.specs.Clips.{Clips};
 ghost use Rattle.text_ucp_explanation.specs.Explanation.{readLine, explanation};
 ghost use Rattle.text_ucp_explanation.specs.Calls.{ExplainsAnswer};

@@ -9,10 +9,9 @@ use lib.Dec.{eqb}
 use lib.ListN.{length, take, drop, getD}
 use lib.Seq.{getD-append-add, take-append-seam}
 use borrow.Author.Tests.{eqb-true, eq-eqb, ne-eqb}
-use Rattle.crc_polynomial.specs.Bits.{Octets}
+use Rattle.crc_polynomial.specs.Polynomial.{Octets}
 use Rattle.crc_gdl90.specs.Check.{frameCheck, frameCheckOctets}
-use Rattle.ucp_frame.specs.Stuffing.{flag, stuffed}
-use Rattle.ucp_frame.specs.Frame.{frame}
+use Rattle.ucp_frame.specs.Frame.{flag, stuffed, frame}
 use Rattle.ucp_frame.specs.Stretch.{Verdict, silent, refused, delivered, verdict}
 use Rattle.ucp_frame.proofs.Stuffing.{FlagFree, stuffed-flag-free}
 use Rattle.ucp_frame.proofs.Frame.{append-injective}

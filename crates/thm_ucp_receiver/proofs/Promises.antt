@@ -7,7 +7,7 @@ use native.Mathlib.Nat.{add-mod, add-mod-mod, mod-mod}
 use lib.ListN.{length, drop}
 use lib.Seq.{take-append-seam}
 use borrow.Author.Tests.{eq-eqb}
-use Rattle.ucp_frame.specs.Stuffing.{flag}
+use Rattle.ucp_frame.specs.Frame.{flag}
 use Rattle.ucp_frame.specs.Stretch.{Verdict, silent, refused, delivered}
 use Rattle.ucp_history.specs.History.{Call, cutAtFlags, answer, overClosed, sinceLast, Account, account}
 use Rattle.ucp_receiver.specs.declared.Rest.{Rest}

@@ -5,7 +5,7 @@ use Prim.Native.Nat.{ℕ, zero, suc, _<_, _≤_}
 use native.Mathlib.Omega.{arith}
 use native.Mathlib.Numerals.{add-one}
 use lib.ListN.{length, take, getD, length-replicate}
-use Rattle.crc_polynomial.specs.Bits.{Octets}
+use Rattle.crc_polynomial.specs.Polynomial.{Octets}
 use Rattle.ucp_frame.specs.Stretch.{Verdict, silent, refused, delivered}
 use Rattle.ucp_receiver.specs.declared.Rest.{Rest}
 use Rattle.ucp_receiver.specs.declared.Counts.{Counts}

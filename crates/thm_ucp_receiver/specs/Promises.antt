@@ -6,11 +6,10 @@ use mathlib.Core.List.{List, [], _∷_, _++_, map}
 use Prim.Native.Nat.{ℕ, _+_, _%_, _^_, _≤_}
 use lib.Dec.{ltb}
 use lib.ListN.{length, take, getD}
-use Rattle.crc_polynomial.specs.Bits.{Octets}
+use Rattle.crc_polynomial.specs.Polynomial.{Octets}
 use Rattle.crc_gdl90.specs.Check.{frameCheck, frameCheckOctets}
 use Rattle.refusals.specs.Numbers as because
-use Rattle.ucp_frame.specs.Stuffing.{flag, stuffed}
-use Rattle.ucp_frame.specs.Frame.{frame, longestBody}
+use Rattle.ucp_frame.specs.Frame.{flag, stuffed, frame, longestBody}
 use Rattle.ucp_frame.specs.Stretch.{Verdict, silent, refused, delivered, storeOctets, verdict}
 use Rattle.ucp_history.specs.History.{Call, answer, Account, account}
 use Rattle.ucp_receiver.specs.declared.Rest.{Rest}

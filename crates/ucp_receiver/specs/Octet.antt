@@ -7,7 +7,7 @@ use Prim.Native.Nat.{ℕ, _+_}
 use lib.Dec.{eqb, ltb}
 use lib.ListN.{length, set, replicate}
 use Rattle.refusals.specs.Numbers as because
-use Rattle.ucp_frame.specs.Stuffing.{flag, escape}
+use Rattle.ucp_frame.specs.Frame.{flag, escape}
 use Rattle.ucp_frame.specs.Stretch.{Verdict, silent, refused, storeOctets}
 use Rattle.ucp_receiver.specs.declared.Answer.the-variants.{Nothing}
 use Rattle.ucp_receiver.specs.Answers.{receiverAnswer, answerFor, outputAtFlag}

@@ -37,7 +37,7 @@ pub struct Received {
     pub answer: Answer,
 }
 
-// The receiver's answer to a call. `answerOf` of specs/Answers.antt gives the paper's number and values of each case.
+// The receiver's answer to a call. `receiverAnswer` of specs/Answers.antt gives the paper's number and values of each case.
 pub enum Answer {
     // No answer is due.
     Nothing,

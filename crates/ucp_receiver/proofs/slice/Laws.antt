@@ -9,7 +9,7 @@ use native.Mathlib.Nat.{add-zero, zero-add}
 use lib.ListN.{length, getD, set, drop, drop-of-length-le}
 use lib.Seq.{drop-cons}
 use borrow.Author.Tests.{lt-ltb, ne-eqb}
-use Rattle.ucp_frame.specs.Stuffing.{flag, escape}
+use Rattle.ucp_frame.specs.Frame.{flag, escape}
 use Rattle.ucp_frame.specs.Stretch.{Verdict, silent, refused, delivered, storeOctets}
 use Rattle.ucp_receiver.specs.declared.Phase.the-variants.{Reading}
 use Rattle.ucp_receiver.specs.declared.Rest.{Rest}
