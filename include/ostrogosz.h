@@ -130,7 +130,7 @@ struct ostrogosz_written ostrogosz_write_frame(const uint8_t *body,
  * octets received, modulo 2^32. After the call that took a flag the store is
  * all zero, the phase is 1 and no octet is stored.
  */
-struct c_ucp_receiver {
+struct ostrogosz_receiver {
     uint8_t store[OSTROGOSZ_STORE];
     uint32_t line[OSTROGOSZ_LINE];
 };
@@ -204,13 +204,13 @@ struct ostrogosz_taken ostrogosz_receive_slice(uint8_t store[OSTROGOSZ_STORE],
 
 /* The same calls on the struct. */
 
-static inline void ostrogosz_line_start(struct c_ucp_receiver *receiver)
+static inline void ostrogosz_line_start(struct ostrogosz_receiver *receiver)
 {
     ostrogosz_receiver_start(receiver->store, receiver->line);
 }
 
 static inline struct ostrogosz_answer
-ostrogosz_line_receive(struct c_ucp_receiver *receiver, uint8_t octet,
+ostrogosz_line_receive(struct ostrogosz_receiver *receiver, uint8_t octet,
                        uint8_t *output, size_t output_length)
 {
     return ostrogosz_receive(receiver->store, receiver->line, octet, output,
@@ -218,7 +218,7 @@ ostrogosz_line_receive(struct c_ucp_receiver *receiver, uint8_t octet,
 }
 
 static inline struct ostrogosz_taken
-ostrogosz_line_receive_slice(struct c_ucp_receiver *receiver,
+ostrogosz_line_receive_slice(struct ostrogosz_receiver *receiver,
                              const uint8_t *octets, size_t octets_length,
                              uint8_t *output, size_t output_length)
 {
@@ -228,7 +228,7 @@ ostrogosz_line_receive_slice(struct c_ucp_receiver *receiver,
 
 /* The octets received, modulo 2^32: the sum of the five counts. */
 static inline uint32_t
-ostrogosz_line_octets(const struct c_ucp_receiver *receiver)
+ostrogosz_line_octets(const struct ostrogosz_receiver *receiver)
 {
     const uint32_t *line = receiver->line;
     return line[OSTROGOSZ_LINE_FLAGS] + line[OSTROGOSZ_LINE_DELIVERED] +
