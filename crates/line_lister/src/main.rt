@@ -66,8 +66,8 @@ fn list_input(store: &mut Store, room: &mut BodyRoom, block: &mut [u8], text: &m
         let progress = list_block(rest, counts, store, room, &block[..end], text);
         rest = progress.rest;
         counts = progress.counts;
-        let told = progress.input;
-        turn = io_streams::next_turn(told, block, 0, turn.left);
+        let input = progress.input;
+        turn = io_streams::next_turn(input, block, 0, turn.left);
     }
     let input = turn.input;
     io_ucp::write_ending(input, text, counts)

@@ -10,7 +10,7 @@ ghost use Rattle.text_fields.specs.declared.Reading.the-variants.{Known}
 ghost use Rattle.text_output.specs.Clips.{Clips};
 ghost use Rattle.text_fields.specs.Fields.{unless, unitShown, readingShown, number, reading as readingOf, squawk, hexadecimal, quoted, quotedText as textOf, truth, none, labelled, fieldShown};
 
-// What a field's number tells: nothing, where it is the mark for that; or a number of small units.
+// What a field's number says: nothing, where it is the mark for that; or a number of small units.
 pub enum Reading {
     NoData,
     Known(i64),

@@ -158,8 +158,8 @@ module _ (rest : Rest) (counts : Counts) (store line room : List ℕ) (given : T
           let n : octets ≡ length body = cc in
           omega (arith, simp length-append at (ap length f))
 
-  pub line-told : lineOfAnswer (receiverAnswer (given .answer)) roomAfter ≡ answerLine (here .verdict)
-  line-told =
+  pub answer-line : lineOfAnswer (receiverAnswer (given .answer)) roomAfter ≡ answerLine (here .verdict)
+  answer-line =
       ap (λ (t : ReceiverAnswer). lineOfAnswer t roomAfter) (takes .answers ∙ ap (λ (r : SliceRun). answerFor (r .verdict)) ran)
       ∙ go (here .verdict) (takes .puts ∙ ap (λ (r : SliceRun). outputAtFlag (r .verdict) room) ran)
     where
@@ -188,7 +188,7 @@ more-so-far {whole} {line} {first} rest counts store room taken at given storeAf
     let same = ran rest counts store xs room given storeAfter roomAfter takes long kept in
     let took : r .taken ≡ given .taken = sym (takes .taken ∙ ap (λ (q : SliceRun). q .taken) same) in
     let puts : Puts _ at (answerLine (r .verdict)) next _ =
-    rw (line-told rest counts store xs room given storeAfter roomAfter takes long kept) at (put .puts) in
+    rw (answer-line rest counts store xs room given storeAfter roomAfter takes long kept) at (put .puts) in
     let ends : next ≤ length first = omega (arith, put .within, same-long (so .puts)) in
     let s : r .state ≡ stateOf (given .rest) storeAfter = sym (takes .state ∙ ap (λ (q : SliceRun). q .state) same) in
     let c : r .counts ≡ given .counts = sym (takes .account ∙ ap (λ (q : SliceRun). q .counts) same) in

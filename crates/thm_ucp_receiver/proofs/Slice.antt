@@ -82,7 +82,7 @@ slice-is-octets s c (x ∷ xs) room =
 
 -- ---- the calls by the octet
 
--- the answer that tells this
+-- the answer that says this
 abbrev answerTo : ReceiverAnswer → Answer
 answerTo nothing = Nothing
 answerTo (refusal number) = Refused number
@@ -93,10 +93,10 @@ tells nothing = refl
 tells (refusal number) = refl
 tells (body octets) = refl
 
-told-once : (a : Answer) → a ≡ answerTo (receiverAnswer a)
-told-once Nothing = refl
-told-once (Refused number) = refl
-told-once (Delivered octets) = refl
+answer-once : (a : Answer) → a ≡ answerTo (receiverAnswer a)
+answer-once Nothing = refl
+answer-once (Refused number) = refl
+answer-once (Delivered octets) = refl
 
 -- what the contracts leave of a call with an octet, and of one with a slice that comes to this run
 abbrev called : State → Counts → ℕ → List ℕ → Observed
@@ -203,7 +203,7 @@ slice-runs rest counts store s t =
               record {
                 rest = t .1 .state i .rest;
                 counts = t .1 .account i;
-                answer = (told-once (s .given .answer) ∙ ap answerTo (t .1 .answers)) i;
+                answer = (answer-once (s .given .answer) ∙ ap answerTo (t .1 .answers)) i;
                 taken = t .1 .taken i;
               };
           storeAfter = t .1 .state i .store;

@@ -126,7 +126,7 @@ silent-due (delivered octets) e =
     let z : _≡_ {A = ℕ} 0 1 = cc in
     absurd (omega arith)
 
--- what the test of an answer tells
+-- what the test of an answer shows
 pub no-answer : (answer : Answer) → isAnswer answer ≡ false → answer ≡ Nothing
 no-answer Nothing h = refl
 no-answer (Delivered octets) h =
