@@ -62,11 +62,11 @@ demand1 =
       mavlinkWriterRefuses = λ m h output after r number w.
           let due = mavlink-refused m output number in
           (λ e. due .0 (sym (w .answers) ∙ e), λ t. w .answers ∙ due .1 t);
-      receiverRefuses = λ rest counts store octet output given storeAfter outputThen number m e.
+      receiverRefuses = λ receiver store octet output given storeAfter outputThen number m e.
           let p = answer-refusal _ number output (tabled _ octet (length output)) (sym (m .answers) ∙ e) in
           (p .0, p .1, m .puts ∙ p .2);
-      receiverIsSilent = λ rest counts store octet output given storeAfter outputThen m e.
-          m .puts ∙ answer-nothing (verdictDue (record { rest = rest; store = store }) octet (length output)) output (sym (m .answers) ∙ e);
+      receiverIsSilent = λ receiver store octet output given storeAfter outputThen m e.
+          m .puts ∙ answer-nothing (verdictDue (record { rest = receiver .rest; store = store }) octet (length output)) output (sym (m .answers) ∙ e);
       flagClears = flag-clears;
       storeClean = store-clean;
       laterOnly = later-only;

@@ -22,8 +22,7 @@ use Rattle.mavlink_messages.specs.Messages.{readDue, writeDue, messageFrame, in
 use Rattle.thm_mavlink_messages.specs.RoundTrips as mavlink-trips
 use Rattle.thm_ucp_messages.specs.Delivery.{SentIsDelivered}
 use Rattle.thm_ucp_messages.specs.RoundTrips as message-trips
-use Rattle.ucp_receiver.specs.declared.Rest.{Rest}
-use Rattle.ucp_receiver.specs.declared.Counts.{Counts}
+use Rattle.ucp_receiver.specs.declared.Record.{Record}
 use Rattle.ucp_receiver.specs.declared.Received.{Received}
 use Rattle.ucp_receiver.specs.Answers as receiver-answers
 use Rattle.ucp_receiver.specs.Answers.{nothing, refusal}
@@ -79,14 +78,14 @@ pub record Demand1 : Type 0 where
       ↔ (((number ≡ because.mavlinkField) × (inRange m ≡ false))
       ⊎ ((number ≡ because.outputLength) × (inRange m ≡ true) × (length output < length (payloadOf m) + 8)))
   pub receiverRefuses :
-      (rest : Rest) (counts : Counts) (store : List ℕ) (octet : ℕ) (output : List ℕ) (given : Received)
+      (receiver : Record) (store : List ℕ) (octet : ℕ) (output : List ℕ) (given : Received)
       (storeAfter outputThen : List ℕ) (number : ℕ)
-      → Receives rest counts store octet output given storeAfter outputThen
+      → Receives receiver store octet output given storeAfter outputThen
       → receiver-answers.receiverAnswer (given .answer) ≡ refusal number → (1 ≤ number) × (number ≤ 6) × (outputThen ≡ output)
   pub receiverIsSilent :
-      (rest : Rest) (counts : Counts) (store : List ℕ) (octet : ℕ) (output : List ℕ) (given : Received)
+      (receiver : Record) (store : List ℕ) (octet : ℕ) (output : List ℕ) (given : Received)
       (storeAfter outputThen : List ℕ)
-      → Receives rest counts store octet output given storeAfter outputThen
+      → Receives receiver store octet output given storeAfter outputThen
       → receiver-answers.receiverAnswer (given .answer) ≡ nothing → outputThen ≡ output
   pub flagClears : FlagClears
   pub storeClean : StoreClean

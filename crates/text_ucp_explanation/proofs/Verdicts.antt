@@ -6,8 +6,7 @@ use native.Mathlib.Omega.{arith}
 use lib.ListN.{length, take, drop, length-append}
 use lib.Seq.{take-append-seam}
 use Rattle.ucp_frame.specs.Stretch.{Verdict, silent, refused, delivered}
-use Rattle.ucp_receiver.specs.declared.Rest.{Rest}
-use Rattle.ucp_receiver.specs.declared.Counts.{Counts}
+use Rattle.ucp_receiver.specs.declared.Record.{Record}
 use Rattle.ucp_receiver.specs.declared.Taken.{Taken}
 use Rattle.ucp_receiver.specs.declared.Answer.{Answer}
 use Rattle.ucp_receiver.specs.declared.Answer.the-variants.{Nothing, Delivered, Refused}
@@ -38,19 +37,19 @@ put-fits silent before f long = tt
 put-fits (refused number) before f long = tt
 put-fits (delivered octets) before f long = omega (arith, simp length-append at (ap length f))
 
-module _ {rest : Rest} {counts : Counts} {store line room : List ℕ} {given : Taken} {storeAfter roomAfter : List ℕ}
-    (takes : Takes rest counts store line room given storeAfter roomAfter) (long : length room ≡ bodyRoom) where
-  ran : sliceRun (stateOf rest store) counts line (length room) ≡ sliceRun (stateOf rest store) counts line bodyRoom
+module _ {receiver : Record} {store line room : List ℕ} {given : Taken} {storeAfter roomAfter : List ℕ}
+    (takes : Takes receiver store line room given storeAfter roomAfter) (long : length room ≡ bodyRoom) where
+  ran : sliceRun (stateOf (receiver .rest) store) (receiver .counts) line (length room) ≡ sliceRun (stateOf (receiver .rest) store) (receiver .counts) line bodyRoom
   ran = rw long
 
-  put : roomAfter ≡ outputAtFlag (sliceRun (stateOf rest store) counts line bodyRoom .verdict) room
+  put : roomAfter ≡ outputAtFlag (sliceRun (stateOf (receiver .rest) store) (receiver .counts) line bodyRoom .verdict) room
   put = takes .puts ∙ ap (λ (r : SliceRun). outputAtFlag (r .verdict) room) ran
 
-  pub verdict-answer : verdictOf (given .answer) roomAfter ≡ sliceRun (stateOf rest store) counts line bodyRoom .verdict
+  pub verdict-answer : verdictOf (given .answer) roomAfter ≡ sliceRun (stateOf (receiver .rest) store) (receiver .counts) line bodyRoom .verdict
   verdict-answer =
       of-answer (given .answer) roomAfter
       ∙ ap (λ (t : ReceiverAnswer). verdictAnswered t roomAfter) (takes .answers ∙ ap (λ (r : SliceRun). answerFor (r .verdict)) ran)
-      ∙ answer-back (sliceRun (stateOf rest store) counts line bodyRoom .verdict) room put
+      ∙ answer-back (sliceRun (stateOf (receiver .rest) store) (receiver .counts) line bodyRoom .verdict) room put
 
-  pub verdict-fits : length roomAfter ≡ length room → BodyFits (sliceRun (stateOf rest store) counts line bodyRoom .verdict)
-  verdict-fits kept = put-fits (sliceRun (stateOf rest store) counts line bodyRoom .verdict) room put (kept ∙ long)
+  pub verdict-fits : length roomAfter ≡ length room → BodyFits (sliceRun (stateOf (receiver .rest) store) (receiver .counts) line bodyRoom .verdict)
+  verdict-fits kept = put-fits (sliceRun (stateOf (receiver .rest) store) (receiver .counts) line bodyRoom .verdict) room put (kept ∙ long)
