@@ -1,9 +1,15 @@
 -- The demands, from what the crates below prove. Assumes nothing.
 use mathlib.Core.Path.{_≡_, refl, sym, ap, subst, _∙_}
 use mathlib.Core.List.{List}
-use Prim.Native.Nat.{ℕ, _≤_}
+use Prim.Native.Nat.{ℕ, _≤_, _<_}
 use native.Mathlib.Omega.{arith}
+use mathlib.Core.Logic.{_↔_}
+use lib.Bits.{bitXor}
 use lib.ListN.{length}
+use Rattle.crc_polynomial.specs.Polynomial.{bitsOfOctets, polynomial, quotient, timesGenerator, degree16}
+use Rattle.crc_polynomial.proofs.Laws.{divides}
+use Rattle.crc_gdl90.specs.Check.{frameCheck}
+use Rattle.crc_x25.proofs.CrcCode.{by-code}
 use Rattle.ucp_frame.specs.Frame.{frame}
 use Rattle.ucp_frame.specs.Stretch.{Verdict, silent, refused, delivered}
 use Rattle.ucp_frame.proofs.Frame.{frame-length-longest}
@@ -29,6 +35,17 @@ use Rattle.thm_ucp_receiver.proofs.Frames.{put-out-is-frame, frame-is-put-out, 
 use Rattle.demands.specs.Demands.{Demand1, Demand2, Demand3, ReceiverLists}
 use Rattle.demands.proofs.Refusals.{Tabled, quiet, numbered, whole, tabled}
 
+-- an answer that is the one due is a refusal when that is
+along : {A : Type 0} {answer due refusal : A} {Condition : Type 0} → answer ≡ due → (due ≡ refusal) ↔ Condition
+    → (answer ≡ refusal) ↔ Condition
+along d so = (λ e. so .0 (sym d ∙ e), λ c. d ∙ so .1 c)
+
+check-is-remainder : (body : List ℕ)
+    → (polynomial 0 (bitsOfOctets body) ≡ bitXor (timesGenerator 0 (quotient (bitsOfOctets body))) (frameCheck body))
+    × (frameCheck body < degree16)
+unfolding frameCheck
+check-is-remainder body = let d = divides (bitsOfOctets body) in (d .dividend, d .degree)
+
 -- ---- one call of the receiver
 
 told-refusal : (v : Verdict) (n : ℕ) (output : List ℕ) → Tabled v → answerFor v ≡ refusal n
@@ -52,16 +69,11 @@ demand1 =
       writerRefuses = λ body output after r number w e.
           (refused-so body output number (sym e ∙ w .answers), w .leaves ∙ ap (outputAfter (frame body) output) e);
       refusalWritesNothing = λ due octets output after r number w e. w .leaves ∙ ap (outputAfter octets output) e;
-      messageReaderRefuses = λ body r number d.
-          let due = tabled-message (kindIn body) body number in
-          (λ e. due .0 (sym d ∙ e), λ t. d ∙ due .1 t);
+      messageReaderRefuses = λ body r number d. along d (tabled-message (kindIn body) body number);
       messageWriterRefuses = λ m payload output after r number w.
-          let due = message-refused (messageFits m payload) (messageBody m payload) output number in
-          (λ e. due .0 (sym (w .answers) ∙ e), λ t. w .answers ∙ due .1 t);
+          along (w .answers) (message-refused (messageFits m payload) (messageBody m payload) output number);
       mavlinkReaderRefuses = tabled-mavlink;
-      mavlinkWriterRefuses = λ m h output after r number w.
-          let due = mavlink-refused m output number in
-          (λ e. due .0 (sym (w .answers) ∙ e), λ t. w .answers ∙ due .1 t);
+      mavlinkWriterRefuses = λ m h output after r number w. along (w .answers) (mavlink-refused m output number);
       receiverRefuses = λ rest counts store octet output given storeAfter outputThen number m e.
           let p = told-refusal _ number output (tabled _ octet (length output)) (sym (m .answers) ∙ e) in
           (p .0, p .1, m .puts ∙ p .2);
@@ -75,6 +87,8 @@ demand1 =
 pub demand2 : Demand2
 demand2 =
     record {
+      checkIsRemainder = check-is-remainder;
+      x25IsCode = by-code;
       writes = λ body output after r w least most room.
           let e = w .answers ∙ due-accepted body output least most room in
           (e, w .leaves ∙ ap (outputAfter (frame body) output) e, frame-length-longest body most);

@@ -9,7 +9,12 @@ use mathlib.Core.Bool.{true, false}
 use mathlib.Core.List.{List, [], _∷_, _++_, map}
 use mathlib.Core.Logic.{_⊎_, _↔_}
 use Prim.Native.Nat.{ℕ, _+_, _≤_, _<_}
+use lib.Bits.{bitXor}
 use lib.ListN.{length, drop}
+use Rattle.crc_polynomial.specs.Polynomial.{Octets, bitsOfOctets, polynomial, quotient, timesGenerator, degree16}
+use Rattle.crc_gdl90.specs.Check.{frameCheck}
+use Rattle.crc_x25.specs.Check.{x25}
+use Rattle.crc_x25.specs.CrcCode.{crcCalculate}
 use Rattle.refusals.specs.Numbers as because
 use Rattle.ucp_frame.specs.Frame.{frame, longestBody, longestFrame}
 use Rattle.output_writing.specs.declared.Written.{Written}
@@ -92,13 +97,19 @@ pub record Demand1 : Type 0 where
   pub storeClean : StoreClean
   pub laterOnly : LaterOnly
 
--- Demand 2. A body of 1 to 436 octets with room for its frame is written, and that exactly; every call of the receiver answers
--- as the rules say of the history, and a stretch with an octet in it is answered; each frame delivered writes back to the same
--- octets, and each frame written is delivered; every octet received is counted once, under the class that its history gives. A
--- line that is taken in slices is such a line of calls by the octet, with the same answers, outputs and records. On both lines
--- each written message reads back equal, and each accepted one writes back to the same octets; a message sent on the UCP line
--- is delivered, and means the same.
+-- Demand 2. The check of every body is the remainder: the body as a polynomial is the quotient times the generator plus it, and
+-- its degree is under 16; MAVLink's is what 001's code computes. A body of 1 to 436 octets with room for its frame is written,
+-- and that exactly; every call of the receiver answers as the rules say of the history, and a stretch with an octet in it is
+-- answered; each frame delivered writes back to the same octets, and each frame written is delivered; every octet received is
+-- counted once, under the class that its history gives. A line that is taken in slices is such a line of calls by the octet,
+-- with the same answers, outputs and records. On both lines each written message reads back equal, and each accepted one writes
+-- back to the same octets; a message sent on the UCP line is delivered, and means the same.
 pub record Demand2 : Type 0 where
+  pub checkIsRemainder :
+      (body : List ℕ)
+      → (polynomial 0 (bitsOfOctets body) ≡ bitXor (timesGenerator 0 (quotient (bitsOfOctets body))) (frameCheck body))
+      × (frameCheck body < degree16)
+  pub x25IsCode : (octets : List ℕ) → Octets octets → crcCalculate octets ≡ x25 octets
   pub writes :
       (body output after : List ℕ) (r : Written) → WritesFrame body output r after
       → 1 ≤ length body → length body ≤ longestBody → length (frame body) ≤ length output
