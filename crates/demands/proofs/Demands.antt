@@ -21,6 +21,8 @@ use Rattle.thm_ucp_messages.proofs.WriteBack as message-write
 use Rattle.ucp_messages.specs.Messages.{messageFits, messageBody}
 use Rattle.ucp_messages.specs.Kinds.{kindIn}
 use Rattle.demands.proofs.MessageRefusals.{tabled-message, message-refused, mavlink-refused, tabled-mavlink}
+use Rattle.demands.proofs.ReaderRefusals as messages
+use Rattle.demands.proofs.MavlinkRefusals as mavlink
 use Rattle.ucp_writer.proofs.room.Due.{refused-so, refused-7, refused-8, due-accepted}
 use Rattle.ucp_receiver.specs.Answers as receiver-answers
 use Rattle.ucp_receiver.specs.Answers.{nothing, refusal, answerFor}
@@ -70,9 +72,19 @@ demand1 =
           (refused-so body output number (sym e ∙ w .answers), w .leaves ∙ ap (outputAfter (frame body) output) e);
       refusalWritesNothing = λ due octets output after r number w e. w .leaves ∙ ap (outputAfter octets output) e;
       messageReaderRefuses = λ body r number d. along d (tabled-message (kindIn body) body number);
+      messageReaderRefuses10 = λ body r d. along d (messages.exactly-10 body);
+      messageReaderRefuses11 = λ body r d. along d (messages.exactly-11 body);
+      messageReaderRefuses12 = λ body r d. along d (messages.exactly-12 body);
+      messageReaderRefuses13 = λ body r d. along d (messages.exactly-13 body);
       messageWriterRefuses = λ m payload output after r number w.
           along (w .answers) (message-refused (messageFits m payload) (messageBody m payload) output number);
       mavlinkReaderRefuses = tabled-mavlink;
+      mavlinkReaderRefuses20 = λ input r d. along d (mavlink.exactly-20 input);
+      mavlinkReaderRefuses21 = λ input r d. along d (mavlink.exactly-21 input);
+      mavlinkReaderRefuses22 = λ input r d. along d (mavlink.exactly-22 input);
+      mavlinkReaderRefuses23 = λ input r d. along d (mavlink.exactly-23 input);
+      mavlinkReaderRefuses24 = λ input r d. along d (mavlink.exactly-24 input);
+      mavlinkReaderRefuses25 = λ input r d. along d (mavlink.exactly-25 input);
       mavlinkWriterRefuses = λ m h output after r number w. along (w .answers) (mavlink-refused m output number);
       receiverRefuses = λ rest counts store octet output given storeAfter outputThen number m e.
           let p = told-refusal _ number output (tabled _ octet (length output)) (sym (m .answers) ∙ e) in
