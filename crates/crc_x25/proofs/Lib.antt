@@ -1,3 +1,4 @@
 pub mod Step
 pub mod Shifts
 pub mod Words
+pub mod CrcCode

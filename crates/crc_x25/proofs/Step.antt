@@ -213,7 +213,7 @@ wireBits-append [] ys = refl
 wireBits-append (x ∷ xs) ys =
     ap (λ (bs : List Bool). bitsUp 8 x ++ bs) (wireBits-append xs ys) ∙ sym (append-assoc (bitsUp 8 x) (wireBits xs) (wireBits ys))
 
-from-append : (check : ℕ) (xs ys : List ℕ) → x25From check (xs ++ ys) ≡ x25From (x25From check xs) ys
+pub from-append : (check : ℕ) (xs ys : List ℕ) → x25From check (xs ++ ys) ≡ x25From (x25From check xs) ys
 unfolding x25From
 from-append check xs ys =
     ap (λ (bs : List Bool). mirrored (register (mirrored check) bs)) (wireBits-append xs ys)
@@ -221,7 +221,7 @@ from-append check xs ys =
     ∙ ap (λ (r : ℕ). mirrored (register r (wireBits ys)))
     (sym (mirrored-back _ (register-lt (mirrored check) (wireBits xs) (mirrored-lt check))))
 
-from-none : (check : ℕ) → check < degree16 → check ≡ x25From check []
+pub from-none : (check : ℕ) → check < degree16 → check ≡ x25From check []
 unfolding x25From wireBits register
 from-none check h = sym (mirrored-back check h)
 

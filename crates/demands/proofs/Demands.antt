@@ -1,9 +1,15 @@
 -- The demands, from what the crates below prove. Assumes nothing.
 use mathlib.Core.Path.{_≡_, refl, sym, ap, subst, _∙_}
 use mathlib.Core.List.{List}
-use Prim.Native.Nat.{ℕ, _≤_}
+use Prim.Native.Nat.{ℕ, _≤_, _<_}
 use native.Mathlib.Omega.{arith}
+use mathlib.Core.Logic.{_↔_}
+use lib.Bits.{bitXor}
 use lib.ListN.{length}
+use Rattle.crc_polynomial.specs.Polynomial.{bitsOfOctets, polynomial, quotient, timesGenerator, degree16}
+use Rattle.crc_polynomial.proofs.Laws.{divides}
+use Rattle.crc_gdl90.specs.Check.{frameCheck}
+use Rattle.crc_x25.proofs.CrcCode.{by-code}
 use Rattle.ucp_frame.specs.Frame.{frame}
 use Rattle.ucp_frame.specs.Stretch.{Verdict, silent, refused, delivered}
 use Rattle.ucp_frame.proofs.Frame.{frame-length-longest}
@@ -15,6 +21,8 @@ use Rattle.thm_ucp_messages.proofs.WriteBack as message-write
 use Rattle.ucp_messages.specs.Messages.{messageFits, messageBody}
 use Rattle.ucp_messages.specs.Kinds.{kindIn}
 use Rattle.demands.proofs.MessageRefusals.{tabled-message, message-refused, mavlink-refused, tabled-mavlink}
+use Rattle.demands.proofs.ReaderRefusals as messages
+use Rattle.demands.proofs.MavlinkRefusals as mavlink
 use Rattle.ucp_writer.proofs.room.Due.{refused-so, refused-7, refused-8, due-accepted}
 use Rattle.ucp_receiver.specs.Answers as receiver-answers
 use Rattle.ucp_receiver.specs.Answers.{nothing, refusal, answerFor}
@@ -28,6 +36,17 @@ use Rattle.thm_ucp_receiver.proofs.Stretch.{stretch-is-answered}
 use Rattle.thm_ucp_receiver.proofs.Frames.{put-out-is-frame, frame-is-put-out, wrong-check-refused}
 use Rattle.demands.specs.Demands.{Demand1, Demand2, Demand3, ReceiverLists}
 use Rattle.demands.proofs.Refusals.{Tabled, quiet, numbered, whole, tabled}
+
+-- an answer that is the one due is a refusal when that is
+along : {A : Type 0} {answer due refusal : A} {Condition : Type 0} → answer ≡ due → (due ≡ refusal) ↔ Condition
+    → (answer ≡ refusal) ↔ Condition
+along d so = (λ e. so .0 (sym d ∙ e), λ c. d ∙ so .1 c)
+
+check-is-remainder : (body : List ℕ)
+    → (polynomial 0 (bitsOfOctets body) ≡ bitXor (timesGenerator 0 (quotient (bitsOfOctets body))) (frameCheck body))
+    × (frameCheck body < degree16)
+unfolding frameCheck
+check-is-remainder body = let d = divides (bitsOfOctets body) in (d .dividend, d .degree)
 
 -- ---- one call of the receiver
 
@@ -52,16 +71,21 @@ demand1 =
       writerRefuses = λ body output after r number w e.
           (refused-so body output number (sym e ∙ w .answers), w .leaves ∙ ap (outputAfter (frame body) output) e);
       refusalWritesNothing = λ due octets output after r number w e. w .leaves ∙ ap (outputAfter octets output) e;
-      messageReaderRefuses = λ body r number d.
-          let due = tabled-message (kindIn body) body number in
-          (λ e. due .0 (sym d ∙ e), λ t. d ∙ due .1 t);
+      messageReaderRefuses = λ body r number d. along d (tabled-message (kindIn body) body number);
+      messageReaderRefuses10 = λ body r d. along d (messages.exactly-10 body);
+      messageReaderRefuses11 = λ body r d. along d (messages.exactly-11 body);
+      messageReaderRefuses12 = λ body r d. along d (messages.exactly-12 body);
+      messageReaderRefuses13 = λ body r d. along d (messages.exactly-13 body);
       messageWriterRefuses = λ m payload output after r number w.
-          let due = message-refused (messageFits m payload) (messageBody m payload) output number in
-          (λ e. due .0 (sym (w .answers) ∙ e), λ t. w .answers ∙ due .1 t);
+          along (w .answers) (message-refused (messageFits m payload) (messageBody m payload) output number);
       mavlinkReaderRefuses = tabled-mavlink;
-      mavlinkWriterRefuses = λ m h output after r number w.
-          let due = mavlink-refused m output number in
-          (λ e. due .0 (sym (w .answers) ∙ e), λ t. w .answers ∙ due .1 t);
+      mavlinkReaderRefuses20 = λ input r d. along d (mavlink.exactly-20 input);
+      mavlinkReaderRefuses21 = λ input r d. along d (mavlink.exactly-21 input);
+      mavlinkReaderRefuses22 = λ input r d. along d (mavlink.exactly-22 input);
+      mavlinkReaderRefuses23 = λ input r d. along d (mavlink.exactly-23 input);
+      mavlinkReaderRefuses24 = λ input r d. along d (mavlink.exactly-24 input);
+      mavlinkReaderRefuses25 = λ input r d. along d (mavlink.exactly-25 input);
+      mavlinkWriterRefuses = λ m h output after r number w. along (w .answers) (mavlink-refused m output number);
       receiverRefuses = λ receiver store octet output given storeAfter outputThen number m e.
           let p = answer-refusal _ number output (tabled _ octet (length output)) (sym (m .answers) ∙ e) in
           (p .0, p .1, m .puts ∙ p .2);
@@ -75,6 +99,8 @@ demand1 =
 pub demand2 : Demand2
 demand2 =
     record {
+      checkIsRemainder = check-is-remainder;
+      x25IsCode = by-code;
       writes = λ body output after r w least most room.
           let e = w .answers ∙ due-accepted body output least most room in
           (e, w .leaves ∙ ap (outputAfter (frame body) output) e, frame-length-longest body most);

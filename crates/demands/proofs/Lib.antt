@@ -1,3 +1,5 @@
 pub mod Refusals
 pub mod MessageRefusals
+pub mod ReaderRefusals
+pub mod MavlinkRefusals
 pub mod Demands

@@ -9,7 +9,12 @@ use mathlib.Core.Bool.{true, false}
 use mathlib.Core.List.{List, [], _∷_, _++_, map}
 use mathlib.Core.Logic.{_⊎_, _↔_}
 use Prim.Native.Nat.{ℕ, _+_, _≤_, _<_}
+use lib.Bits.{bitXor}
 use lib.ListN.{length, drop}
+use Rattle.crc_polynomial.specs.Polynomial.{Octets, bitsOfOctets, polynomial, quotient, timesGenerator, degree16}
+use Rattle.crc_gdl90.specs.Check.{frameCheck}
+use Rattle.crc_x25.specs.Check.{x25}
+use Rattle.crc_x25.specs.CrcCode.{crcCalculate}
 use Rattle.refusals.specs.Numbers as because
 use Rattle.ucp_frame.specs.Frame.{frame, longestBody, longestFrame}
 use Rattle.output_writing.specs.declared.Written.{Written}
@@ -17,8 +22,10 @@ use Rattle.output_writing.specs.Writing.{WriterAnswer, refused, wrote, writerAn
 use Rattle.ucp_writer.specs.Writes.{WritesFrame}
 use Rattle.mavlink_frame.specs.declared.Header.{Header}
 use Rattle.mavlink_messages.specs.declared.Message as mavlink
+use Rattle.mavlink_messages.specs.declared.Read.{Read as MavlinkRead}
 use Rattle.mavlink_messages.specs.declared.Read.the-variants as mavlink-read
 use Rattle.mavlink_messages.specs.Messages.{readDue, writeDue, messageFrame, inRange, payloadOf}
+use Rattle.mavlink_messages.specs.Refusals.{MavlinkShort, MavlinkWrongStart, MavlinkUnknownId, MavlinkWrongLength, MavlinkWrongCheck, MavlinkOutsideRange}
 use Rattle.thm_mavlink_messages.specs.RoundTrips as mavlink-trips
 use Rattle.thm_ucp_messages.specs.Delivery.{SentIsDelivered}
 use Rattle.thm_ucp_messages.specs.RoundTrips as message-trips
@@ -34,6 +41,7 @@ use Rattle.ucp_messages.specs.declared.Read as ucp-read
 use Rattle.ucp_messages.specs.Messages.{messageFits, messageBody}
 use Rattle.ucp_messages.specs.Kinds.{kindIn}
 use Rattle.ucp_messages.specs.Messages as Reads
+use Rattle.ucp_messages.specs.Refusals.{UnknownId, WrongMessageLength, WrongFixedOctet, FieldOutsideRange}
 use Rattle.ucp_answers.specs.Writes as Message
 use Rattle.thm_ucp_writer.specs.Calls.{WriterLists}
 use Rattle.thm_ucp_receiver.specs.Line.{Observed, callOf, upTo, Line}
@@ -41,10 +49,9 @@ use Rattle.thm_ucp_receiver.specs.Slice.{LineOfSlices, SliceIsCall}
 use Rattle.thm_ucp_receiver.specs.Promises.{AnswersAs, AnswersByHistory, StretchIsAnswered, CountsByHistory, EveryOctetCounted, StoreClean, FlagClears, LaterOnly, PutOutIsFrame, FrameIsPutOut, EndsIn, carrying}
 
 -- Demand 1. Bad input gets a numbered refusal under the conditions of document 01 and no others (the receiver's conditions are
--- `answersByHistory` of demand 2, the message reader's are `refusalIn`, the MAVLink reader's its definition, `readDue`), and a
--- refusal changes no octet of the lent output, whichever writer gives it. At every flag, counts excepted, the store is all
--- zero, the rest of the record is one fixed value, and what the line answers from there on depends only on later octets, for
--- the same room lent.
+-- `answersByHistory` of demand 2; each of the readers' is spelled in its room's specs/Refusals.antt), and a refusal changes no
+-- octet of the lent output, whichever writer gives it. At every flag, counts excepted, the store is all zero, the rest of the
+-- record is one fixed value, and what the line answers from there on depends only on later octets, for the same room lent.
 pub record Demand1 : Type 0 where
   pub writerRefuses7 :
       (body output after : List ℕ) (r : Written) → WritesFrame body output r after
@@ -63,6 +70,18 @@ pub record Demand1 : Type 0 where
       (body : List ℕ) (r : ucp-read.Read) (number : ℕ) → Reads.Reads body r
       → (Reads.readerAnswer r ≡ Reads.refused number)
       ↔ ((number ≡ Reads.refusalIn (kindIn body) body) × (10 ≤ number) × (number ≤ 13))
+  pub messageReaderRefuses10 :
+      (body : List ℕ) (r : ucp-read.Read) → Reads.Reads body r
+      → (Reads.readerAnswer r ≡ Reads.refused because.unknownId) ↔ UnknownId body
+  pub messageReaderRefuses11 :
+      (body : List ℕ) (r : ucp-read.Read) → Reads.Reads body r
+      → (Reads.readerAnswer r ≡ Reads.refused because.messageLength) ↔ WrongMessageLength body
+  pub messageReaderRefuses12 :
+      (body : List ℕ) (r : ucp-read.Read) → Reads.Reads body r
+      → (Reads.readerAnswer r ≡ Reads.refused because.fixed) ↔ WrongFixedOctet body
+  pub messageReaderRefuses13 :
+      (body : List ℕ) (r : ucp-read.Read) → Reads.Reads body r
+      → (Reads.readerAnswer r ≡ Reads.refused because.field) ↔ FieldOutsideRange body
   pub messageWriterRefuses :
       (m : ucp.Message) (payload output after : List ℕ) (r : Written) (number : ℕ)
       → Message.WritesBody (messageFits m payload) (messageBody m payload) output r after
@@ -71,6 +90,18 @@ pub record Demand1 : Type 0 where
       ⊎ ((number ≡ because.outputLength) × (messageFits m payload ≡ true) × (length output < length (messageBody m payload))))
   pub mavlinkReaderRefuses :
       (input : List ℕ) (number : ℕ) → readDue input ≡ mavlink-read.Refused number → (20 ≤ number) × (number ≤ 25)
+  pub mavlinkReaderRefuses20 :
+      (input : List ℕ) (r : MavlinkRead) → r ≡ readDue input → (r ≡ mavlink-read.Refused because.mavlinkShort) ↔ MavlinkShort input
+  pub mavlinkReaderRefuses21 :
+      (input : List ℕ) (r : MavlinkRead) → r ≡ readDue input → (r ≡ mavlink-read.Refused because.mavlinkStart) ↔ MavlinkWrongStart input
+  pub mavlinkReaderRefuses22 :
+      (input : List ℕ) (r : MavlinkRead) → r ≡ readDue input → (r ≡ mavlink-read.Refused because.mavlinkUnknownId) ↔ MavlinkUnknownId input
+  pub mavlinkReaderRefuses23 :
+      (input : List ℕ) (r : MavlinkRead) → r ≡ readDue input → (r ≡ mavlink-read.Refused because.mavlinkLength) ↔ MavlinkWrongLength input
+  pub mavlinkReaderRefuses24 :
+      (input : List ℕ) (r : MavlinkRead) → r ≡ readDue input → (r ≡ mavlink-read.Refused because.mavlinkWrongCheck) ↔ MavlinkWrongCheck input
+  pub mavlinkReaderRefuses25 :
+      (input : List ℕ) (r : MavlinkRead) → r ≡ readDue input → (r ≡ mavlink-read.Refused because.mavlinkField) ↔ MavlinkOutsideRange input
   pub mavlinkWriterRefuses :
       (m : mavlink.Message) (h : Header) (output after : List ℕ) (r : Written) (number : ℕ)
       → Writing (writeDue m output) (messageFrame m h) output r after
@@ -91,13 +122,19 @@ pub record Demand1 : Type 0 where
   pub storeClean : StoreClean
   pub laterOnly : LaterOnly
 
--- Demand 2. A body of 1 to 436 octets with room for its frame is written, and that exactly; every call of the receiver answers
--- as the rules say of the history, and a stretch with an octet in it is answered; each frame delivered writes back to the same
--- octets, and each frame written is delivered; every octet received is counted once, under the class that its history gives. A
--- line that is taken in slices is such a line of calls by the octet, with the same answers, outputs and records. On both lines
--- each written message reads back equal, and each accepted one writes back to the same octets; a message sent on the UCP line
--- is delivered, and means the same.
+-- Demand 2. The check of every body is the remainder: the body as a polynomial is the quotient times the generator plus it, and
+-- its degree is under 16; MAVLink's is what 001's code computes. A body of 1 to 436 octets with room for its frame is written,
+-- and that exactly; every call of the receiver answers as the rules say of the history, and a stretch with an octet in it is
+-- answered; each frame delivered writes back to the same octets, and each frame written is delivered; every octet received is
+-- counted once, under the class that its history gives. A line that is taken in slices is such a line of calls by the octet,
+-- with the same answers, outputs and records. On both lines each written message reads back equal, and each accepted one writes
+-- back to the same octets; a message sent on the UCP line is delivered, and means the same.
 pub record Demand2 : Type 0 where
+  pub checkIsRemainder :
+      (body : List ℕ)
+      → (polynomial 0 (bitsOfOctets body) ≡ bitXor (timesGenerator 0 (quotient (bitsOfOctets body))) (frameCheck body))
+      × (frameCheck body < degree16)
+  pub x25IsCode : (octets : List ℕ) → Octets octets → crcCalculate octets ≡ x25 octets
   pub writes :
       (body output after : List ℕ) (r : Written) → WritesFrame body output r after
       → 1 ≤ length body → length body ≤ longestBody → length (frame body) ≤ length output

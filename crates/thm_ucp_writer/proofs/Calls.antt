@@ -12,6 +12,7 @@ use Rattle.output_writing.specs.declared.Written.the-variants.{Wrote, Refused}
 use Rattle.ucp_writer.specs.Writes.{WritesFrame}
 use Rattle.ucp_writer.proofs.room.Due.{accepted-so}
 use Rattle.thm_ucp_writer.specs.Calls.{WriterCall, adds, accepts, lineOctets, acceptedBodies, WriterLists}
+use Rattle.thm_ucp_writer.proofs.Differ.{differ-so}
 
 -- what one call adds to the line is the line of what it accepts
 one : (body output : List ℕ) (answer : Written) (after : List ℕ) → WritesFrame body output answer after
@@ -36,10 +37,14 @@ line-of-bodies (c ∷ cs) =
     ap₂ (λ (l m : List ℕ). l ++ m) (one (c .body) (c .output) (c .answer) (c .after) (c .writes)) (line-of-bodies cs)
     ∙ sym (lineOf-append (accepts (c .answer) (c .body)) (acceptedBodies cs))
 
+apart-lines : (xs ys : List WriterCall) → (acceptedBodies xs ≡ acceptedBodies ys → ⊥) → lineOctets xs ≡ lineOctets ys → ⊥
+apart-lines xs ys differ e = differ (frames-injective _ _ (sym (line-of-bodies xs) ∙ e ∙ line-of-bodies ys))
+
 pub writer-lists : WriterLists
 writer-lists =
     record {
       answers = λ before after c calls e. c .writes .answers;
       frames = line-of-bodies;
-      apart = λ xs ys differ e. differ (frames-injective _ _ (sym (line-of-bodies xs) ∙ e ∙ line-of-bodies ys));
+      apart = apart-lines;
+      differ = λ xs ys bodies. differ-so (lineOctets xs) (lineOctets ys) (apart-lines xs ys bodies);
     }
