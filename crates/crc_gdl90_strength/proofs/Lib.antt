@@ -3,3 +3,4 @@ pub mod Shape
 pub mod Parity
 pub mod Caught
 pub mod Limits
+pub mod Premises

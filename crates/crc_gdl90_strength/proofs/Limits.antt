@@ -23,7 +23,7 @@ at-most [] k e = absurd (false≢true e)
 at-most (b ∷ bs) zero e = omega arith
 at-most (b ∷ bs) (suc k) e = omega (arith, at-most bs k e)
 
-at-least : (m : ℕ) (rest : List Bool) (k : ℕ) → getD (replicate m false ++ rest) k false ≡ true → m ≤ k
+pub at-least : (m : ℕ) (rest : List Bool) (k : ℕ) → getD (replicate m false ++ rest) k false ≡ true → m ≤ k
 at-least zero rest k e = omega arith
 at-least (suc m) rest zero e = absurd (false≢true e)
 at-least (suc m) rest (suc k) e = omega (arith, at-least m rest k e)

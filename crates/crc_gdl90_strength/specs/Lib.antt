@@ -2,3 +2,4 @@ pub mod BitNumbers
 pub mod Strength
 pub mod Reach
 pub mod Limits
+pub mod Premises

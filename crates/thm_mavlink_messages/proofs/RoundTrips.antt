@@ -33,9 +33,9 @@ use Rattle.mavlink_messages.specs.Dynamic202.{dynamicFormat}
 use Rattle.mavlink_messages.specs.Status203.{statusFormat}
 use Rattle.mavlink_messages.specs.Traffic246.{trafficFormat}
 use Rattle.mavlink_messages.specs.Messages.{idOf, payloadOf, inRange, failuresOf, messageJudged, payloadRead, readBy, readDue, ofItsKind, writeDue, messageFrame}
-use Rattle.thm_mavlink_messages.specs.RoundTrips.{MavlinkTyped, MavlinkReadsBack, MavlinkWritesBack}
+use Rattle.thm_mavlink_messages.specs.RoundTrips.{MavlinkTyped, MavlinkReadIsTyped, MavlinkReadsBack, MavlinkWritesBack}
 use Rattle.thm_mavlink_messages.proofs.Frames.{whole, whole-is, frame-found, frame-payload, accepted-frame, payload-length, frame-length}
-use Rattle.field_format.proofs.Formats.{value-back, body-again}
+use Rattle.field_format.proofs.Formats.{value-back, value-typed, body-again}
 use Rattle.mavlink_messages.proofs.Formats.{dataStream-right, static-right, dynamic-right, status-right, traffic-right}
 
 -- ---- the kind of a message, as the table has it
@@ -113,6 +113,7 @@ written-reads-back m h output after n t w =
 record Carried (id : ℕ) (p : List ℕ) (h : Header) (used : ℕ) (h′ : Header) (used′ : ℕ) (m : Message) : Type 0 where
   pub named : idOf m ≡ id
   pub carries : payloadOf m ≡ p
+  pub typed : MavlinkTyped m
   pub ranges : inRange m ≡ true
   pub header : h ≡ h′
   pub ends : used ≡ used′
@@ -123,9 +124,9 @@ branch false e met past = past e
 
 module _ (id : ℕ) (p : List ℕ) (h : Header) (used : ℕ) (h′ : Header) (used′ : ℕ) (m : Message) (f : Failures)
     (o : Octets p) (fits : ofItsKind id (length p) ≡ true) where
-  of-message : (n : ℕ) (m₀ : Message) → eqb id n ≡ true → idOf m₀ ≡ n → payloadOf m₀ ≡ p
+  of-message : (n : ℕ) (m₀ : Message) → eqb id n ≡ true → idOf m₀ ≡ n → payloadOf m₀ ≡ p → MavlinkTyped m₀
       → messageJudged h used m₀ ≡ read-as.Message h′ used′ m f → Carried id p h used h′ used′ m
-  of-message n m₀ t i c = go (inRange m₀) refl
+  of-message n m₀ t i c told = go (inRange m₀) refl
     where
       go : (b : Bool) → inRange m₀ ≡ b → cond b (read-as.Message h used m₀ (failuresOf m₀)) (read-as.Refused 25) ≡ read-as.Message h′ used′ m f
           → Carried id p h used h′ used′ m
@@ -135,6 +136,7 @@ module _ (id : ℕ) (p : List ℕ) (h : Header) (used : ℕ) (h′ : Header) (us
           record {
             named = ap idOf (sym same) ∙ i ∙ sym (eqb-true _ _ t);
             carries = ap payloadOf (sym same) ∙ c;
+            typed = subst MavlinkTyped same told;
             ranges = ap inRange (sym same) ∙ r;
             header = cc;
             ends = cc;
@@ -147,11 +149,11 @@ module _ (id : ℕ) (p : List ℕ) (h : Header) (used : ℕ) (h′ : Header) (us
   carried : payloadRead id h used p ≡ read-as.Message h′ used′ m f → Carried id p h used h′ used′ m
   unfolding mavlinkKind
   carried e =
-      branch (eqb id 66) e (λ t. of-message 66 (DataStream (valueIn dataStreamFormat p)) t refl (body-again dataStreamFormat dataStream-right p o (eqb-true _ _ (sized 66 t)) tt refl)) (λ e.
-      branch (eqb id 201) e (λ t. of-message 201 (Static (valueIn staticFormat p)) t refl (body-again staticFormat static-right p o (eqb-true _ _ (sized 201 t)) tt refl)) (λ e.
-      branch (eqb id 202) e (λ t. of-message 202 (Dynamic (valueIn dynamicFormat p)) t refl (body-again dynamicFormat dynamic-right p o (eqb-true _ _ (sized 202 t)) tt refl)) (λ e.
-      branch (eqb id 203) e (λ t. of-message 203 (Status (valueIn statusFormat p)) t refl (body-again statusFormat status-right p o (eqb-true _ _ (sized 203 t)) tt refl)) (λ e.
-      branch (eqb id 246) e (λ t. of-message 246 (Traffic (valueIn trafficFormat p)) t refl (body-again trafficFormat traffic-right p o (eqb-true _ _ (sized 246 t)) tt refl)) (λ e.
+      branch (eqb id 66) e (λ t. of-message 66 (DataStream (valueIn dataStreamFormat p)) t refl (body-again dataStreamFormat dataStream-right p o (eqb-true _ _ (sized 66 t)) tt refl) (value-typed dataStreamFormat dataStream-right p o (eqb-true _ _ (sized 66 t)))) (λ e.
+      branch (eqb id 201) e (λ t. of-message 201 (Static (valueIn staticFormat p)) t refl (body-again staticFormat static-right p o (eqb-true _ _ (sized 201 t)) tt refl) (value-typed staticFormat static-right p o (eqb-true _ _ (sized 201 t)))) (λ e.
+      branch (eqb id 202) e (λ t. of-message 202 (Dynamic (valueIn dynamicFormat p)) t refl (body-again dynamicFormat dynamic-right p o (eqb-true _ _ (sized 202 t)) tt refl) (value-typed dynamicFormat dynamic-right p o (eqb-true _ _ (sized 202 t)))) (λ e.
+      branch (eqb id 203) e (λ t. of-message 203 (Status (valueIn statusFormat p)) t refl (body-again statusFormat status-right p o (eqb-true _ _ (sized 203 t)) tt refl) (value-typed statusFormat status-right p o (eqb-true _ _ (sized 203 t)))) (λ e.
+      branch (eqb id 246) e (λ t. of-message 246 (Traffic (valueIn trafficFormat p)) t refl (body-again trafficFormat traffic-right p o (eqb-true _ _ (sized 246 t)) tt refl) (value-typed trafficFormat traffic-right p o (eqb-true _ _ (sized 246 t)))) (λ e.
       let z : _≡_ {A = ℕ} 0 1 = cc in absurd (omega arith))))))
 
 -- a part of octets has octets
@@ -228,3 +230,11 @@ accepted-writes-back s h used m f o e = go (found s) refl e
         → (r ≡ Wrote used) × (after ≡ take used s ++ drop used output)
     go (found-as.Refused number) q d = let z : _≡_ {A = ℕ} 0 1 = cc in absurd (omega arith)
     go (found-as.Frame id h₀ used₀) q d = written-again s h used m f o id h₀ used₀ (accepted s id h₀ used₀ q) d
+
+-- ---- what the reader gives is a value of its type
+pub read-is-typed : MavlinkReadIsTyped
+read-is-typed s h used m f o e = go (found s) refl e
+  where
+    go : (l : Found) → found s ≡ l → readBy l s ≡ read-as.Message h used m f → MavlinkTyped m
+    go (found-as.Refused number) q d = let z : _≡_ {A = ℕ} 0 1 = cc in absurd (omega arith)
+    go (found-as.Frame id h₀ used₀) q d = is-carried s h used m f o id h₀ used₀ (accepted s id h₀ used₀ q) d .typed

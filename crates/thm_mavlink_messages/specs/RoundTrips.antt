@@ -29,6 +29,11 @@ MavlinkTyped (Dynamic d) = TypedAs dynamicFormat d
 MavlinkTyped (Status s) = TypedAs statusFormat s
 MavlinkTyped (Traffic t) = TypedAs trafficFormat t
 
+-- every message that the reader gives is one
+abbrev pub MavlinkReadIsTyped : Type 0
+MavlinkReadIsTyped =
+    (s : List ℕ) (h : Header) (used : ℕ) (m : Message) (f : Failures) → Octets s → readDue s ≡ read-as.Message h used m f → MavlinkTyped m
+
 -- ---- a written frame reads back equal, with anything behind it: the same kind, fields and header, and its own length
 abbrev pub MavlinkReadsBack : Type 0
 MavlinkReadsBack =

@@ -8,6 +8,7 @@ use Rattle.ucp_history.specs.History.{cutAtFlags, closingVerdict, answer}
 use Rattle.ucp_receiver.specs.Octet.{storing, stateAfter, verdictDue, countsAfter}
 use Rattle.ucp_receiver.specs.Slice.{sliceRun}
 use Rattle.crc_gdl90_strength.proofs.Limits.{four-bits-unseen}
+use Rattle.crc_gdl90_strength.proofs.Premises.{premises-met}
 use Rattle.thm_ucp_examples.specs.Examples.{answersAfter, FrameExamples, DataOctetBecomesFlag}
 
 pub examples : FrameExamples
@@ -24,6 +25,7 @@ examples =
       too-short = refl;
       no-answer = refl;
       shared-check = four-bits-unseen;
+      within-demand-3 = premises-met;
       two-flips = refl;
     }
 

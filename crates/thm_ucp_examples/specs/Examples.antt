@@ -10,6 +10,7 @@ use Rattle.ucp_receiver.specs.Account.{zeroCounts}
 use Rattle.ucp_receiver.specs.Octet.{fresh}
 use Rattle.ucp_receiver.specs.Slice.{sliceRun}
 use Rattle.crc_gdl90_strength.specs.Limits.{FourBitsUnseen}
+use Rattle.crc_gdl90_strength.specs.Premises.{PremisesMet}
 
 -- the answers of a line, those that are given, with 436 octets of room lent to each call
 abbrev pub callsOf : Verdict → List Verdict
@@ -41,6 +42,8 @@ pub record FrameExamples : Type 0 where
   pub no-answer : answers (0x7E ∷ 0x7E ∷ []) ≡ []
   -- bodies 2C 02 2B and 2D 12 0A share check E7C5: four bits over 17 places, just past demand 3
   pub shared-check : FourBitsUnseen
+  -- bodies within demand 3, at each edge of its premises: three bits, 16 places, 1 and 436 octets
+  pub within-demand-3 : PremisesMet
   -- one bit of the body and one of the check are flipped, and the frame is delivered
   pub two-flips :
       answers (0x7E ∷ 0x2C ∷ 0x02 ∷ 0x2A ∷ 0xC4 ∷ 0xE7 ∷ 0x7E ∷ []) ≡ delivered (0x2C ∷ 0x02 ∷ 0x2A ∷ []) ∷ []

@@ -1,3 +1,4 @@
 pub mod ReadBack
 pub mod WriteBack
+pub mod ReadTyped
 pub mod Delivery

@@ -86,7 +86,7 @@ id-is (x ∷ xs) k e h = go (known x)
     go (inr i) = i ∙ ap idOf e
 
 -- ---- an answer that is a message
-means-so : (n : ℕ) (x m : Message) → meansUnlessRefused n x ≡ means m → (n ≡ 0) × (x ≡ m)
+pub means-so : (n : ℕ) (x m : Message) → meansUnlessRefused n x ≡ means m → (n ≡ 0) × (x ≡ m)
 means-so n x m = go (eqb n 0) refl
   where
     go : (t : Bool) → eqb n 0 ≡ t → cond t (means x) (refused n) ≡ means m → (n ≡ 0) × (x ≡ m)

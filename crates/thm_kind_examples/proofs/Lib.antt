@@ -1,0 +1,2 @@
+pub mod Ucp
+pub mod Mavlink
