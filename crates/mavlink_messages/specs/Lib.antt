@@ -8,3 +8,4 @@ pub mod Failures
 pub mod Messages
 pub mod Ranges
 pub mod FailureBits
+pub mod Edges
