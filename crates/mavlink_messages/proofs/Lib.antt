@@ -3,3 +3,4 @@ mod Parts
 pub mod Written
 pub mod Answers
 pub mod Formats
+pub mod Edges

@@ -9,3 +9,4 @@ pub mod Messages
 pub mod Ranges
 pub mod FailureBits
 pub mod Refusals
+pub mod Edges

@@ -6,3 +6,4 @@ pub mod Counts
 pub mod Promises
 pub mod Frames
 pub mod Slice
+pub mod Lines
