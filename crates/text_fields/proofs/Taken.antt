@@ -1,0 +1,19 @@
+-- Numbers as a struct's fields hand them over. Assumes nothing.
+use mathlib.Core.Path.{_≡_, refl}
+use mathlib.Core.Bool.{Bool, true, false, cond}
+use Prim.Native.Nat.{ℕ, _<_, _^_}
+use lib.Dec.{eqb}
+use lib.IntN.{ℤ}
+use lib.Signed.{mag}
+use mir.Syntax.{Width}
+use mir.Val.{toZ, ofZ, hbits}
+use mir.ValLaws.{toZ-ofZ}
+
+-- a signed number by its bits
+pub signed : (w : Width) (z : ℤ) → mag z < 2 ^ hbits w → toZ w (ofZ w z) ≡ z
+signed w z h = toZ-ofZ w z (record { sfits = h })
+
+-- a truth as 0 or 1
+pub truth-back : (b : Bool) → eqb (cond b 1 0) 1 ≡ b
+truth-back true = refl
+truth-back false = refl
