@@ -20,7 +20,7 @@
 
 /* What belongs to one line. */
 struct line {
-    struct c_ucp_receiver receiver;
+    struct ostrogosz_receiver receiver;
     uint8_t body[OSTROGOSZ_LONGEST_BODY];
     struct ostrogosz_control control; /* the last one heard */
     bool heard;                       /* whether one was */

@@ -130,7 +130,7 @@ struct ostrogosz_written ostrogosz_write_frame(const uint8_t *body,
  * octets received, modulo 2^32. After the call that took a flag the store is
  * all zero, the phase is 1 and no octet is stored.
  */
-struct c_ucp_receiver {
+struct ostrogosz_receiver {
     uint8_t store[OSTROGOSZ_STORE];
     uint32_t line[OSTROGOSZ_LINE];
 };
@@ -204,13 +204,13 @@ struct ostrogosz_taken ostrogosz_receive_slice(uint8_t store[OSTROGOSZ_STORE],
 
 /* The same calls on the struct. */
 
-static inline void ostrogosz_line_start(struct c_ucp_receiver *receiver)
+static inline void ostrogosz_line_start(struct ostrogosz_receiver *receiver)
 {
     ostrogosz_receiver_start(receiver->store, receiver->line);
 }
 
 static inline struct ostrogosz_answer
-ostrogosz_line_receive(struct c_ucp_receiver *receiver, uint8_t octet,
+ostrogosz_line_receive(struct ostrogosz_receiver *receiver, uint8_t octet,
                        uint8_t *output, size_t output_length)
 {
     return ostrogosz_receive(receiver->store, receiver->line, octet, output,
@@ -218,7 +218,7 @@ ostrogosz_line_receive(struct c_ucp_receiver *receiver, uint8_t octet,
 }
 
 static inline struct ostrogosz_taken
-ostrogosz_line_receive_slice(struct c_ucp_receiver *receiver,
+ostrogosz_line_receive_slice(struct ostrogosz_receiver *receiver,
                              const uint8_t *octets, size_t octets_length,
                              uint8_t *output, size_t output_length)
 {
@@ -228,7 +228,7 @@ ostrogosz_line_receive_slice(struct c_ucp_receiver *receiver,
 
 /* The octets received, modulo 2^32: the sum of the five counts. */
 static inline uint32_t
-ostrogosz_line_octets(const struct c_ucp_receiver *receiver)
+ostrogosz_line_octets(const struct ostrogosz_receiver *receiver)
 {
     const uint32_t *line = receiver->line;
     return line[OSTROGOSZ_LINE_FLAGS] + line[OSTROGOSZ_LINE_DELIVERED] +
@@ -468,6 +468,9 @@ int64_t ostrogosz_degrees_e7(int32_t angle);
  * Numbers travel least significant octet first; here they are the machine's.
  * "range" is tested in reading and in writing, else 25; all else is carried,
  * unknown marks too. A text has no zero at its end.
+ *
+ * Fields have the names of source document 001, in 66 those of MAVLink's common
+ * set. A comment begins with 001's name where it is spelled differently.
  */
 
 /* What a frame says of itself besides its message. */
@@ -479,44 +482,44 @@ struct ostrogosz_mavlink_header {
 
 /* 66, Request data stream. */
 struct ostrogosz_mavlink_data_stream {
-    uint16_t rate; /* messages a second */
-    uint8_t system;
-    uint8_t component;
-    uint8_t stream;
-    uint8_t start; /* 1 start, 0 stop */
+    uint16_t req_message_rate; /* messages a second */
+    uint8_t target_system;
+    uint8_t target_component;
+    uint8_t req_stream_id;
+    uint8_t start_stop; /* 1 start, 0 stop */
 };
 
 /* 201, Static. */
 struct ostrogosz_mavlink_static {
-    uint32_t address; /* 24 bits: a writer refuses a wider one */
+    uint32_t icao; /* ICAO: address, 24 bits; a writer refuses a wider one */
     uint8_t integrity;
-    uint16_t stall;      /* stall speed, cm/s */
-    uint8_t callsign[8]; /* range A-Z, 0-9, space */
-    uint8_t capability;  /* range 0: a unit that announces one is refused */
-    uint8_t emitter;     /* range 0 to 19 */
-    uint8_t size;        /* range 0 to 15, a code of length and width */
-    uint8_t lateral;     /* range 0 to 7, antenna offset */
-    uint8_t longitudinal; /* range 0 to 31, antenna offset */
+    uint16_t stall_speed; /* stallSpeed: cm/s */
+    uint8_t callsign[8];  /* range A-Z, 0-9, space */
+    uint8_t capability;   /* range 0: a unit that announces one is refused */
+    uint8_t emitter;      /* range 0 to 19 */
+    uint8_t alw_encode;   /* alwEncode: range 0 to 15, length and width code */
+    uint8_t gps_lat_offs; /* gpsLatOffs: range 0 to 7, lateral antenna offset */
+    uint8_t gps_lon_offs; /* gpsLonOffs: range 0 to 31, longitudinal one */
 };
 
 /* 202, Dynamic. */
 struct ostrogosz_mavlink_dynamic {
-    uint32_t utc; /* seconds since 1980-01-06; unknown: UINT32_MAX */
-    int32_t latitude;  /* 1E-7 degree, north +; unknown: INT32_MAX */
-    int32_t longitude; /* 1E-7 degree, east +; unknown: INT32_MAX */
-    int32_t pressure;  /* pressure altitude, mm; unknown: INT32_MAX */
-    int32_t gnss;      /* GNSS altitude, mm; unknown: INT32_MAX */
-    uint32_t horizontal; /* accuracy, mm; unknown: UINT32_MAX */
-    uint16_t vertical;   /* accuracy, cm; unknown: UINT16_MAX */
-    uint16_t velocity;   /* accuracy, mm/s; unknown: UINT16_MAX */
-    int16_t climb; /* vertical speed, cm/s; unknown: INT16_MAX */
-    int16_t north; /* velocity, cm/s, north +; unknown: INT16_MAX */
-    int16_t east;  /* velocity, cm/s, east +; unknown: INT16_MAX */
+    uint32_t utc_time;  /* utcTime: s since 1980-01-06; unknown: UINT32_MAX */
+    int32_t latitude;   /* 1E-7 degree, north +; unknown: INT32_MAX */
+    int32_t longitude;  /* 1E-7 degree, east +; unknown: INT32_MAX */
+    int32_t alt_pres;   /* altPres: pressure altitude, mm; unknown: INT32_MAX */
+    int32_t alt_gnss;   /* altGNSS: GNSS altitude, mm; unknown: INT32_MAX */
+    uint32_t acc_horiz; /* accHoriz: accuracy, mm; unknown: UINT32_MAX */
+    uint16_t acc_vert;  /* accVert: accuracy, cm; unknown: UINT16_MAX */
+    uint16_t acc_vel;   /* accVel: accuracy, mm/s; unknown: UINT16_MAX */
+    int16_t vel_vert;   /* velVert: vertical speed, cm/s; unknown: INT16_MAX */
+    int16_t ns_vog;     /* nsVog: velocity, cm/s, north +; unknown: INT16_MAX */
+    int16_t ew_vog;     /* ewVog: velocity, cm/s, east +; unknown: INT16_MAX */
     uint16_t state;
-    uint16_t squawk;    /* decimal, range 0 to 7777 */
-    uint8_t fix;        /* range 0 to 5 */
-    uint8_t satellites; /* unknown: UINT8_MAX */
-    uint8_t emergency;
+    uint16_t squawk;   /* decimal, range 0 to 7777 */
+    uint8_t fix_type;  /* fixType: range 0 to 5 */
+    uint8_t num_sats;  /* numSats: satellites visible; unknown: UINT8_MAX */
+    uint8_t em_status; /* emStatus: emergency status */
     uint8_t control;
 };
 
@@ -528,20 +531,20 @@ struct ostrogosz_mavlink_status {
 
 /* 246, Traffic report. */
 struct ostrogosz_mavlink_traffic {
-    uint32_t address;
-    int32_t latitude;  /* 1E-7 degree, north + */
-    int32_t longitude; /* 1E-7 degree, east + */
-    int32_t altitude;  /* mm, up +; datum says above what */
-    uint16_t heading;  /* course over ground, 1E-2 degree */
-    uint16_t speed;    /* horizontal, cm/s */
-    int16_t climb;     /* vertical, cm/s */
-    uint16_t valid;    /* which fields are valid */
-    uint16_t squawk;   /* decimal, range 0 to 7777, or 65535 for none */
-    uint8_t datum;     /* 0 pressure altitude, 1 geometric */
-    uint8_t callsign[8]; /* any octets */
-    uint8_t ninth;       /* the callsign's ninth octet */
-    uint8_t emitter;
-    uint8_t age; /* seconds since the last communication */
+    uint32_t icao_address;  /* ICAO_address: all 32 bits are carried */
+    int32_t lat;            /* 1E-7 degree, north + */
+    int32_t lon;            /* 1E-7 degree, east + */
+    int32_t altitude;       /* mm, up +; altitude_type says above what */
+    uint16_t heading;       /* course over ground, 1E-2 degree */
+    uint16_t hor_velocity;  /* horizontal, cm/s */
+    int16_t ver_velocity;   /* vertical, cm/s */
+    uint16_t valid_flags;   /* validFlags: which fields are valid */
+    uint16_t squawk;        /* decimal, range 0 to 7777, or 65535 for none */
+    uint8_t altitude_type;  /* 0 pressure altitude, 1 geometric */
+    uint8_t callsign[8];    /* any octets */
+    uint8_t callsign_ninth; /* the callsign's ninth octet */
+    uint8_t emitter_type;
+    uint8_t tslc; /* seconds since the last communication */
 };
 
 /* A frame that was read. The struct that id names is filled; all others, and

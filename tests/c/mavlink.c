@@ -88,8 +88,8 @@ static const struct kind {
 #define KINDS (sizeof kinds / sizeof kinds[0])
 
 /* The two packets that source document 001 prints, and what they say. Of the
- * static one's size and the dynamic one's control its text says something else:
- * the octets decide. */
+ * static one's alwEncode and the dynamic one's control its text says something
+ * else: the octets decide. */
 
 static const uint8_t static_packet[27] = {
     0xFE, 0x13, 0x2F, 0x00, 0x00, 0xC9, 0x34, 0x12, 0xA0, 0x25, 0x00,
@@ -171,47 +171,51 @@ static int same_header(const struct ostrogosz_mavlink_header *a,
 static int same_data_stream(const struct ostrogosz_mavlink_data_stream *a,
                             const struct ostrogosz_mavlink_data_stream *b)
 {
-    return a->rate == b->rate && a->system == b->system &&
-           a->component == b->component && a->stream == b->stream &&
-           a->start == b->start;
+    return a->req_message_rate == b->req_message_rate &&
+           a->target_system == b->target_system &&
+           a->target_component == b->target_component &&
+           a->req_stream_id == b->req_stream_id &&
+           a->start_stop == b->start_stop;
 }
 
 static int same_static(const struct ostrogosz_mavlink_static *a,
                        const struct ostrogosz_mavlink_static *b)
 {
-    return a->address == b->address && a->integrity == b->integrity &&
-           a->stall == b->stall &&
+    return a->icao == b->icao && a->integrity == b->integrity &&
+           a->stall_speed == b->stall_speed &&
            memcmp(a->callsign, b->callsign, sizeof a->callsign) == 0 &&
            a->capability == b->capability && a->emitter == b->emitter &&
-           a->size == b->size && a->lateral == b->lateral &&
-           a->longitudinal == b->longitudinal;
+           a->alw_encode == b->alw_encode &&
+           a->gps_lat_offs == b->gps_lat_offs &&
+           a->gps_lon_offs == b->gps_lon_offs;
 }
 
 static int same_dynamic(const struct ostrogosz_mavlink_dynamic *a,
                         const struct ostrogosz_mavlink_dynamic *b)
 {
-    return a->utc == b->utc && a->latitude == b->latitude &&
-           a->longitude == b->longitude && a->pressure == b->pressure &&
-           a->gnss == b->gnss && a->horizontal == b->horizontal &&
-           a->vertical == b->vertical && a->velocity == b->velocity &&
-           a->climb == b->climb && a->north == b->north &&
-           a->east == b->east && a->state == b->state &&
-           a->squawk == b->squawk && a->fix == b->fix &&
-           a->satellites == b->satellites && a->emergency == b->emergency &&
+    return a->utc_time == b->utc_time && a->latitude == b->latitude &&
+           a->longitude == b->longitude && a->alt_pres == b->alt_pres &&
+           a->alt_gnss == b->alt_gnss && a->acc_horiz == b->acc_horiz &&
+           a->acc_vert == b->acc_vert && a->acc_vel == b->acc_vel &&
+           a->vel_vert == b->vel_vert && a->ns_vog == b->ns_vog &&
+           a->ew_vog == b->ew_vog && a->state == b->state &&
+           a->squawk == b->squawk && a->fix_type == b->fix_type &&
+           a->num_sats == b->num_sats && a->em_status == b->em_status &&
            a->control == b->control;
 }
 
 static int same_traffic(const struct ostrogosz_mavlink_traffic *a,
                         const struct ostrogosz_mavlink_traffic *b)
 {
-    return a->address == b->address && a->latitude == b->latitude &&
-           a->longitude == b->longitude && a->altitude == b->altitude &&
-           a->heading == b->heading && a->speed == b->speed &&
-           a->climb == b->climb && a->valid == b->valid &&
-           a->squawk == b->squawk && a->datum == b->datum &&
+    return a->icao_address == b->icao_address && a->lat == b->lat &&
+           a->lon == b->lon && a->altitude == b->altitude &&
+           a->heading == b->heading && a->hor_velocity == b->hor_velocity &&
+           a->ver_velocity == b->ver_velocity &&
+           a->valid_flags == b->valid_flags && a->squawk == b->squawk &&
+           a->altitude_type == b->altitude_type &&
            memcmp(a->callsign, b->callsign, sizeof a->callsign) == 0 &&
-           a->ninth == b->ninth && a->emitter == b->emitter &&
-           a->age == b->age;
+           a->callsign_ninth == b->callsign_ninth &&
+           a->emitter_type == b->emitter_type && a->tslc == b->tslc;
 }
 
 static int same_fields(const struct ostrogosz_mavlink_message *a,
@@ -369,17 +373,17 @@ static int field_refused(uint32_t id, const struct ostrogosz_mavlink_message *m)
 
 static void try_fields(void)
 {
-    TRY_FIELD(201, static_data.address, 0xFFFFFF, 0x1000000);
+    TRY_FIELD(201, static_data.icao, 0xFFFFFF, 0x1000000);
     TRY_FIELD(201, static_data.callsign[0], ' ', 'a');
     TRY_FIELD(201, static_data.callsign[7], '0', 0);
     TRY_FIELD(201, static_data.capability, 0, 1);
     TRY_FIELD(201, static_data.emitter, 0, 20);
-    TRY_FIELD(201, static_data.size, 0, 16);
-    TRY_FIELD(201, static_data.lateral, 7, 8);
-    TRY_FIELD(201, static_data.longitudinal, 31, 32);
+    TRY_FIELD(201, static_data.alw_encode, 0, 16);
+    TRY_FIELD(201, static_data.gps_lat_offs, 7, 8);
+    TRY_FIELD(201, static_data.gps_lon_offs, 31, 32);
     TRY_FIELD(202, dynamic.squawk, 7777, 7778);
     TRY_FIELD(202, dynamic.squawk, 0, 65535);
-    TRY_FIELD(202, dynamic.fix, 5, 6);
+    TRY_FIELD(202, dynamic.fix_type, 5, 6);
     TRY_FIELD(246, traffic.squawk, 7777, 7778);
     TRY_FIELD(246, traffic.squawk, 65535, 65534);
 }
@@ -475,11 +479,11 @@ static void try_read_fields(void)
     EXPECT(changed_refused(1, HEAD + 13, '_', 24, 25));  /* 201: callsign */
     EXPECT(changed_refused(1, HEAD + 14, 0x10, 24, 25)); /* 201: capability */
     EXPECT(changed_refused(1, HEAD + 15, 20, 24, 25));   /* 201: emitter */
-    EXPECT(changed_refused(1, HEAD + 16, 16, 24, 25));   /* 201: size */
-    EXPECT(changed_refused(1, HEAD + 17, 8, 24, 25));    /* 201: lateral */
-    EXPECT(changed_refused(1, HEAD + 18, 32, 24, 25));   /* 201: longitudinal */
+    EXPECT(changed_refused(1, HEAD + 16, 16, 24, 25));   /* 201: alw_encode */
+    EXPECT(changed_refused(1, HEAD + 17, 8, 24, 25));    /* 201: gps_lat_offs */
+    EXPECT(changed_refused(1, HEAD + 18, 32, 24, 25));   /* 201: gps_lon_offs */
     EXPECT(changed_refused(2, HEAD + 37, 0x1F, 24, 25)); /* 202: squawk */
-    EXPECT(changed_refused(2, HEAD + 38, 6, 24, 25));    /* 202: fix */
+    EXPECT(changed_refused(2, HEAD + 38, 6, 24, 25));    /* 202: fix_type */
     EXPECT(changed_refused(4, HEAD + 25, 0x1F, 24, 25)); /* 246: squawk */
 }
 
@@ -502,15 +506,15 @@ static void try_layout(void)
     EXPECT(sizeof(struct ostrogosz_mavlink_header) == 3);
     EXPECT(sizeof(struct ostrogosz_mavlink_data_stream) == 6);
     EXPECT(sizeof(struct ostrogosz_mavlink_static) == 24);
-    EXPECT(offsetof(struct ostrogosz_mavlink_static, stall) == 6);
+    EXPECT(offsetof(struct ostrogosz_mavlink_static, stall_speed) == 6);
     EXPECT(offsetof(struct ostrogosz_mavlink_static, callsign) == 8);
-    EXPECT(offsetof(struct ostrogosz_mavlink_static, longitudinal) == 20);
+    EXPECT(offsetof(struct ostrogosz_mavlink_static, gps_lon_offs) == 20);
     EXPECT(sizeof(struct ostrogosz_mavlink_dynamic) == 44);
     EXPECT(offsetof(struct ostrogosz_mavlink_dynamic, control) == 41);
     EXPECT(sizeof(struct ostrogosz_mavlink_status) == 1);
     EXPECT(sizeof(struct ostrogosz_mavlink_traffic) == 40);
     EXPECT(offsetof(struct ostrogosz_mavlink_traffic, callsign) == 27);
-    EXPECT(offsetof(struct ostrogosz_mavlink_traffic, age) == 37);
+    EXPECT(offsetof(struct ostrogosz_mavlink_traffic, tslc) == 37);
     EXPECT(sizeof(struct ostrogosz_mavlink_message) == 152);
     EXPECT(offsetof(struct ostrogosz_mavlink_message, used) == 8);
     EXPECT(offsetof(struct ostrogosz_mavlink_message, header) == 16);

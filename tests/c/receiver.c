@@ -5,7 +5,7 @@
 #include "ostrogosz.h"
 #include "output.h"
 
-static struct c_ucp_receiver receiver;
+static struct ostrogosz_receiver receiver;
 
 static int store_is_zero(const uint8_t *store)
 {
@@ -15,7 +15,7 @@ static int store_is_zero(const uint8_t *store)
 }
 
 /* What every flag leaves, counts excepted. */
-static int flag_left(const struct c_ucp_receiver *r)
+static int flag_left(const struct ostrogosz_receiver *r)
 {
     return store_is_zero(r->store) && r->line[OSTROGOSZ_LINE_STORED] == 0 &&
            r->line[OSTROGOSZ_LINE_PHASE] == OSTROGOSZ_PHASE_READING;
@@ -152,8 +152,8 @@ static void try_byte_map(void)
     uint8_t dump[sizeof receiver];
 
     EXPECT(sizeof receiver == 468);
-    EXPECT(offsetof(struct c_ucp_receiver, store) == 0);
-    EXPECT(offsetof(struct c_ucp_receiver, line) == 440);
+    EXPECT(offsetof(struct ostrogosz_receiver, store) == 0);
+    EXPECT(offsetof(struct ostrogosz_receiver, line) == 440);
 
     ostrogosz_line_start(&receiver);
     ostrogosz_line_receive_slice(&receiver, line, sizeof line, output, ROOM);

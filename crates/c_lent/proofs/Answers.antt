@@ -6,7 +6,7 @@ use Prim.Native.Nat.{ℕ}
 use native.Mathlib.Omega.{arith}
 use borrow.Author.Tests.{lt-ltb, le-ltb, eq-eqb, ne-eqb}
 use lib.ListN.{length, getD, drop}
-use Rattle.field_format.specs.Formats.{Format, standAt, bodySize, valueIn}
+use Rattle.field_format.specs.Format.{Format, standAt, bodySize, valueIn}
 use Rattle.ucp_answers.specs.Refusals.{refusalOf}
 use Rattle.ucp_answers.proofs.Refusals.{exactly-11, exactly-12, exactly-13, exactly-0}
 use Rattle.c_lent.specs.Structs.{Struct, stored}

@@ -5,10 +5,9 @@ use mathlib.Core.List.{List, [], _∷_, _++_}
 use Prim.Native.Nat.{ℕ, zero, suc, _*_, _^_, _<_}
 use native.Mathlib.Omega.{arith}
 use lib.ListN.{drop, replicate}
-use Rattle.field_layout.specs.Digits.{Within, bitOf}
-use Rattle.field_layout.specs.Layout.{Run, octetRun, layoutWidths, Whole}
+use Rattle.field_layout.specs.Layout.{Within, bitOf, Run, octetRun, layoutWidths, Whole}
 use Rattle.field_layout.proofs.RoundTrips.{fields-octets}
-use Rattle.field_format.specs.Columns.{Sort, field, Number, numberTo, numberOf, tested, Typed, Sound, _&_, Row, made, RowTyped, rowTested, RowSound}
+use Rattle.field_format.specs.Format.{Sort, field, Number, numberTo, numberOf, tested, Typed, Sound, _&_, Row, made, RowTyped, rowTested, RowSound}
 use Rattle.field_format.proofs.Columns.{row-before, row-within, row-back}
 use Rattle.c_lent.specs.Structs.{isYes, Member, bool, low, text, padding, structRuns, structColumns, structRowOf, structRowTo, structRowFrom, Struct, RightStruct, stored, held, TypedIn}
 

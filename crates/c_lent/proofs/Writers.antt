@@ -6,7 +6,7 @@ use Prim.Native.Nat.{ℕ, _<_, _≤_}
 use borrow.Author.Tests.{lt-ltb, le-ltb, not-true, not-false}
 use lib.ListN.{length, drop}
 use Rattle.ucp_answers.specs.Writes.{bodyDue}
-use Rattle.field_format.specs.Formats.{Format, fits, bodyOf}
+use Rattle.field_format.specs.Format.{Format, fits, bodyOf}
 use Rattle.c_lent.specs.Writes.{WritesStructBody}
 
 module _ {test fits : Bool} (e : test ≡ fits) where

@@ -6,7 +6,7 @@ use mathlib.Core.List.{List}
 use Prim.Native.Nat.{ℕ}
 use lib.Dec.{eqb, ltb}
 use lib.ListN.{length, getD}
-use Rattle.field_format.specs.Formats.{Format, valueIn}
+use Rattle.field_format.specs.Format.{Format, valueIn}
 use Rattle.refusals.specs.Numbers as because
 use Rattle.ucp_answers.specs.Refusals.{refusalOf}
 use Rattle.c_lent.specs.Structs.{Struct, stored}

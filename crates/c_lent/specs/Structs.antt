@@ -5,15 +5,13 @@ use mathlib.Core.List.{List, [], _∷_, _++_}
 use Prim.Native.Nat.{ℕ, _+_, _*_}
 use lib.Dec.{eqb}
 use lib.ListN.{getD, drop, replicate}
-use Rattle.field_layout.specs.Digits.{bitOf}
-use Rattle.field_layout.specs.Layout.{Run, low as lowRun, octetRun, layoutSize, layoutFields, layoutOctets}
-use Rattle.field_layout.specs.Texts.{textRuns, textOctets, textAt}
+use Rattle.field_layout.specs.Layout.{bitOf, Run, low as lowRun, octetRun, layoutSize, layoutFields, layoutOctets, textRuns, textOctets, textAt}
 use Rattle.field_layout.specs.declared.Text.{Text}
-use Rattle.field_format.specs.Columns.{Sort, unsigned, Column, field, flag, letters, Number, numberTo, numberOf, _&_, Row, Made, made, RowTyped, rowTested, RowSound}
+use Rattle.field_format.specs.Format.{Sort, unsigned, Column, field, flag, letters, Number, numberTo, numberOf, _&_, Row, Made, made, RowTyped, rowTested, RowSound}
 
 -- a bool of C in memory: 0 is no, any other octet is yes
 abbrev pub isYes : ℕ → Bool
-isYes structOctet = not (eqb structOctet 0)
+isYes octet = not (eqb octet 0)
 
 -- what stands in a struct, in its order
 pub data Member (A : Type 0) : Type 0 where

@@ -1,4 +1,4 @@
 pub mod Read
 pub mod Writer
-pub mod Blank
+pub mod BlankMessages
 pub mod Lowest

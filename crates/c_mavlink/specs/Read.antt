@@ -13,7 +13,7 @@ use Rattle.mavlink_messages.specs.declared.Read.{Read}
 use Rattle.mavlink_messages.specs.declared.Read.the-variants.{Message, Refused}
 use Rattle.c_mavlink.specs.declared.OstrogoszMavlinkMessage.{OstrogoszMavlinkMessage}
 use Rattle.c_mavlink.specs.Lowest.{lowestNumber}
-use Rattle.c_mavlink.specs.Blank.{noHeader, noDataStream, noStatic, noDynamic, noStatus, noTraffic}
+use Rattle.c_mavlink.specs.BlankMessages.{noHeader, noDataStream, noStatic, noDynamic, noStatus, noTraffic}
 
 -- a refusal's number, and all else 0
 abbrev pub refusedMavlink : ℕ → OstrogoszMavlinkMessage

@@ -1,5 +1,5 @@
 // The MAVLink messages for C; include/ostrogosz.h says the same in C.
-pub mod blanks;
+pub mod blank_messages;
 
 use mavlink_frame::Header;
 use mavlink_messages::DataStream;
@@ -14,7 +14,7 @@ use output_writing::OstrogoszWritten;
 ghost use mathlib.Core.Path.{_≡_};
 ghost use Rattle.mavlink_messages.specs.Messages.{readDue};
 ghost use Rattle.c_mavlink.specs.Writer.{WritesMavlinkForC};
-ghost use Rattle.c_mavlink.specs.Blank.{noDataStream, noStatic, noDynamic, noStatus, noTraffic};
+ghost use Rattle.c_mavlink.specs.BlankMessages.{noDataStream, noStatic, noDynamic, noStatus, noTraffic};
 ghost use Rattle.c_mavlink.specs.Read.{noMavlinkMessage, framed, mavlinkNumbers, readNumbers};
 
 // What stands at the start of an input, in numbers.
@@ -46,14 +46,14 @@ fn blank() -> OstrogoszMavlinkMessage
         refusal: 0,
         id: 0,
         used: 0,
-        header: blanks::header(),
+        header: blank_messages::header(),
         failures: 0,
         lowest_failure: 0,
-        data_stream: blanks::data_stream(),
-        static_data: blanks::static_data(),
-        dynamic: blanks::dynamic(),
-        status: blanks::status(),
-        traffic: blanks::traffic(),
+        data_stream: blank_messages::data_stream(),
+        static_data: blank_messages::static_data(),
+        dynamic: blank_messages::dynamic(),
+        status: blank_messages::status(),
+        traffic: blank_messages::traffic(),
     }
 }
 
@@ -66,7 +66,7 @@ fn framed(header: Header, used: usize, failures: Failures) -> OstrogoszMavlinkMe
     numbers.used = used;
     numbers.header = header;
     numbers.failures = failures.count;
-    numbers.lowest_failure = blanks::lowest_number(lowest);
+    numbers.lowest_failure = blank_messages::lowest_number(lowest);
     numbers
 }
 

@@ -5,16 +5,14 @@ use Prim.Native.Nat.{ℕ, _+_, _≤_}
 use native.Mathlib.Omega.{arith}
 use lib.ListN.{getD, length, take, drop, set, length-set}
 use lib.Seq.{sets}
-use Rattle.crc_polynomial.specs.Bits.{Octets, bitsOf}
-use Rattle.crc_polynomial.specs.Division.{divided}
+use Rattle.crc_polynomial.specs.Polynomial.{Octets, bitsOf, divided}
 use Rattle.field_layout.proofs.Elements.{elements}
-use Rattle.ucp_frame.specs.Stuffing.{flag, escaped}
-use Rattle.ucp_frame.specs.Frame.{frame}
+use Rattle.ucp_frame.specs.Frame.{flag, escaped, frame}
 use Rattle.ucp_writer.specs.Steps.{frameRest}
 use Rattle.output_writing.specs.Puts.{Puts}
 use Rattle.output_writing.proofs.ToPut.{ToPut, all-to-put, last-put}
 use Rattle.ucp_writer.proofs.Rest.{frame-rest, frame-put, pair-room, pair-put}
-use Rattle.field_format.specs.Formats.{bodyOf}
+use Rattle.field_format.specs.Format.{bodyOf}
 use Rattle.ucp_kinds.specs.Control45.{controlFormat}
 use Rattle.c_lent.specs.Structs.{held}
 use Rattle.c_ucp_control.specs.Struct.{controlStruct, controlState}

@@ -7,9 +7,9 @@ use native.Mathlib.Omega.{arith}
 use lib.Dec.{ltb}
 use lib.ListN.{getD, length, take, drop, set, length-drop}
 use lib.Seq.{sets, sets-eq, drop-drop}
-use Rattle.crc_polynomial.specs.Bits.{Octets}
+use Rattle.crc_polynomial.specs.Polynomial.{Octets}
 use Rattle.field_layout.specs.Steps.{little16}
-use Rattle.field_layout.specs.Texts.{textOctets, textAt}
+use Rattle.field_layout.specs.Layout.{textOctets, textAt}
 use Rattle.field_layout.proofs.Elements.{elements, by-elements}
 use Rattle.field_codes.specs.Codes.{isSquawk}
 use Rattle.field_texts.specs.Text.{isPadded}
@@ -17,7 +17,7 @@ use Rattle.ucp_frame.specs.Frame.{frame}
 use Rattle.ucp_frame.proofs.Frame.{frame-length-most}
 use Rattle.ucp_writer.proofs.room.Due.{due-accepted}
 use Rattle.ucp_kinds.specs.declared.Control.{Control}
-use Rattle.field_format.specs.Formats.{bodyOf, fits}
+use Rattle.field_format.specs.Format.{bodyOf, fits}
 use Rattle.field_format.proofs.Formats.{fitting, bound}
 use Rattle.ucp_kinds.specs.Control45.{controlFormat}
 use Rattle.ucp_kinds.proofs.Formats.{control-right}

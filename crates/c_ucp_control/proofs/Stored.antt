@@ -5,18 +5,16 @@ use mathlib.Core.List.{List, [], _∷_, _++_}
 use Prim.Native.Nat.{ℕ, zero, suc, _+_, _*_, _/_, _%_, _<_}
 use native.Mathlib.Omega.{arith}
 use lib.ListN.{getD, length}
-use Rattle.crc_polynomial.specs.Bits.{Octets}
-use Rattle.field_layout.specs.Digits.{bitOf, isSet}
+use Rattle.crc_polynomial.specs.Polynomial.{Octets}
+use Rattle.field_layout.specs.Layout.{bitOf, isSet, Run, low, octetRun, layoutOctets, textRuns, textOctets, textAt}
 use Rattle.field_layout.specs.Steps.{little16}
-use Rattle.field_layout.specs.Layout.{Run, low, octetRun, layoutOctets}
-use Rattle.field_layout.specs.Texts.{textRuns, textOctets, textAt}
 use Rattle.field_layout.proofs.RoundTrips.{octets-fields}
 use Rattle.field_layout.proofs.Elements.{elements, by-elements}
 use Rattle.field_signed.specs.Signed.{signed, complement}
 use Rattle.field_signed.proofs.Signed.{complement-signed}
 use Rattle.field_codes.specs.Codes.{isSquawk}
 use Rattle.field_texts.specs.Text.{isPadded}
-use Rattle.field_format.specs.Formats.{valueIn, bodyOf}
+use Rattle.field_format.specs.Format.{valueIn, bodyOf}
 use Rattle.field_format.proofs.ByOctets.{by-octets}
 use Rattle.ucp_kinds.specs.Control45.{controlFormat}
 use Rattle.c_lent.specs.Structs.{stored, held}

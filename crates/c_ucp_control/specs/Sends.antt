@@ -5,10 +5,9 @@ use Prim.Native.Nat.{ℕ}
 use Rattle.refusals.specs.Numbers as because
 use Rattle.ucp_frame.specs.Frame.{frame}
 use Rattle.ucp_writer.specs.Room.{frameDue}
-use Rattle.field_format.specs.Formats.{fits, bodyOf}
+use Rattle.field_format.specs.Format.{fits, bodyOf}
 use Rattle.output_writing.specs.declared.OstrogoszWritten.{OstrogoszWritten}
-use Rattle.output_writing.specs.Answers.{WriterAnswer, refused}
-use Rattle.output_writing.specs.Numbers.{WritingNumbers}
+use Rattle.output_writing.specs.Writing.{WriterAnswer, refused, WritingNumbers}
 use Rattle.ucp_kinds.specs.declared.Control.{Control}
 use Rattle.ucp_kinds.specs.Control45.{controlFormat}
 

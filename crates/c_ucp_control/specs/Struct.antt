@@ -2,8 +2,7 @@
 use mathlib.Core.List.{[], _∷_}
 use Prim.Native.Nat.{ℕ}
 use lib.ListN.{getD}
-use Rattle.field_format.specs.Columns.{unsigned, integer}
-use Rattle.field_format.specs.Formats.{bodyOf}
+use Rattle.field_format.specs.Format.{unsigned, integer, bodyOf}
 use Rattle.ucp_kinds.specs.declared.Control.{Control}
 use Rattle.ucp_kinds.specs.Control45.{controlFormat}
 use Rattle.c_lent.specs.Structs.{Struct, bool, low, text, padding, structOctet}

@@ -4,7 +4,7 @@ ghost use mathlib.Core.Path.{_≡_};
 ghost use Rattle.crc_gdl90.specs.Check.{frameCheck};
 ghost use Rattle.ucp_frame.specs.Frame.{frame};
 ghost use Rattle.ucp_writer.specs.Room.{frameDue};
-ghost use Rattle.output_writing.specs.Numbers.{WritingNumbers};
+ghost use Rattle.output_writing.specs.Writing.{WritingNumbers};
 
 // The frame check sequence of a body of any length.
 #[no_mangle]

@@ -7,7 +7,7 @@ use Rattle.ucp_kinds.specs.declared.ReportRead.the-variants as report
 use Rattle.ucp_answers.specs.Refusals.{reads}
 use Rattle.ucp_kinds.specs.Report10.{reportFormat}
 use Rattle.ucp_messages.specs.declared.Kind.the-variants as kind
-use Rattle.ucp_messages.specs.Reads.{answerAs}
+use Rattle.ucp_messages.specs.Messages.{answerAs}
 use Rattle.ucp_messages.proofs.Readers.{ownshipAnswer, ownship-answer, trafficAnswer, traffic-answer}
 use Rattle.c_ucp_messages.specs.Messages.{fieldsOf, messageNumbers, reportNumbers}
 

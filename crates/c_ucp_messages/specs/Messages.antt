@@ -1,7 +1,7 @@
 -- The message reader's answer in one struct, for C: a refusal's number, or the ID and the fields of its kind. Assumes nothing.
 use Prim.Native.Nat.{ℕ}
 use lib.IntN.{pos}
-use Rattle.field_layout.specs.Texts.{noText}
+use Rattle.field_layout.specs.Layout.{noText}
 use Rattle.ucp_kinds.specs.declared.Heartbeat.{Heartbeat}
 use Rattle.ucp_kinds.specs.declared.Report.{Report}
 use Rattle.ucp_kinds.specs.declared.ReportRead.{ReportRead}
@@ -12,7 +12,7 @@ use Rattle.ucp_kinds.specs.declared.Control.{Control}
 use Rattle.ucp_kinds.specs.declared.Initialization.{Initialization}
 use Rattle.ucp_messages.specs.declared.Message.{Message}
 use Rattle.ucp_messages.specs.declared.Message.the-variants as message
-use Rattle.ucp_messages.specs.Reads.{ReaderAnswer, refused, means}
+use Rattle.ucp_messages.specs.Messages.{ReaderAnswer, refused, means}
 use mathlib.Core.Bool.{false}
 use Rattle.c_ucp_messages.specs.declared.OstrogoszMessage.{OstrogoszMessage}
 

@@ -3,11 +3,11 @@ use mathlib.Core.List.{List}
 use Prim.Native.Nat.{ℕ}
 use Rattle.ucp_frame.specs.Frame.{frame}
 use Rattle.ucp_messages.specs.declared.Message.{Message}
-use Rattle.ucp_messages.specs.Bodies.{messageFits, messageBody}
+use Rattle.ucp_messages.specs.Messages.{messageFits, messageBody}
 use Rattle.ucp_answers.specs.Writes.{bodyDue}
 use Rattle.ucp_send.specs.Sends.{sendDue}
 use Rattle.output_writing.specs.declared.OstrogoszWritten.{OstrogoszWritten}
-use Rattle.output_writing.specs.Numbers.{WritingNumbers}
+use Rattle.output_writing.specs.Writing.{WritingNumbers}
 
 -- one call, whole: the message, the payload and the output as at entry, what is given back, and the output as at return
 abbrev pub WritesBodyForC : Message → List ℕ → List ℕ → OstrogoszWritten → List ℕ → Type 0

@@ -20,7 +20,7 @@ ghost use mathlib.Core.Path.{_≡_};
 ghost use mathlib.Core.List.{[]};
 ghost use Rattle.ucp_answers.specs.Refusals.{reads};
 ghost use Rattle.ucp_kinds.specs.Report10.{reportFormat};
-ghost use Rattle.ucp_messages.specs.Reads.{answerAs, messageDue};
+ghost use Rattle.ucp_messages.specs.Messages.{answerAs, messageDue};
 ghost use Rattle.c_ucp_messages.specs.Writers.{WritesBodyForC, SendsFrameForC};
 ghost use Rattle.c_ucp_messages.specs.Messages.{noHeartbeat, noReport, noGeometric, noRequest, noControl, noInitialization, noMessage, messageNumbers, reportNumbers};
 

@@ -8,7 +8,7 @@ use lib.Dec.{eqb, ltb}
 use lib.ListN.{length, getD, take, length-take}
 use borrow.Author.Tests.{ltb-true, ne-eqb}
 use Rattle.crc_gdl90.specs.Check.{frameCheck}
-use Rattle.ucp_frame.specs.Stuffing.{flag, escape}
+use Rattle.ucp_frame.specs.Frame.{flag, escape}
 use Rattle.ucp_frame.specs.Stretch.{Verdict, silent, refused, delivered, storeOctets, atFlag, withoutCheck, checkSent}
 use Rattle.ucp_receiver.specs.declared.Phase.{Phase}
 use Rattle.ucp_receiver.specs.declared.Phase.the-variants.{Hunting, Reading, Escape, BadEscape, TooLong}
@@ -20,7 +20,7 @@ use Rattle.ucp_receiver.specs.declared.Taken.{Taken}
 use Rattle.ucp_receiver.specs.Answers.{ReceiverAnswer, nothing, refusal, body, receiverAnswer, answerFor}
 use Rattle.ucp_receiver.specs.Octet.{State, storing, advancedIn, closedIn, stateAfter, verdictDue, countsAfter, countedOctet, Receives}
 use Rattle.ucp_receiver.specs.Slice.{SliceRun, sliceRun, endAt, Takes}
-use Rattle.c_ucp_receiver.specs.Numbers.{restIn, countsIn, answerValue, ReceivesFitting, TakesFitting}
+use Rattle.c_ucp_receiver.specs.Numbers.{restIn, countsIn, recordIn, answerValue, ReceivesFitting, TakesFitting}
 
 by-test : {A : Type 0} (P : A → Type 0) (b : Bool) {x y : A} → (b ≡ true → P x) → (b ≡ false → P y) → P (cond b x y)
 by-test P true p q = p refl
@@ -110,7 +110,7 @@ value-small answer due e h = subst (λ (n : ℕ). n < 2 ^ 32) (sym (value-size a
 -- ---- what a call gives
 
 pub fitting : (store line : List ℕ) (octet : ℕ) (output : List ℕ) (given : Received) (storeAfter outputThen : List ℕ) → getD line 1 0 < 2 ^ 32
-    → Receives (restIn line) (countsIn line) store octet output given storeAfter outputThen
+    → Receives (recordIn line) store octet output given storeAfter outputThen
     → ReceivesFitting store line octet output given storeAfter outputThen
 fitting store line octet output given storeAfter outputThen h r =
     let s : State = record { rest = restIn line; store = store } in
@@ -121,7 +121,7 @@ fitting store line octet output given storeAfter outputThen h r =
     }
 
 pub fitting-slice : (store line octets output : List ℕ) (given : Taken) (storeAfter outputThen : List ℕ) → getD line 1 0 < 2 ^ 32
-    → Takes (restIn line) (countsIn line) store octets output given storeAfter outputThen
+    → Takes (recordIn line) store octets output given storeAfter outputThen
     → TakesFitting store line octets output given storeAfter outputThen
 fitting-slice store line octets output given storeAfter outputThen h r =
     let s : State = record { rest = restIn line; store = store } in

@@ -6,13 +6,12 @@ use native.Mathlib.Omega.{arith}
 use lib.ListN.{length, getD, set}
 use Rattle.ucp_receiver.specs.declared.Phase.{Phase}
 use Rattle.ucp_receiver.specs.declared.Phase.the-variants.{Hunting, Reading, Escape, BadEscape, TooLong}
-use Rattle.ucp_receiver.specs.declared.Rest.{Rest}
-use Rattle.ucp_receiver.specs.declared.Counts.{Counts}
+use Rattle.ucp_receiver.specs.declared.Record.{Record}
 use Rattle.ucp_receiver.specs.declared.Answer.{Answer}
 use Rattle.ucp_receiver.specs.declared.Answer.the-variants.{Nothing, Delivered, Refused}
 use Rattle.ucp_receiver.specs.Octet.{Receives}
 use Rattle.ucp_receiver.specs.Slice.{Takes}
-use Rattle.c_ucp_receiver.specs.Numbers.{phaseOf, phaseNumber, restIn, countsIn, recordNumbers, answerIn, answerKind, answerValue, OwnNumbers, ReceivesNumbers, TakesNumbers}
+use Rattle.c_ucp_receiver.specs.Numbers.{phaseOf, phaseNumber, recordIn, recordNumbers, answerIn, answerKind, answerValue, OwnNumbers, ReceivesNumbers, TakesNumbers}
 
 pub phase-back : (p : Phase) → phaseOf (phaseNumber p) ≡ p
 phase-back Hunting = refl
@@ -26,13 +25,12 @@ answer-back Nothing = refl
 answer-back (Delivered octets) = refl
 answer-back (Refused number) = refl
 
-module _ (line : List ℕ) (kind value : ℕ) (rest : Rest) (counts : Counts) (answer : Answer)
-    (l : line ≡ recordNumbers rest counts) (k : kind ≡ answerKind answer) (v : value ≡ answerValue answer) where
-  rest-is : restIn line ≡ rest
-  rest-is = ap restIn l ∙ ap (λ (p : Phase). record { phase = p; stored = rest .stored }) (phase-back (rest .phase))
-
-  counts-is : countsIn line ≡ counts
-  counts-is = ap countsIn l
+module _ (line : List ℕ) (kind value : ℕ) (receiver : Record) (answer : Answer)
+    (l : line ≡ recordNumbers receiver) (k : kind ≡ answerKind answer) (v : value ≡ answerValue answer) where
+  record-is : recordIn line ≡ receiver
+  record-is =
+      ap recordIn l
+      ∙ ap (λ (p : Phase). record { rest = record { phase = p; stored = receiver .rest .stored }; counts = receiver .counts }) (phase-back (receiver .rest .phase))
 
   answer-is : answerIn kind value ≡ answer
   answer-is = ap (λ (n : ℕ). answerIn n value) k ∙ ap (answerIn (answerKind answer)) v ∙ answer-back answer
@@ -40,22 +38,22 @@ module _ (line : List ℕ) (kind value : ℕ) (rest : Rest) (counts : Counts) (a
   written : OwnNumbers line kind value
   written =
       record {
-        line = l ∙ ap (λ (r : Rest). recordNumbers r counts) (sym rest-is) ∙ ap (recordNumbers (restIn line)) (sym counts-is);
+        line = l ∙ ap recordNumbers (sym record-is);
         kind = k ∙ ap answerKind (sym answer-is);
         value = v ∙ ap answerValue (sym answer-is);
       }
 
   pub receives : (before store : List ℕ) (octet : ℕ) (output storeAfter outputThen : List ℕ)
-      → Receives (restIn before) (countsIn before) store octet output (record { rest = rest; counts = counts; answer = answer }) storeAfter outputThen
+      → Receives (recordIn before) store octet output (record { receiver = receiver; answer = answer }) storeAfter outputThen
       → ReceivesNumbers store before octet output kind value storeAfter line outputThen
   receives before store octet output storeAfter outputThen r =
-      record { received = rw (rest-is, counts-is, answer-is) r; written = written }
+      record { received = rw (record-is, answer-is) r; written = written }
 
   pub takes : (before store octets output : List ℕ) (taken : ℕ) (storeAfter outputThen : List ℕ)
-      → Takes (restIn before) (countsIn before) store octets output (record { rest = rest; counts = counts; answer = answer; taken = taken }) storeAfter outputThen
+      → Takes (recordIn before) store octets output (record { receiver = receiver; answer = answer; taken = taken }) storeAfter outputThen
       → TakesNumbers store before octets output kind value taken storeAfter line outputThen
   takes before store octets output taken storeAfter outputThen r =
-      record { took = rw (rest-is, counts-is, answer-is) r; written = written }
+      record { took = rw (record-is, answer-is) r; written = written }
 
 -- ---- the line by its elements
 
@@ -72,7 +70,7 @@ seven (a ∷ b ∷ c ∷ d ∷ e ∷ f ∷ g ∷ []) h = refl
 seven (a ∷ b ∷ c ∷ d ∷ e ∷ f ∷ g ∷ x ∷ xs) h = absurd (omega arith)
 
 -- what an octet other than the flag changes
-pub open-line : (line : List ℕ) (rest : Rest) (counts : Counts) → length line ≡ 7 → counts .flags ≡ getD line 2 0
-    → counts .delivered ≡ getD line 3 0 → counts .refused ≡ getD line 4 0
-    → set (set (set (set line 0 (phaseNumber (rest .phase))) 1 (rest .stored)) 5 (counts .skipped)) 6 (counts .unclosed) ≡ recordNumbers rest counts
-open-line line rest counts h f d r = rw (seven line h, f, d, r)
+pub open-line : (line : List ℕ) (receiver : Record) → length line ≡ 7 → receiver .counts .flags ≡ getD line 2 0
+    → receiver .counts .delivered ≡ getD line 3 0 → receiver .counts .refused ≡ getD line 4 0
+    → set (set (set (set line 0 (phaseNumber (receiver .rest .phase))) 1 (receiver .rest .stored)) 5 (receiver .counts .skipped)) 6 (receiver .counts .unclosed) ≡ recordNumbers receiver
+open-line line receiver h f d r = rw (seven line h, f, d, r)

@@ -8,7 +8,7 @@ use lib.ListN.{length, getD, set}
 use lib.Dec.{eqb}
 use lib.Seq.{set-getD}
 use borrow.Author.Tests.{lt-ltb, ne-eqb, eqb-true, eqb-false}
-use Rattle.ucp_frame.specs.Stuffing.{flag, escape}
+use Rattle.ucp_frame.specs.Frame.{flag, escape}
 use Rattle.ucp_frame.specs.Stretch.{storeOctets}
 use Rattle.ucp_receiver.specs.declared.Phase.{Phase}
 use Rattle.ucp_receiver.specs.declared.Phase.the-variants.{Reading, BadEscape, TooLong}
@@ -35,7 +35,7 @@ module _ (line store : List ℕ) (octet : ℕ) (output : List ℕ) (whole : leng
       → ReceivesNumbers store line octet output 0 0 storeAfter (set (set line 1 stored) 6 (plus (getD line 6 0) 1)) output
   unfolding stateAfter verdictDue countsAfter
   counts-open stored storeAfter e =
-      receives _ 0 0 (record { phase = phase; stored = stored }) (countedOpen (countsIn line)) Nothing
+      receives _ 0 0 (record { rest = record { phase = phase; stored = stored }; counts = countedOpen (countsIn line) }) Nothing
       (rw (seven line whole, number)) refl refl line store octet output storeAfter output
       (record {
         state = rw (ne-eqb octet flag no-flag, in-phase) e;

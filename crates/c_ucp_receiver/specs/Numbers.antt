@@ -9,6 +9,7 @@ use Rattle.ucp_receiver.specs.declared.Phase.{Phase}
 use Rattle.ucp_receiver.specs.declared.Phase.the-variants.{Hunting, Reading, Escape, BadEscape, TooLong}
 use Rattle.ucp_receiver.specs.declared.Rest.{Rest}
 use Rattle.ucp_receiver.specs.declared.Counts.{Counts}
+use Rattle.ucp_receiver.specs.declared.Record.{Record}
 use Rattle.ucp_receiver.specs.declared.Answer.{Answer}
 use Rattle.ucp_receiver.specs.declared.Answer.the-variants.{Nothing, Delivered, Refused}
 use Rattle.ucp_receiver.specs.declared.Received.{Received}
@@ -37,15 +38,18 @@ abbrev pub countsIn : List ℕ → Counts
 countsIn line =
     record { flags = getD line 2 0; delivered = getD line 3 0; refused = getD line 4 0; skipped = getD line 5 0; unclosed = getD line 6 0 }
 
-abbrev pub recordNumbers : Rest → Counts → List ℕ
-recordNumbers rest counts =
-    phaseNumber (rest .phase)
-    ∷ rest .stored
-    ∷ counts .flags
-    ∷ counts .delivered
-    ∷ counts .refused
-    ∷ counts .skipped
-    ∷ counts .unclosed
+abbrev pub recordIn : List ℕ → Record
+recordIn line = record { rest = restIn line; counts = countsIn line }
+
+abbrev pub recordNumbers : Record → List ℕ
+recordNumbers receiver =
+    phaseNumber (receiver .rest .phase)
+    ∷ receiver .rest .stored
+    ∷ receiver .counts .flags
+    ∷ receiver .counts .delivered
+    ∷ receiver .counts .refused
+    ∷ receiver .counts .skipped
+    ∷ receiver .counts .unclosed
     ∷ []
 
 -- ---- an answer: kind 0 nothing; 1 delivered, with the body's length; 2 refused, with the refusal's number
@@ -65,30 +69,30 @@ answerValue (Refused number) = number
 
 -- one octet on the record that the line stands for; what it gives fits the numbers again
 pub record ReceivesFitting (store line : List ℕ) (octet : ℕ) (output : List ℕ) (given : Received) (storeAfter outputThen : List ℕ) : Type 0 where
-  pub received : Receives (restIn line) (countsIn line) store octet output given storeAfter outputThen
-  pub stored : given .rest .stored < 2 ^ 32
+  pub received : Receives (recordIn line) store octet output given storeAfter outputThen
+  pub stored : given .receiver .rest .stored < 2 ^ 32
   pub value : answerValue (given .answer) < 2 ^ 32
 
 pub record TakesFitting (store line octets output : List ℕ) (given : Taken) (storeAfter outputThen : List ℕ) : Type 0 where
-  pub took : Takes (restIn line) (countsIn line) store octets output given storeAfter outputThen
-  pub stored : given .rest .stored < 2 ^ 32
+  pub took : Takes (recordIn line) store octets output given storeAfter outputThen
+  pub stored : given .receiver .rest .stored < 2 ^ 32
   pub value : answerValue (given .answer) < 2 ^ 32
 
 -- the numbers are those of what they stand for: a phase's own number, and value 0 where there is no answer
 pub record OwnNumbers (numbers : List ℕ) (k v : ℕ) : Type 0 where
-  pub line : numbers ≡ recordNumbers (restIn numbers) (countsIn numbers)
+  pub line : numbers ≡ recordNumbers (recordIn numbers)
   pub kind : k ≡ answerKind (answerIn k v)
   pub value : v ≡ answerValue (answerIn k v)
 
 -- one octet: store, line and output as at entry, and as at return
 pub record ReceivesNumbers (store line : List ℕ) (octet : ℕ) (output : List ℕ) (kind value : ℕ) (storeAfter lineAfter outputThen : List ℕ)
     : Type 0 where
-  pub received : Receives (restIn line) (countsIn line) store octet output
-      (record { rest = restIn lineAfter; counts = countsIn lineAfter; answer = answerIn kind value }) storeAfter outputThen
+  pub received : Receives (recordIn line) store octet output
+      (record { receiver = recordIn lineAfter; answer = answerIn kind value }) storeAfter outputThen
   pub written : OwnNumbers lineAfter kind value
 
 -- a slice of line octets
 pub record TakesNumbers (store line octets output : List ℕ) (kind value taken : ℕ) (storeAfter lineAfter outputThen : List ℕ) : Type 0 where
-  pub took : Takes (restIn line) (countsIn line) store octets output
-      (record { rest = restIn lineAfter; counts = countsIn lineAfter; answer = answerIn kind value; taken = taken }) storeAfter outputThen
+  pub took : Takes (recordIn line) store octets output
+      (record { receiver = recordIn lineAfter; answer = answerIn kind value; taken = taken }) storeAfter outputThen
   pub written : OwnNumbers lineAfter kind value

@@ -4,6 +4,7 @@ use ucp_receiver::Answer;
 use ucp_receiver::Counts;
 use ucp_receiver::Phase;
 use ucp_receiver::Received;
+use ucp_receiver::Record;
 use ucp_receiver::Rest;
 use ucp_receiver::Store;
 use ucp_receiver::Taken;
@@ -11,12 +12,14 @@ ghost use mathlib.Core.Path.{_≡_};
 ghost use mathlib.Core.List.{List};
 ghost use Prim.Native.Nat.{ℕ, _<_, _^_};
 ghost use lib.ListN.{length, getD};
-ghost use Rattle.ucp_receiver.specs.Account.{zeroCounts};
-ghost use Rattle.ucp_receiver.specs.Octet.{freshRest, noOctets};
-ghost use Rattle.c_ucp_receiver.specs.Numbers.{phaseOf, phaseNumber, restIn, countsIn, recordNumbers, answerKind, answerValue, ReceivesFitting, TakesFitting, ReceivesNumbers, TakesNumbers};
+ghost use Rattle.ucp_receiver.specs.Octet.{freshRecord, noOctets};
+ghost use Rattle.c_ucp_receiver.specs.Numbers.{phaseOf, phaseNumber, restIn, countsIn, recordIn, recordNumbers, answerKind, answerValue, ReceivesFitting, TakesFitting, ReceivesNumbers, TakesNumbers};
 
 // The record besides the store, as C has it: phase, octets stored, and the five counts.
 pub type RecordNumbers = [u32; 7];
+
+// The store's size, as wide as the numbers of the record.
+const STORE_OCTETS: u32 = ucp_receiver::STORE_OCTETS as u32;
 
 // kind: 0 nothing, 1 delivered, 2 refused. value: how many octets were delivered, or the refusal's number.
 #[repr(C)]
@@ -90,10 +93,21 @@ fn counts_in(line: &RecordNumbers) -> Counts
     }
 }
 
-fn put_line(line: &mut RecordNumbers, rest: Rest, counts: Counts)
-    requires { ⌜ rest .stored < 2 ^ 32 ⌝ }
-    ensures { λ r. ⌜ now (line .exit) ≡ recordNumbers rest counts ⌝ }
+fn record_in(line: &RecordNumbers) -> Record
+    ensures { λ r. ⌜ (r ≡ recordIn (now (line .entry))) × (r .rest .stored < 2 ^ 32) ⌝ }
 {
+    Record {
+        rest: rest_in(line),
+        counts: counts_in(line),
+    }
+}
+
+fn put_line(line: &mut RecordNumbers, receiver: Record)
+    requires { ⌜ receiver .rest .stored < 2 ^ 32 ⌝ }
+    ensures { λ r. ⌜ now (line .exit) ≡ recordNumbers receiver ⌝ }
+{
+    let rest = receiver.rest;
+    let counts = receiver.counts;
     let phase = rest.phase;
     let number = phase_number(phase);
     let stored = rest.stored as u32;
@@ -109,10 +123,12 @@ fn put_line(line: &mut RecordNumbers, rest: Rest, counts: Counts)
 }
 
 // Only what an octet other than the flag can change: the others are not even loaded. A slice, since its length is known here.
-fn put_open_line(line: &mut [u32], rest: Rest, counts: Counts)
-    requires { ⌜ (length (now line) ≡ 7) × (rest .stored < 2 ^ 32) × (counts .flags ≡ getD (now line) 2 0) × (counts .delivered ≡ getD (now line) 3 0) × (counts .refused ≡ getD (now line) 4 0) ⌝ }
-    ensures { λ r. ⌜ now (line .exit) ≡ recordNumbers rest counts ⌝ }
+fn put_open_line(line: &mut [u32], receiver: Record)
+    requires { ⌜ (length (now line) ≡ 7) × (receiver .rest .stored < 2 ^ 32) × (receiver .counts .flags ≡ getD (now line) 2 0) × (receiver .counts .delivered ≡ getD (now line) 3 0) × (receiver .counts .refused ≡ getD (now line) 4 0) ⌝ }
+    ensures { λ r. ⌜ now (line .exit) ≡ recordNumbers receiver ⌝ }
 {
+    let rest = receiver.rest;
+    let counts = receiver.counts;
     let phase = rest.phase;
     line[0] = phase_number(phase);
     line[1] = rest.stored as u32;
@@ -148,31 +164,26 @@ fn value_of(answer: Answer) -> u32
 // A fresh receiver.
 #[no_mangle]
 pub extern "C" fn ostrogosz_receiver_start(store: &mut Store, line: &mut RecordNumbers)
-    ensures { λ r. ⌜ (now (store .exit) ≡ noOctets) × (now (line .exit) ≡ recordNumbers freshRest zeroCounts) ⌝ }
+    ensures { λ r. ⌜ (now (store .exit) ≡ noOctets) × (now (line .exit) ≡ recordNumbers freshRecord) ⌝ }
 {
     *store = [0; ucp_receiver::STORE_OCTETS];
-    put_line(
-        line,
-        ucp_receiver::octet::fresh_rest(),
-        ucp_receiver::account::zero_counts(),
-    );
+    put_line(line, ucp_receiver::octet::fresh_record());
 }
 
 // The call on the record that the line stands for.
 fn received_by(store: &mut Store, line: &RecordNumbers, octet: u8, output: &mut [u8]) -> Received
     ensures { λ r. ⌜ ReceivesFitting (now (store .entry)) (now (line .entry)) octet (now (output .entry)) r (now (store .exit)) (now (output .exit)) ⌝ }
 {
-    ucp_receiver::octet::receive(rest_in(line), counts_in(line), store, octet, output)
+    ucp_receiver::octet::receive(record_in(line), store, octet, output)
 }
 
 fn receive_flag(store: &mut Store, line: &mut RecordNumbers, output: &mut [u8]) -> OstrogoszAnswer
     ensures { λ r. ⌜ ReceivesNumbers (now (store .entry)) (now (line .entry)) 0x7E (now (output .entry)) (r .kind) (r .value) (now (store .exit)) (now (line .exit)) (now (output .exit)) ⌝ }
 {
     let received = received_by(store, line, 0x7E, output);
-    let rest = received.rest;
-    let counts = received.counts;
+    let receiver = received.receiver;
     let answer = received.answer;
-    put_line(line, rest, counts);
+    put_line(line, receiver);
     OstrogoszAnswer {
         kind: kind_of(answer),
         value: value_of(answer),
@@ -214,10 +225,9 @@ fn receive_other(
     ensures { λ r. ⌜ ReceivesNumbers (now (store .entry)) (now (line .entry)) octet (now (output .entry)) (r .kind) (r .value) (now (store .exit)) (now (line .exit)) (now (output .exit)) ⌝ }
 {
     let received = received_by(store, line, octet, output);
-    let rest = received.rest;
-    let counts = received.counts;
+    let receiver = received.receiver;
     let answer = received.answer;
-    put_open_line(line, rest, counts);
+    put_open_line(line, receiver);
     OstrogoszAnswer {
         kind: kind_of(answer),
         value: value_of(answer),
@@ -238,7 +248,7 @@ pub extern "C" fn ostrogosz_receive(
         return receive_flag(store, line, output);
     }
     if line[0] == 1 {
-        if line[1] < ucp_receiver::STORE_OCTETS as u32 {
+        if line[1] < STORE_OCTETS {
             if octet != 0x7D {
                 return receive_plain(store, line, octet);
             }
@@ -256,7 +266,7 @@ pub extern "C" fn ostrogosz_receive(
 fn taken_by(store: &mut Store, line: &RecordNumbers, octets: &[u8], output: &mut [u8]) -> Taken
     ensures { λ r. ⌜ TakesFitting (now (store .entry)) (now (line .entry)) (now (octets .entry)) (now (output .entry)) r (now (store .exit)) (now (output .exit)) ⌝ }
 {
-    ucp_receiver::slice::receive_slice(rest_in(line), counts_in(line), store, octets, output)
+    ucp_receiver::slice::receive_slice(record_in(line), store, octets, output)
 }
 
 // Octets of the line up to and including the one that brings the next answer.
@@ -270,10 +280,9 @@ pub extern "C" fn ostrogosz_receive_slice(
     ensures { λ r. ⌜ TakesNumbers (now (store .entry)) (now (line .entry)) (now (octets .entry)) (now (output .entry)) (r .kind) (r .value) (r .taken) (now (store .exit)) (now (line .exit)) (now (output .exit)) ⌝ }
 {
     let taken = taken_by(store, line, octets, output);
-    let rest = taken.rest;
-    let counts = taken.counts;
+    let receiver = taken.receiver;
     let answer = taken.answer;
-    put_line(line, rest, counts);
+    put_line(line, receiver);
     OstrogoszTaken {
         kind: kind_of(answer),
         value: value_of(answer),

@@ -4,7 +4,7 @@ use mathlib.Core.List.{List}
 use Prim.Native.Nat.{ℕ}
 use lib.ListN.{length, replicate}
 use Rattle.field_layout.proofs.Elements.{by-elements}
-use Rattle.field_format.specs.Formats.{valueIn}
+use Rattle.field_format.specs.Format.{valueIn}
 use Rattle.ucp_kinds.specs.Report10.{reportFormat}
 use Rattle.c_lent.specs.Structs.{stored}
 use Rattle.c_ucp_report.specs.Struct.{reportStruct}

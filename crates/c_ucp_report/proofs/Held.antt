@@ -7,13 +7,13 @@ use native.Mathlib.Omega.{arith}
 use lib.Dec.{ltb}
 use lib.ListN.{getD, length, drop}
 use lib.Seq.{sets, sets-eq}
-use Rattle.crc_polynomial.specs.Bits.{Octets}
+use Rattle.crc_polynomial.specs.Polynomial.{Octets}
 use Rattle.field_layout.specs.Steps.{little16, little32}
 use Rattle.field_layout.proofs.Elements.{elements, by-elements}
 use Rattle.field_signed.specs.Signed.{signed, holds}
 use Rattle.field_format.proofs.Conjunction.{both}
 use Rattle.ucp_kinds.specs.declared.Report.{Report}
-use Rattle.field_format.specs.Formats.{bodyOf, fits}
+use Rattle.field_format.specs.Format.{bodyOf, fits}
 use Rattle.ucp_kinds.specs.Report10.{reportFormat}
 use Rattle.field_format.proofs.Formats.{fitting, bound}
 use Rattle.ucp_kinds.proofs.Formats.{report-right}

@@ -6,7 +6,7 @@ use lib.ListN.{getD, set}
 use lib.Seq.{sets}
 use Rattle.field_layout.specs.Steps.{big16, big24, big32, little16, little32}
 use Rattle.field_signed.specs.Signed.{signed, complement}
-use Rattle.field_layout.specs.Texts.{textOctets, textAt}
+use Rattle.field_layout.specs.Layout.{textOctets, textAt}
 
 -- ---- numbers in a struct: two fields of 4 bits, 16 bits, and 32
 abbrev pub halvesOf : ℕ → List ℕ

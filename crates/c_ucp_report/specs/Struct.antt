@@ -1,6 +1,6 @@
 -- Messages 10 and 20 as the octets of their C struct. Assumes nothing.
 use mathlib.Core.List.{[], _∷_}
-use Rattle.field_format.specs.Columns.{unsigned, integer}
+use Rattle.field_format.specs.Format.{unsigned, integer}
 use Rattle.ucp_kinds.specs.declared.Report.{Report}
 use Rattle.ucp_kinds.specs.Report10.{reportFormat}
 use Rattle.c_lent.specs.Structs.{Struct, low, text, padding, structOctet}

@@ -10,8 +10,7 @@ use lib.Bits.{bitXor}
 use lib.Pow.{shr-shr}
 use Rattle.field_words.proofs.Pairs.{double, two-of}
 use Rattle.field_words.specs.Words.{octetsDown}
-use Rattle.crc_polynomial.specs.Bits.{bitsOf, bitsOfOctets}
-use Rattle.crc_polynomial.specs.Division.{divided}
+use Rattle.crc_polynomial.specs.Polynomial.{bitsOf, bitsOfOctets, divided}
 use Rattle.crc_polynomial.proofs.Laws.{divided-append}
 use Rattle.crc_polynomial.proofs.Shifts.{left}
 use Rattle.crc_gdl90.proofs.Words.{eight, eight-pairs, pairs, pairs-lt}

@@ -6,8 +6,7 @@ use native.Mathlib.Nat.{zero-add}
 use native.Mathlib.Omega.{arith}
 use lib.ListN.{length, getD, take, drop}
 use lib.Seq.{take-suc}
-use Rattle.crc_polynomial.specs.Bits.{bitsOfOctets, bitsOf}
-use Rattle.crc_polynomial.specs.Division.{divided}
+use Rattle.crc_polynomial.specs.Polynomial.{bitsOfOctets, bitsOf, divided}
 use Rattle.crc_polynomial.proofs.Laws.{divided-append}
 use Rattle.crc_gdl90.proofs.Step.{octet-down}
 use Rattle.crc_gdl90.proofs.Eight.{part-first}

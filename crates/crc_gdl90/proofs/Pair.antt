@@ -7,8 +7,7 @@ use native.Mathlib.Omega.{arith}
 use native.Mathlib.Nat.{zero-add, mod-lt}
 use lib.ListN.{replicate}
 use lib.Bits.{bitXor, xor-lt, xor-zero-r}
-use Rattle.crc_polynomial.specs.Bits.{bitsOf}
-use Rattle.crc_polynomial.specs.Division.{divided}
+use Rattle.crc_polynomial.specs.Polynomial.{bitsOf, divided}
 use Rattle.crc_polynomial.proofs.Laws.{sum-zeros, divided-xor, divided-append}
 use Rattle.crc_polynomial.proofs.Shifts.{quotient, left, sixteen-places}
 use Rattle.crc_gdl90.proofs.Step.{octet-down}

@@ -10,8 +10,7 @@ use native.Mathlib.Numerals.{add-one}
 use lib.ListN.{length, getD, drop, drop-of-length-le, replicate}
 use lib.Seq.{drop-cons}
 use lib.Bits.{bitXor}
-use Rattle.crc_polynomial.specs.Bits.{bitsOf, bitsOfOctets}
-use Rattle.crc_polynomial.specs.Division.{divided, polynomial}
+use Rattle.crc_polynomial.specs.Polynomial.{bitsOf, bitsOfOctets, divided, polynomial}
 use Rattle.crc_polynomial.proofs.Laws.{sum-zeros, divided-xor, divided-append, divided-lt, divided-small, polynomial-bitsOf}
 use Rattle.crc_polynomial.proofs.Linear.{upFrom, upFrom-at, two-octets}
 use Rattle.crc_gdl90.specs.Check.{frameCheck, tableEntry, IsTable}

@@ -5,8 +5,7 @@ use Prim.Native.Nat.{ℕ, _+_, _*_, _/_, _%_, _^_, _<_}
 use native.Mathlib.Omega.{arith}
 use lib.Bits.{bitXor, xor-shifted}
 use Rattle.field_words.specs.Words.{octetsDown}
-use Rattle.crc_polynomial.specs.Bits.{bitsOf, bitsOfOctets}
-use Rattle.crc_polynomial.specs.Division.{divided, step, reduced}
+use Rattle.crc_polynomial.specs.Polynomial.{bitsOf, bitsOfOctets, divided, step, reduced}
 use Rattle.crc_polynomial.proofs.Xor.{xor-assoc}
 use Rattle.crc_polynomial.proofs.Linear.{upFrom, everywhere}
 use Rattle.crc_gdl90.proofs.Words.{eight}

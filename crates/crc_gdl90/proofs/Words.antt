@@ -5,7 +5,7 @@ use Prim.Native.Nat.{ℕ, zero, suc, _*_, _/_, _%_, _^_, _<_}
 use native.Mathlib.Omega.{arith}
 use native.Mathlib.Nat.{mod-lt}
 use lib.Bits.{bitXor, xor-lt, xor-mod, xor-shr}
-use Rattle.crc_polynomial.specs.Division.{degree16}
+use Rattle.crc_polynomial.specs.Polynomial.{degree16}
 use Rattle.crc_polynomial.proofs.Xor.{xor-swap}
 use Rattle.crc_polynomial.proofs.Linear.{upFrom, Linear, both}
 use Rattle.crc_polynomial.proofs.Wide.{Linear₂, itself, low, down, up, behind, behind₂, both₂, forced, forced-is, forced-at, same₂}

@@ -4,8 +4,7 @@ use mathlib.Core.Bool.{false}
 use mathlib.Core.List.{List, [], _∷_, _++_}
 use Prim.Native.Nat.{ℕ, _/_, _%_, _<_}
 use lib.ListN.{getD, replicate}
-use Rattle.crc_polynomial.specs.Bits.{bitsOfOctets, bitsOf}
-use Rattle.crc_polynomial.specs.Division.{remainder}
+use Rattle.crc_polynomial.specs.Polynomial.{bitsOfOctets, bitsOf, remainder}
 
 -- the remainder of the body, read as one binary polynomial, the most significant bit of the first octet highest. It starts
 -- at 0, is not inverted, and the body is not followed by 16 zero bits

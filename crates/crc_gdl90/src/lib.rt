@@ -6,8 +6,7 @@ ghost use lib.ListN.{length, take, drop};
 ghost use Rattle.field_words.specs.Words.{octetsDown};
 ghost use Rattle.crc_gdl90.specs.Check.{frameCheck, IsTable};
 ghost use Rattle.crc_gdl90.specs.Steps.{byTable, byShifts, twoByShifts, eightByShifts};
-ghost use Rattle.crc_polynomial.specs.Bits.{bitsOf, bitsOfOctets};
-ghost use Rattle.crc_polynomial.specs.Division.{divided};
+ghost use Rattle.crc_polynomial.specs.Polynomial.{bitsOf, bitsOfOctets, divided};
 
 // For each octet, the remainder of that octet followed by 16 zero bits.
 const TABLE: [u16; 256] = [

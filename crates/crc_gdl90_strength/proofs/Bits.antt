@@ -9,7 +9,7 @@ use lib.Dec.{leb}
 use lib.ListN.{length, getD, length-append, List·getD-append, List·getD-eq-default}
 use lib.Seq.{getD-append-add}
 use borrow.Author.Tests.{leb-true, leb-false}
-use Rattle.crc_polynomial.specs.Bits.{odd, bitsOf, bitsOfOctets}
+use Rattle.crc_polynomial.specs.Polynomial.{odd, bitsOf, bitsOfOctets}
 use Rattle.crc_polynomial.proofs.Laws.{sum}
 use Rattle.crc_gdl90_strength.specs.BitNumbers.{bitNumber}
 

@@ -9,8 +9,7 @@ use native.Mathlib.Omega.{arith}
 use lib.ListN.{length, getD, take, drop}
 use lib.Seq.{take-at, drop-at, take-suc, take-length}
 use lib.Bits.{bitXor, xor-self}
-use Rattle.crc_polynomial.specs.Bits.{bitsOf, bitsOfOctets, Octets}
-use Rattle.crc_polynomial.specs.Division.{coefficient, remainder, polynomial}
+use Rattle.crc_polynomial.specs.Polynomial.{bitsOf, bitsOfOctets, Octets, coefficient, remainder, polynomial}
 use Rattle.crc_polynomial.proofs.Laws.{sum, divided-xor, polynomial-bitsOf}
 use Rattle.crc_order.specs.Order.{order}
 use Rattle.crc_gdl90.specs.Check.{frameCheck}

@@ -6,8 +6,7 @@ use Prim.Native.Nat.{ℕ, zero, suc, _+_, _*_, _/_, _%_, _<_, _≤_}
 use native.Mathlib.Omega.{arith}
 use lib.ListN.{length, getD, drop, replicate}
 use lib.Bits.{bitXor, xor-block, xor-lt, xor-zero-r}
-use Rattle.crc_polynomial.specs.Bits.{bitsOf, bitsOfOctets}
-use Rattle.crc_polynomial.specs.Division.{divided, step, reduced}
+use Rattle.crc_polynomial.specs.Polynomial.{bitsOf, bitsOfOctets, divided, step, reduced}
 use Rattle.crc_polynomial.proofs.Xor.{xor-assoc}
 use Rattle.crc_polynomial.proofs.Laws.{sum, divided-append}
 use Rattle.crc_gdl90.specs.Check.{frameCheck, tableEntry}

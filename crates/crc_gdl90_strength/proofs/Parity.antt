@@ -7,7 +7,7 @@ use Prim.Native.Nat.{ℕ, zero, suc, _+_, _/_, _%_, _^_, _<_}
 use native.Mathlib.Omega.{arith}
 use native.Mathlib.Nat.{pow-suc, add-mod}
 use lib.Bits.{bitXor, differ}
-use Rattle.crc_polynomial.specs.Division.{coefficient, degree16, broughtDown, goesInto, generator, step, reduced, divided, remainder}
+use Rattle.crc_polynomial.specs.Polynomial.{coefficient, degree16, broughtDown, goesInto, generator, step, reduced, divided, remainder}
 use Rattle.crc_polynomial.proofs.Xor.{digit-cases, half, last, below-two}
 use Rattle.crc_polynomial.proofs.Laws.{coefficient-lt, step-lt}
 use Rattle.crc_gdl90_strength.proofs.Shape.{weight}

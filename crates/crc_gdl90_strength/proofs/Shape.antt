@@ -10,7 +10,7 @@ use lib.Pow.{pow-mono}
 use lib.ListN.{length, getD, take, drop, replicate, length-append, length-replicate, length-take, take-append-drop, replicate-append-replicate}
 use lib.Seq.{getD-append-add, getD-at, getD-drop}
 use lib.Bits.{bitXor, xor-zero-r}
-use Rattle.crc_polynomial.specs.Division.{coefficient, degree16, broughtDown, step, reduced, divided, remainder, polynomial}
+use Rattle.crc_polynomial.specs.Polynomial.{coefficient, degree16, broughtDown, step, reduced, divided, remainder, polynomial}
 use Rattle.crc_polynomial.proofs.Xor.{xor-apart}
 use Rattle.crc_polynomial.proofs.Laws.{coefficient-lt, step-lt, step-xor, divided-append, divided-lt, divided-small, polynomial-grows, zeros-zero, zeros-nonzero}
 use Rattle.crc_order.specs.Order.{power, order}

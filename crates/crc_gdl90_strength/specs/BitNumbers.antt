@@ -4,8 +4,7 @@ use mathlib.Core.Bool.{Bool, true, xor}
 use mathlib.Core.List.{List}
 use Prim.Native.Nat.{ℕ, zero, suc, _+_, _-_, _/_, _%_, _^_, _≤_}
 use lib.ListN.{getD}
-use Rattle.crc_polynomial.specs.Bits.{odd}
-use Rattle.crc_polynomial.specs.Division.{coefficient}
+use Rattle.crc_polynomial.specs.Polynomial.{odd, coefficient}
 
 -- bit number 8i+j of a body, j from 0 to 7, lies j places below the most significant bit of octet i
 abbrev pub bitNumber : List ℕ → ℕ → Bool

@@ -8,7 +8,7 @@ use native.Mathlib.Omega.{arith}
 use borrow.Author.Tests.{eq-eqb, ltb-true, ltb-false}
 use lib.Dec.{eqb, ltb}
 use lib.ListN.{replicate, replicate-append-replicate}
-use Rattle.crc_polynomial.specs.Division.{divided, step, reduced}
+use Rattle.crc_polynomial.specs.Polynomial.{divided, step, reduced}
 use Rattle.crc_polynomial.proofs.Laws.{divided-append}
 use Rattle.crc_polynomial.proofs.Linear.{everywhere}
 use Rattle.crc_polynomial.proofs.Shifts.{left, sixteen-places}

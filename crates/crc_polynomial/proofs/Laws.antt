@@ -11,8 +11,7 @@ use lib.ListN.{length, replicate}
 use lib.Pow.{mod-pow-add}
 use lib.Bits.{bitXor, xor-lt, xor-shr, xor-self, xor-zero-r, xor-comm}
 use borrow.Author.Tests.{leb-true, leb-false, le-leb, lt-leb}
-use Rattle.crc_polynomial.specs.Bits.{odd, bitsOf}
-use Rattle.crc_polynomial.specs.Division.{coefficient, generator, degree16, broughtDown, goesInto, reduced, step, divided, quotientFrom, timesGenerator, polynomial, Divides}
+use Rattle.crc_polynomial.specs.Polynomial.{odd, bitsOf, coefficient, generator, degree16, broughtDown, goesInto, reduced, step, divided, quotientFrom, timesGenerator, polynomial, Divides}
 use Rattle.crc_polynomial.proofs.Xor.{digit-cases, xor-assoc, xor-swap, xor-double, xor-apart}
 
 pub coefficient-lt : (b : Bool) → coefficient b < 2

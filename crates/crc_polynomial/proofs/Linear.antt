@@ -7,7 +7,7 @@ use native.Mathlib.Nat.{add-zero, zero-add, add-suc, suc-add, zero-mul, one-mul,
 use lib.ListN.{getD}
 use lib.Bits.{bitXor, xor-self, xor-shifted, xor-block}
 use lib.Pow.{pow-pos, shr-lt}
-use Rattle.crc_polynomial.specs.Division.{degree16}
+use Rattle.crc_polynomial.specs.Polynomial.{degree16}
 use Rattle.crc_polynomial.proofs.Xor.{digit-cases, xor-swap}
 
 -- f at n numbers, from k on

@@ -5,7 +5,7 @@ use mathlib.Core.Bool.{false, xor}
 use Prim.Native.Nat.{ℕ, _*_, _/_, _%_, _<_}
 use lib.ListN.{replicate}
 use lib.Bits.{bitXor, xor-shr, xor-mod}
-use Rattle.crc_polynomial.specs.Division.{divided, step, reduced}
+use Rattle.crc_polynomial.specs.Polynomial.{divided, step, reduced}
 use Rattle.crc_polynomial.proofs.Laws.{sum, divided-xor}
 use Rattle.crc_polynomial.proofs.Linear.{Linear, both, times, agree}
 

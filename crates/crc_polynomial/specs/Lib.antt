@@ -1,2 +1,1 @@
-pub mod Bits
-pub mod Division
+pub mod Polynomial

@@ -5,7 +5,7 @@ use Prim.Native.Nat.{ℕ, _+_, _*_, _/_, _%_, _^_, _<_}
 use native.Mathlib.Omega.{arith}
 use native.Mathlib.Nat.{mod-lt}
 use lib.Bits.{bitXor, xor-shr, xor-mod, xor-lt, xor-comm, xor-shifted}
-use Rattle.crc_polynomial.specs.Division.{degree16}
+use Rattle.crc_polynomial.specs.Polynomial.{degree16}
 use Rattle.crc_polynomial.proofs.Xor.{xor-assoc}
 use Rattle.crc_polynomial.proofs.Linear.{upFrom, everywhere, Linear, both, times}
 use Rattle.crc_polynomial.proofs.Wide.{behind, forced, forced-is, forced-at, same}

@@ -11,8 +11,7 @@ use lib.ListN.{length, getD, take, drop, replicate, length-append, length-drop, 
 use lib.Seq.{drop-cons, drop-at, drop-drop, take-append-le, drop-append-le}
 use lib.Bits.{bitXor, differ, xor-lt, xor-zero-r}
 use lib.Pow.{shr-shr}
-use Rattle.crc_polynomial.specs.Bits.{odd}
-use Rattle.crc_polynomial.specs.Division.{coefficient, degree16, step, reduced, polynomial}
+use Rattle.crc_polynomial.specs.Polynomial.{odd, coefficient, degree16, step, reduced, polynomial}
 use Rattle.crc_polynomial.proofs.Xor.{digit-cases, xor-swap, below-two, half, last}
 use Rattle.crc_polynomial.proofs.Laws.{coefficient-xor, coefficient-lt, step-xor, step-lt, sum, sum-zeros, polynomial-xor, polynomial-lt}
 use Rattle.crc_polynomial.proofs.Linear.{Linear, Linear16, times, agree}

@@ -4,8 +4,7 @@ use mathlib.Core.Bool.{Bool, false}
 use mathlib.Core.List.{List, [], _∷_, _++_}
 use Prim.Native.Nat.{ℕ, zero, suc, _*_, _/_, _%_}
 use lib.Bits.{bitXor}
-use Rattle.crc_polynomial.specs.Bits.{odd}
-use Rattle.crc_polynomial.specs.Division.{coefficient, step, polynomial}
+use Rattle.crc_polynomial.specs.Polynomial.{odd, coefficient, step, polynomial}
 
 -- the w lowest bits of n, least significant first
 unfoldable pub bitsUp : ℕ → ℕ → List Bool

@@ -7,12 +7,12 @@ use lib.ListN.{length}
 use Rattle.ucp_frame.specs.Frame.{frame}
 use Rattle.ucp_frame.specs.Stretch.{Verdict, silent, refused, delivered}
 use Rattle.ucp_frame.proofs.Frame.{frame-length-longest}
-use Rattle.output_writing.specs.Answers.{outputAfter}
+use Rattle.output_writing.specs.Writing.{outputAfter}
 use Rattle.thm_mavlink_messages.proofs.RoundTrips as mavlink-trips
 use Rattle.thm_ucp_messages.proofs.Delivery.{sent-is-delivered}
 use Rattle.thm_ucp_messages.proofs.ReadBack as message-read
 use Rattle.thm_ucp_messages.proofs.WriteBack as message-write
-use Rattle.ucp_messages.specs.Bodies.{messageFits, messageBody}
+use Rattle.ucp_messages.specs.Messages.{messageFits, messageBody}
 use Rattle.ucp_messages.specs.Kinds.{kindIn}
 use Rattle.demands.proofs.MessageRefusals.{tabled-message, message-refused, mavlink-refused, tabled-mavlink}
 use Rattle.ucp_writer.proofs.room.Due.{refused-so, refused-7, refused-8, due-accepted}
@@ -31,18 +31,18 @@ use Rattle.demands.proofs.Refusals.{Tabled, quiet, numbered, whole, tab
 
 -- ---- one call of the receiver
 
-told-refusal : (v : Verdict) (n : ℕ) (output : List ℕ) → Tabled v → answerFor v ≡ refusal n
+answer-refusal : (v : Verdict) (n : ℕ) (output : List ℕ) → Tabled v → answerFor v ≡ refusal n
     → (1 ≤ n) × (n ≤ 6) × (receiver-answers.outputAtFlag v output ≡ output)
-told-refusal _ n output quiet e = let z : _≡_ {A = ℕ} 0 1 = cc in absurd (omega arith)
-told-refusal _ n output (numbered m least most) e =
+answer-refusal _ n output quiet e = let z : _≡_ {A = ℕ} 0 1 = cc in absurd (omega arith)
+answer-refusal _ n output (numbered m least most) e =
     let same : m ≡ n = cc in
     (omega arith, omega arith, refl)
-told-refusal _ n output (whole octets) e = let z : _≡_ {A = ℕ} 0 1 = cc in absurd (omega arith)
+answer-refusal _ n output (whole octets) e = let z : _≡_ {A = ℕ} 0 1 = cc in absurd (omega arith)
 
-told-nothing : (v : Verdict) (output : List ℕ) → answerFor v ≡ nothing → receiver-answers.outputAtFlag v output ≡ output
-told-nothing silent output e = refl
-told-nothing (refused n) output e = let z : _≡_ {A = ℕ} 0 1 = cc in absurd (omega arith)
-told-nothing (delivered octets) output e = let z : _≡_ {A = ℕ} 0 1 = cc in absurd (omega arith)
+answer-nothing : (v : Verdict) (output : List ℕ) → answerFor v ≡ nothing → receiver-answers.outputAtFlag v output ≡ output
+answer-nothing silent output e = refl
+answer-nothing (refused n) output e = let z : _≡_ {A = ℕ} 0 1 = cc in absurd (omega arith)
+answer-nothing (delivered octets) output e = let z : _≡_ {A = ℕ} 0 1 = cc in absurd (omega arith)
 
 pub demand1 : Demand1
 demand1 =
@@ -62,11 +62,11 @@ demand1 =
       mavlinkWriterRefuses = λ m h output after r number w.
           let due = mavlink-refused m output number in
           (λ e. due .0 (sym (w .answers) ∙ e), λ t. w .answers ∙ due .1 t);
-      receiverRefuses = λ rest counts store octet output given storeAfter outputThen number m e.
-          let p = told-refusal _ number output (tabled _ octet (length output)) (sym (m .answers) ∙ e) in
+      receiverRefuses = λ receiver store octet output given storeAfter outputThen number m e.
+          let p = answer-refusal _ number output (tabled _ octet (length output)) (sym (m .answers) ∙ e) in
           (p .0, p .1, m .puts ∙ p .2);
-      receiverIsSilent = λ rest counts store octet output given storeAfter outputThen m e.
-          m .puts ∙ told-nothing (verdictDue (record { rest = rest; store = store }) octet (length output)) output (sym (m .answers) ∙ e);
+      receiverIsSilent = λ receiver store octet output given storeAfter outputThen m e.
+          m .puts ∙ answer-nothing (verdictDue (record { rest = receiver .rest; store = store }) octet (length output)) output (sym (m .answers) ∙ e);
       flagClears = flag-clears;
       storeClean = store-clean;
       laterOnly = later-only;

@@ -8,15 +8,13 @@ use native.Mathlib.Omega.{arith}
 use borrow.Author.Tests.{ltb-true, lt-ltb}
 use lib.Dec.{eqb, ltb}
 use lib.ListN.{length, getD}
-use Rattle.field_format.specs.Formats.{valueIn}
-use Rattle.ucp_answers.specs.Refusals.{refusalOf, reads}
-use Rattle.ucp_messages.specs.Formats.{Reading, format, uplink, unknown, readingOf}
-use Rattle.output_writing.specs.Answers.{refused, wrote}
+use Rattle.field_format.specs.Format.{valueIn}
+use Rattle.ucp_answers.specs.Refusals.{refusalOf, reads, refusalBy}
+use Rattle.ucp_messages.specs.Messages.{Reading, format, uplink, unknown, readingOf, meansUnlessRefused, refusalIn, answerAs}
+use Rattle.output_writing.specs.Writing.{refused, wrote}
 use Rattle.ucp_messages.specs.declared.Kind.{Kind}
 use Rattle.ucp_messages.specs.declared.Message.{Message}
-use Rattle.ucp_messages.specs.Reads as Reads
-use Rattle.ucp_answers.specs.Refusals.{refusalBy}
-use Rattle.ucp_messages.specs.Reads.{meansUnlessRefused, refusalIn, answerAs}
+use Rattle.ucp_messages.specs.Messages as Reads
 use Rattle.ucp_answers.specs.Writes.{bodyDue}
 use Rattle.mavlink_frame.specs.declared.Kind as kind-as
 use Rattle.mavlink_frame.specs.declared.Header.{Header}
@@ -24,8 +22,7 @@ use Rattle.mavlink_frame.specs.declared.Lookup.{Lookup}
 use Rattle.mavlink_frame.specs.declared.Lookup.the-variants as lookup
 use Rattle.mavlink_frame.specs.declared.Found.{Found}
 use Rattle.mavlink_frame.specs.declared.Found.the-variants as found-as
-use Rattle.mavlink_frame.specs.Frame.{start}
-use Rattle.mavlink_frame.specs.Kinds.{mavlinkKind}
+use Rattle.mavlink_frame.specs.Frame.{start, mavlinkKind}
 use Rattle.mavlink_frame.specs.Reader.{headerAt, payloadAt, checkAt, checkDue, foundOf, foundBy, found}
 use Rattle.mavlink_messages.specs.declared.Message as mavlink
 use Rattle.mavlink_messages.specs.declared.Message.the-variants as kinds

@@ -1,6 +1,6 @@
 -- The tender's demands 1 to 3, in one place. Each is a statement over what the running functions ensure of a call, or over the
 -- definitions that their contracts cite, so it holds of what runs: `WritesFrame` of `ucp_writer::write_frame`, `Receives` of
--- `ucp_receiver::octet::receive` and `Takes` of `receive_slice`; of the messages `Reads`, `WritesFrame` and `Sends` (ucp_messages,
+-- `ucp_receiver::octet::receive` and `Takes` of `receive_slice`; of the messages `Reads`, `WritesBody` and `Sends` (ucp_messages,
 -- ucp_answers, ucp_send); of MAVLink `readDue` and `writeDue` (mavlink_messages). That every call on every input returns,
 -- with no undefined step, is what proving a Rattle function means, and no public function asks anything of its caller. Proved
 -- in proofs/Demands.antt. Assumes nothing.
@@ -13,7 +13,7 @@ use lib.ListN.{length, drop}
 use Rattle.refusals.specs.Numbers as because
 use Rattle.ucp_frame.specs.Frame.{frame, longestBody, longestFrame}
 use Rattle.output_writing.specs.declared.Written.{Written}
-use Rattle.output_writing.specs.Answers.{WriterAnswer, refused, wrote, writerAnswer, Writing}
+use Rattle.output_writing.specs.Writing.{WriterAnswer, refused, wrote, writerAnswer, Writing}
 use Rattle.ucp_writer.specs.Writes.{WritesFrame}
 use Rattle.mavlink_frame.specs.declared.Header.{Header}
 use Rattle.mavlink_messages.specs.declared.Message as mavlink
@@ -22,8 +22,7 @@ use Rattle.mavlink_messages.specs.Messages.{readDue, writeDue, messageFrame, in
 use Rattle.thm_mavlink_messages.specs.RoundTrips as mavlink-trips
 use Rattle.thm_ucp_messages.specs.Delivery.{SentIsDelivered}
 use Rattle.thm_ucp_messages.specs.RoundTrips as message-trips
-use Rattle.ucp_receiver.specs.declared.Rest.{Rest}
-use Rattle.ucp_receiver.specs.declared.Counts.{Counts}
+use Rattle.ucp_receiver.specs.declared.Record.{Record}
 use Rattle.ucp_receiver.specs.declared.Received.{Received}
 use Rattle.ucp_receiver.specs.Answers as receiver-answers
 use Rattle.ucp_receiver.specs.Answers.{nothing, refusal}
@@ -32,9 +31,9 @@ use Rattle.ucp_history.specs.History.{answer}
 use Rattle.crc_gdl90_strength.specs.Strength.{TwoBodies, AtMostThreeBits, Within16Bits, Strength}
 use Rattle.ucp_messages.specs.declared.Message as ucp
 use Rattle.ucp_messages.specs.declared.Read as ucp-read
-use Rattle.ucp_messages.specs.Bodies.{messageFits, messageBody}
+use Rattle.ucp_messages.specs.Messages.{messageFits, messageBody}
 use Rattle.ucp_messages.specs.Kinds.{kindIn}
-use Rattle.ucp_messages.specs.Reads as Reads
+use Rattle.ucp_messages.specs.Messages as Reads
 use Rattle.ucp_answers.specs.Writes as Message
 use Rattle.thm_ucp_writer.specs.Calls.{WriterLists}
 use Rattle.thm_ucp_receiver.specs.Line.{Observed, callOf, upTo, Line}
@@ -79,14 +78,14 @@ pub record Demand1 : Type 0 where
       ↔ (((number ≡ because.mavlinkField) × (inRange m ≡ false))
       ⊎ ((number ≡ because.outputLength) × (inRange m ≡ true) × (length output < length (payloadOf m) + 8)))
   pub receiverRefuses :
-      (rest : Rest) (counts : Counts) (store : List ℕ) (octet : ℕ) (output : List ℕ) (given : Received)
+      (receiver : Record) (store : List ℕ) (octet : ℕ) (output : List ℕ) (given : Received)
       (storeAfter outputThen : List ℕ) (number : ℕ)
-      → Receives rest counts store octet output given storeAfter outputThen
+      → Receives receiver store octet output given storeAfter outputThen
       → receiver-answers.receiverAnswer (given .answer) ≡ refusal number → (1 ≤ number) × (number ≤ 6) × (outputThen ≡ output)
   pub receiverIsSilent :
-      (rest : Rest) (counts : Counts) (store : List ℕ) (octet : ℕ) (output : List ℕ) (given : Received)
+      (receiver : Record) (store : List ℕ) (octet : ℕ) (output : List ℕ) (given : Received)
       (storeAfter outputThen : List ℕ)
-      → Receives rest counts store octet output given storeAfter outputThen
+      → Receives receiver store octet output given storeAfter outputThen
       → receiver-answers.receiverAnswer (given .answer) ≡ nothing → outputThen ≡ output
   pub flagClears : FlagClears
   pub storeClean : StoreClean

@@ -10,13 +10,12 @@ use lib.Dec.{ltb}
 use lib.ListN.{getD, drop}
 use lib.Pow.{pow-pos}
 use lib.Seq.{getD-drop}
-use Rattle.field_layout.specs.Digits.{Within, bitOf, isSet}
-use Rattle.field_layout.specs.Texts.{textAt}
+use Rattle.field_layout.specs.Layout.{Within, bitOf, isSet, textAt}
 use Rattle.field_layout.specs.declared.Text.{Text}
 use Rattle.field_signed.specs.Signed.{signed, complement, holds}
 use Rattle.field_signed.proofs.Signed.{signed-complement, complement-signed, complement-lt, holds-signed}
 use Rattle.field_format.proofs.Conjunction.{both}
-use Rattle.field_format.specs.Columns.{Sort, unsigned, part, integer, integerPart, Column, field, flag, letters, half, Number, numberTo, numberOf, Of, widthsOf, count, to, from, Typed, tested, Bounded, Sound, Cell, _&_, Row, rowWidths, rowTo, rowFrom, RowTyped, rowTested, RowBounded, BoundedAt, RowSound}
+use Rattle.field_format.specs.Format.{Sort, unsigned, part, integer, integerPart, Column, field, flag, letters, half, Number, numberTo, numberOf, Of, widthsOf, count, to, from, Typed, tested, Bounded, Sound, Cell, _&_, Row, rowWidths, rowTo, rowFrom, RowTyped, rowTested, RowBounded, BoundedAt, RowSound}
 
 -- ---- a bit, and a signed number
 bit-lt : (b : Bool) → bitOf b < 2

@@ -7,12 +7,10 @@ use Prim.Native.Nat.{ℕ, _+_, _*_}
 use native.Mathlib.Omega.{arith}
 use lib.ListN.{length, drop, length-append, length-drop}
 use lib.Seq.{drop-append-seam, getD-drop}
-use Rattle.crc_polynomial.specs.Bits.{Octets}
-use Rattle.field_layout.specs.Digits.{Within}
-use Rattle.field_layout.specs.Layout.{layoutSize, layoutWidths, layoutFields, layoutOctets}
+use Rattle.crc_polynomial.specs.Polynomial.{Octets}
+use Rattle.field_layout.specs.Layout.{Within, layoutSize, layoutWidths, layoutFields, layoutOctets}
 use Rattle.field_layout.proofs.RoundTrips.{fields-octets, octets-fields, fields-within, octets-size}
-use Rattle.field_format.specs.Columns.{Column, made, rowWidths, rowTo, rowFrom, widthsOf, rowTested, BoundedAt}
-use Rattle.field_format.specs.Formats.{Item, high, low, text, fieldColumns, runs, columns, rowOf, Format, Right, standAt, HasId, bodySize, valueIn, bodyOf, fits, hasRoom, Fitting, TypedAs}
+use Rattle.field_format.specs.Format.{Column, made, rowWidths, rowTo, rowFrom, widthsOf, rowTested, BoundedAt, Item, high, low, text, fieldColumns, runs, columns, rowOf, Format, Right, standAt, HasId, bodySize, valueIn, bodyOf, fits, hasRoom, Fitting, TypedAs}
 use Rattle.field_format.proofs.Columns.{row-before, row-bounded, bounded-at, row-within, row-back, row-again, Again}
 use Rattle.field_format.proofs.Heads.{head-stands}
 

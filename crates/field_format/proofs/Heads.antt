@@ -10,7 +10,7 @@ use lib.Dec.{eqb}
 use lib.ListN.{length, getD, drop}
 use lib.Seq.{drop-cons, drop-drop, getD-drop}
 use Rattle.field_format.proofs.Conjunction.{both}
-use Rattle.field_format.specs.Formats.{standAt, HasId}
+use Rattle.field_format.specs.Format.{standAt, HasId}
 
 and-true : (b c : Bool) → c ≡ true → (b && c) ≡ b
 and-true true c e = e

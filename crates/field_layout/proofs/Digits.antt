@@ -7,8 +7,8 @@ use native.Mathlib.Omega.{arith}
 use lib.Arith.{digits-lt, digits-div, digits-mod}
 use lib.ListN.{length, replicate, length-reverse, length-replicate}
 use lib.Pow.{pow-add, pow-pos}
-use Rattle.crc_polynomial.specs.Bits.{Octets}
-use Rattle.field_layout.specs.Digits.{total, joined, cutByWidths, Within}
+use Rattle.crc_polynomial.specs.Polynomial.{Octets}
+use Rattle.field_layout.specs.Layout.{total, joined, cutByWidths, Within}
 
 -- fields of these widths make a number of as many bits
 pub joined-lt : (ws vs : List ℕ) → Within ws vs → joined ws vs < 2 ^ total ws

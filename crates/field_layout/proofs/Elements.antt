@@ -6,10 +6,8 @@ use native.Mathlib.Nat.{add-zero, le-of-eq}
 use native.Mathlib.Omega.{arith}
 use lib.ListN.{length, getD, drop, drop-of-length-le}
 use lib.Seq.{drop-cons}
-use Rattle.crc_polynomial.specs.Bits.{Octets}
-use Rattle.field_layout.specs.Digits.{Within}
-use Rattle.field_layout.specs.Layout.{Run, layoutSize, layoutWidths, layoutFields, layoutOctets, Whole}
-use Rattle.field_layout.specs.Texts.{textAt}
+use Rattle.crc_polynomial.specs.Polynomial.{Octets}
+use Rattle.field_layout.specs.Layout.{Within, Run, layoutSize, layoutWidths, layoutFields, layoutOctets, Whole, textAt}
 use Rattle.field_layout.proofs.Digits.{length-within}
 use Rattle.field_layout.proofs.RoundTrips.{fields-within, octets-fields}
 

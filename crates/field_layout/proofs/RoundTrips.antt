@@ -6,9 +6,8 @@ use Prim.Native.Nat.{ℕ, zero, suc, _+_, _*_, _/_, _^_, _<_}
 use native.Mathlib.Omega.{arith}
 use lib.ListN.{length, take, drop, length-drop, length-append, length-replicate, take-append-drop}
 use lib.Seq.{take-at, drop-at, length-take-le, getD-drop}
-use Rattle.crc_polynomial.specs.Bits.{Octets}
-use Rattle.field_layout.specs.Digits.{total, joined, cutByWidths, Within}
-use Rattle.field_layout.specs.Layout.{Run, high, low, eights, runSize, widths, runFields, runOctets, layoutSize, layoutWidths, layoutFields, layoutOctets, Whole}
+use Rattle.crc_polynomial.specs.Polynomial.{Octets}
+use Rattle.field_layout.specs.Layout.{total, joined, cutByWidths, Within, Run, high, low, eights, runSize, widths, runFields, runOctets, layoutSize, layoutWidths, layoutFields, layoutOctets, Whole}
 use Rattle.field_layout.proofs.Digits.{joined-lt, cut-joined, joined-cut, cut-within, length-within, octets-within, within-reversed, total-eights}
 
 abbrev WholeRun : Run → Type 0

@@ -1,4 +1,2 @@
-pub mod Digits
 pub mod Layout
 pub mod Steps
-pub mod Texts

@@ -5,9 +5,8 @@ ghost use mathlib.Core.List.{_++_};
 ghost use Prim.Native.Nat.{_<_, _≤_};
 ghost use lib.Dec.{leb};
 ghost use lib.ListN.{length, getD, drop};
-ghost use Rattle.field_layout.specs.Digits.{bitOf};
+ghost use Rattle.field_layout.specs.Layout.{bitOf, textAt, textOctets, noText};
 ghost use Rattle.field_layout.specs.Steps.{big16, big24, big32, little16, little24, little32};
-ghost use Rattle.field_layout.specs.Texts.{textAt, textOctets, noText};
 
 // A text of eight octets. (An enum can't hold an array, and messages are held in one.)
 #[repr(C)]

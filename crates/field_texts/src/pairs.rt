@@ -2,7 +2,7 @@
 ghost use mathlib.Core.Path.{_≡_};
 ghost use Prim.Native.Nat.{_+_, _≤_};
 ghost use lib.ListN.{length};
-ghost use Rattle.field_layout.specs.Texts.{textAt, textOctets};
+ghost use Rattle.field_layout.specs.Layout.{textAt, textOctets};
 ghost use Rattle.field_texts.specs.Text.{isLetterOrDigit, isPadded};
 ghost use Rattle.field_texts.specs.Pairs.{goesOn};
 

@@ -42,7 +42,7 @@ module _ (left block held : ℕ) (t : Turn) where
   reads-onward Ended r = from _ t (r .2) (at-end (eqb held 0) left block held (r .0))
   reads-onward Failed r = from _ t r (at-over left block Failed)
 
-  pub turns-onward : (told : Input) → BlockTurns told left block held t → Onward left block t
+  pub turns-onward : (input : Input) → BlockTurns input left block held t → Onward left block t
   turns-onward More r = reads-onward (t .input) r
   turns-onward Ended r = from _ t r (at-over left block Ended)
   turns-onward Failed r = from _ t r (at-over left block Failed)

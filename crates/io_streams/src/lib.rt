@@ -110,11 +110,11 @@ pub fn first_turn(block: &mut [u8]) -> Turn
 
 // The turn that follows one whose work came to this: the octets held at the start of the block stay, and what is read stands
 // behind them. Nothing is read where the work is at its end or has failed.
-pub fn next_turn(told: Input, block: &mut [u8], held: usize, left: u64) -> Turn
-    ensures { λ r. ⌜ BlockTurns told left (length (now (block .entry))) held r ⌝ }
+pub fn next_turn(input: Input, block: &mut [u8], held: usize, left: u64) -> Turn
+    ensures { λ r. ⌜ BlockTurns input left (length (now (block .entry))) held r ⌝ }
     ensures { λ r. ⌜ KeepsHeld held (now (block .entry)) (now (block .exit)) ⌝ }
 {
-    match told {
+    match input {
         Input::More => read_turn(block, held, left),
         Input::Ended => last_turn(Input::Ended),
         Input::Failed => last_turn(Input::Failed),

@@ -3,15 +3,14 @@
 use io_streams::Input;
 use ucp_frame::BodyRoom;
 use ucp_receiver::Counts;
-use ucp_receiver::Rest;
+use ucp_receiver::Record;
 use ucp_receiver::Store;
 ghost use Rattle.io_streams.specs.Blocks.{Zeroed};
 ghost use Rattle.io_ucp.specs.Records.{Closed, Ends};
 
 // The receiver's record besides its store, from block to block.
 pub struct Progress {
-    pub rest: Rest,
-    pub counts: Counts,
+    pub receiver: Record,
     pub input: Input,
 }
 

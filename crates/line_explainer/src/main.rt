@@ -8,8 +8,7 @@ use io_streams::Input;
 use io_ucp::Progress;
 use text_output::TextRoom;
 use ucp_frame::BodyRoom;
-use ucp_receiver::Counts;
-use ucp_receiver::Rest;
+use ucp_receiver::Record;
 use ucp_receiver::Store;
 ghost use Rattle.ucp_receiver.specs.Octet.{stateOf};
 ghost use Rattle.text_ucp_listing.specs.Lists.{behindAll};
@@ -18,43 +17,37 @@ ghost use Rattle.io_streams.specs.Blocks.{Zeroed};
 
 // Explains the octets of a block, and writes each line out.
 fn explain_block(
-    rest: Rest,
-    counts: Counts,
+    receiver: Record,
     store: &mut Store,
     room: &mut BodyRoom,
     block: &[u8],
     text: &mut TextRoom,
 ) -> Progress
-    ensures { λ r. ⌜ Leaves (r .input) (stateOf (r .rest) (now (store .exit))) (r .counts) (behindAll (stateOf rest (now (store .entry))) counts (now (block .entry))) ⌝ }
+    ensures { λ r. ⌜ Leaves (r .input) (stateOf (r .receiver .rest) (now (store .exit))) (r .receiver .counts) (behindAll (stateOf (receiver .rest) (now (store .entry))) (receiver .counts) (now (block .entry))) ⌝ }
 {
-    let mut rest = rest;
-    let mut counts = counts;
+    let mut receiver = receiver;
     let mut taken = 0;
     while taken < block.len() {
         let explained = text_ucp_explanation::explain_next(
-            rest,
-            counts,
+            receiver,
             store,
             room,
             &block[taken..],
             text,
         );
         let more = explained.taken;
-        rest = more.rest;
-        counts = more.counts;
+        receiver = more.receiver;
         taken += more.taken;
         let n = explained.written;
         if !io_streams::write_first(text, n) {
             return Progress {
-                rest: rest,
-                counts: counts,
+                receiver: receiver,
                 input: Input::Failed,
             };
         }
     }
     Progress {
-        rest: rest,
-        counts: counts,
+        receiver: receiver,
         input: Input::More,
     }
 }
@@ -66,18 +59,17 @@ fn explain_input(
     block: &mut [u8],
     text: &mut TextRoom,
 ) -> bool {
-    let mut rest = ucp_receiver::octet::fresh_rest();
-    let mut counts = ucp_receiver::account::zero_counts();
+    let mut receiver = ucp_receiver::octet::fresh_record();
     let mut turn = io_streams::first_turn(block);
     while turn.left > 0 {
         let end = turn.octets;
-        let progress = explain_block(rest, counts, store, room, &block[..end], text);
-        rest = progress.rest;
-        counts = progress.counts;
-        let told = progress.input;
-        turn = io_streams::next_turn(told, block, 0, turn.left);
+        let progress = explain_block(receiver, store, room, &block[..end], text);
+        receiver = progress.receiver;
+        let input = progress.input;
+        turn = io_streams::next_turn(input, block, 0, turn.left);
     }
     let input = turn.input;
+    let counts = receiver.counts;
     io_ucp::write_ending(input, text, counts)
 }
 

@@ -8,8 +8,7 @@
 use io_streams::Input;
 use io_ucp::Progress;
 use ucp_frame::BodyRoom;
-use ucp_receiver::Counts;
-use ucp_receiver::Rest;
+use ucp_receiver::Record;
 use ucp_receiver::Store;
 ghost use Prim.Native.Nat.{_≤_};
 ghost use lib.ListN.{length};
@@ -20,36 +19,31 @@ ghost use Rattle.io_ucp.specs.Records.{Leaves};
 
 // Lists the octets of a block, and writes the text out each time that it is full, and at the block's end.
 fn list_block(
-    rest: Rest,
-    counts: Counts,
+    receiver: Record,
     store: &mut Store,
     room: &mut BodyRoom,
     block: &[u8],
     text: &mut [u8],
 ) -> Progress
     requires { ⌜ longestLine ≤ length (now text) ⌝ }
-    ensures { λ r. ⌜ Leaves (r .input) (stateOf (r .rest) (now (store .exit))) (r .counts) (behindAll (stateOf rest (now (store .entry))) counts (now (block .entry))) ⌝ }
+    ensures { λ r. ⌜ Leaves (r .input) (stateOf (r .receiver .rest) (now (store .exit))) (r .receiver .counts) (behindAll (stateOf (receiver .rest) (now (store .entry))) (receiver .counts) (now (block .entry))) ⌝ }
 {
-    let mut rest = rest;
-    let mut counts = counts;
+    let mut receiver = receiver;
     let mut taken = 0;
     while taken < block.len() {
-        let listed = text_ucp_listing::list_some(rest, counts, store, room, &block[taken..], text);
-        rest = listed.rest;
-        counts = listed.counts;
+        let listed = text_ucp_listing::list_some(receiver, store, room, &block[taken..], text);
+        receiver = listed.receiver;
         taken += listed.taken;
         let n = listed.written;
         if !io_streams::write_out(&text[..n]) {
             return Progress {
-                rest: rest,
-                counts: counts,
+                receiver: receiver,
                 input: Input::Failed,
             };
         }
     }
     Progress {
-        rest: rest,
-        counts: counts,
+        receiver: receiver,
         input: Input::More,
     }
 }
@@ -58,18 +52,17 @@ fn list_block(
 fn list_input(store: &mut Store, room: &mut BodyRoom, block: &mut [u8], text: &mut [u8]) -> bool
     requires { ⌜ longestLine ≤ length (now text) ⌝ }
 {
-    let mut rest = ucp_receiver::octet::fresh_rest();
-    let mut counts = ucp_receiver::account::zero_counts();
+    let mut receiver = ucp_receiver::octet::fresh_record();
     let mut turn = io_streams::first_turn(block);
     while turn.left > 0 {
         let end = turn.octets;
-        let progress = list_block(rest, counts, store, room, &block[..end], text);
-        rest = progress.rest;
-        counts = progress.counts;
-        let told = progress.input;
-        turn = io_streams::next_turn(told, block, 0, turn.left);
+        let progress = list_block(receiver, store, room, &block[..end], text);
+        receiver = progress.receiver;
+        let input = progress.input;
+        turn = io_streams::next_turn(input, block, 0, turn.left);
     }
     let input = turn.input;
+    let counts = receiver.counts;
     io_ucp::write_ending(input, text, counts)
 }
 

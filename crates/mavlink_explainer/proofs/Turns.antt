@@ -31,7 +31,7 @@ pub few-left : (last : Bool) (left : ℕ) → left < cond last 1 frameRoom → C
 few-left true left h = tt
 few-left false left h = h
 
-goes-on : (last : Bool) {told : Type 0} → told → UnlessFailed (cond last Ended More) told
+goes-on : (last : Bool) {claim : Type 0} → claim → UnlessFailed (cond last Ended More) claim
 goes-on true t = t
 goes-on false t = t
 

@@ -50,9 +50,9 @@ pub record Explored (last : Bool) (block : List ℕ) (frames bytes : ℕ) (given
   pub counts : given ≡ explains frames bytes count (length block - given .left) (given .left) (inputAfter last refused)
 
 abbrev pub UnlessFailed : Input → Type 0 → Type 0
-UnlessFailed More told = told
-UnlessFailed Ended told = told
-UnlessFailed Failed told = Unit {0}
+UnlessFailed More claim = claim
+UnlessFailed Ended claim = claim
+UnlessFailed Failed claim = Unit {0}
 
 pub record Explores (last : Bool) (block : List ℕ) (frames bytes : ℕ) (given : Progress) : Type 0 where
   pub leaves : FramesLeave (given .input) (given .left) (length block)

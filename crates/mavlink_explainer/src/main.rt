@@ -130,8 +130,8 @@ fn explain_input(block: &mut [u8], text: &mut TextRoom) -> bool {
         carry(block, end - held, end);
         frames = progress.frames;
         bytes = progress.bytes;
-        let told = progress.input;
-        turn = io_streams::next_turn(told, block, held, turn.left);
+        let input = progress.input;
+        turn = io_streams::next_turn(input, block, held, turn.left);
     }
     let input = turn.input;
     if !io_streams::has_ended(input) {

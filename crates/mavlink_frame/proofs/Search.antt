@@ -8,7 +8,7 @@ use lib.ListN.{length, drop, getD}
 use lib.Seq.{drop-cons}
 use Rattle.mavlink_frame.specs.declared.Kind.{Kind}
 use Rattle.mavlink_frame.specs.declared.Lookup.the-variants.{Known}
-use Rattle.mavlink_frame.specs.Kinds.{kindAmong}
+use Rattle.mavlink_frame.specs.Frame.{kindAmong}
 
 module _ (ks : List Kind) (i id : ℕ) (d : Kind) (h : i < length ks) where
   -- it ends at the kind that has the ID

@@ -1,4 +1,3 @@
-pub mod Kinds
 pub mod Frame
 pub mod Reader
 pub mod Writer

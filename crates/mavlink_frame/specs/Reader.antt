@@ -13,8 +13,7 @@ use Rattle.mavlink_frame.specs.declared.Lookup.{Lookup}
 use Rattle.mavlink_frame.specs.declared.Lookup.the-variants.{Known, Unknown}
 use Rattle.mavlink_frame.specs.declared.Found.{Found}
 use Rattle.mavlink_frame.specs.declared.Found.the-variants.{Frame, Refused}
-use Rattle.mavlink_frame.specs.Kinds.{mavlinkKind}
-use Rattle.mavlink_frame.specs.Frame.{start}
+use Rattle.mavlink_frame.specs.Frame.{mavlinkKind, start}
 
 -- octets 2, 3 and 4
 abbrev pub headerAt : List ℕ → Header

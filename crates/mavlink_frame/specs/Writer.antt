@@ -5,13 +5,12 @@ use Prim.Native.Nat.{ℕ, _+_}
 use lib.Dec.{eqb, ltb}
 use lib.ListN.{length}
 use Rattle.refusals.specs.Numbers as because
-use Rattle.output_writing.specs.Answers.{WriterAnswer, refused, wrote}
+use Rattle.output_writing.specs.Writing.{WriterAnswer, refused, wrote}
 use Rattle.mavlink_frame.specs.declared.Kind.{Kind}
 use Rattle.mavlink_frame.specs.declared.Header.{Header}
 use Rattle.mavlink_frame.specs.declared.Lookup.{Lookup}
 use Rattle.mavlink_frame.specs.declared.Lookup.the-variants.{Known, Unknown}
-use Rattle.mavlink_frame.specs.Kinds.{mavlinkKind}
-use Rattle.mavlink_frame.specs.Frame.{mavlinkFrame}
+use Rattle.mavlink_frame.specs.Frame.{mavlinkKind, mavlinkFrame}
 
 -- 8 for an output shorter than a frame of so many octets, else the frame
 abbrev pub roomFor : ℕ → List ℕ → WriterAnswer

@@ -3,7 +3,7 @@ pub mod reader;
 pub mod writer;
 
 ghost use mathlib.Core.Path.{_≡_};
-ghost use Rattle.mavlink_frame.specs.Kinds.{mavlinkKind};
+ghost use Rattle.mavlink_frame.specs.Frame.{mavlinkKind};
 
 // What stands at the start of an input.
 pub enum Found {

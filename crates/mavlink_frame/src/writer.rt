@@ -8,7 +8,7 @@ ghost use mathlib.Core.List.{[], _∷_, _++_};
 ghost use Prim.Native.Nat.{_+_, _-_, _≤_};
 ghost use lib.ListN.{length, take, drop};
 ghost use lib.Seq.{sets, paste};
-ghost use Rattle.output_writing.specs.Answers.{Writing};
+ghost use Rattle.output_writing.specs.Writing.{Writing};
 ghost use Rattle.crc_x25.specs.Check.{x25Octets};
 ghost use Rattle.mavlink_frame.specs.Frame.{headerOctets, mavlinkFrame};
 ghost use Rattle.mavlink_frame.specs.Writer.{frameWriteDue, writeOf, frameOf};

@@ -13,7 +13,7 @@ use Rattle.mavlink_frame.specs.declared.Kind.{Kind}
 use Rattle.mavlink_frame.specs.declared.Lookup.{Lookup}
 use Rattle.mavlink_frame.specs.declared.Lookup.the-variants.{Known, Unknown}
 use Rattle.mavlink_frame.specs.declared.Found.the-variants.{Frame}
-use Rattle.mavlink_frame.specs.Kinds.{kind, mavlinkKind}
+use Rattle.mavlink_frame.specs.Frame.{kind, mavlinkKind}
 use Rattle.mavlink_frame.specs.Reader.{found}
 use Rattle.mavlink_frame.proofs.reader.Accepted.{Accepted, accepted}
 use Rattle.field_format.proofs.Conjunction.{both}

@@ -1,7 +1,7 @@
 -- The formats of these kinds are right. Assumes nothing.
 use mathlib.Core.Path.{refl}
 use native.Mathlib.Omega.{arith}
-use Rattle.field_format.specs.Formats.{Right}
+use Rattle.field_format.specs.Format.{Right}
 use Rattle.mavlink_messages.specs.DataStream66.{dataStreamFormat}
 use Rattle.mavlink_messages.specs.Static201.{staticFormat}
 use Rattle.mavlink_messages.specs.Dynamic202.{dynamicFormat}

@@ -5,13 +5,13 @@ use mathlib.Core.List.{List}
 use Prim.Native.Nat.{ℕ, _+_, _<_}
 use borrow.Author.Tests.{ltb-true}
 use lib.ListN.{length}
-use Rattle.field_format.specs.Formats.{bodyOf}
+use Rattle.field_format.specs.Format.{bodyOf}
 use Rattle.output_writing.specs.declared.Written.{Written}
 use Rattle.output_writing.specs.declared.Written.the-variants.{Refused}
-use Rattle.output_writing.specs.Answers.{Writing}
+use Rattle.output_writing.specs.Writing.{Writing}
 use Rattle.mavlink_messages.specs.Ranges.{staticFits}
 use Rattle.mavlink_frame.specs.declared.Header.{Header}
-use Rattle.mavlink_frame.specs.Kinds.{mavlinkKind}
+use Rattle.mavlink_frame.specs.Frame.{mavlinkKind}
 use Rattle.mavlink_frame.specs.Writer.{roomFor, writeOf, frameOf}
 use Rattle.mavlink_frame.specs.Writer as frame-writes
 use Rattle.mavlink_messages.specs.declared.Static as static-as

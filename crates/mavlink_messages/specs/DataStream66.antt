@@ -1,8 +1,7 @@
 -- Message 66, a request for a data stream (document 01, "MAVLink kinds"), 6 octets. Assumes nothing.
 use mathlib.Core.Bool.{true}
 use mathlib.Core.List.{[], _∷_}
-use Rattle.field_format.specs.Columns.{unsigned}
-use Rattle.field_format.specs.Formats.{Format, low, octet}
+use Rattle.field_format.specs.Format.{unsigned, Format, low, octet}
 use Rattle.mavlink_messages.specs.declared.DataStream.{DataStream}
 
 -- offset 0: rate; 2: target system; 3: target component; 4: stream; 5: start or stop

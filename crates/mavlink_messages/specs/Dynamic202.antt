@@ -1,8 +1,7 @@
 -- Message 202, the dynamic data of an aircraft (document 001, "Dynamic / Ownship Message"), 42 octets. Assumes nothing.
 use mathlib.Core.List.{[], _∷_}
 use Rattle.mavlink_messages.specs.Ranges.{dynamicFits}
-use Rattle.field_format.specs.Columns.{unsigned, integer}
-use Rattle.field_format.specs.Formats.{Format, low, octet}
+use Rattle.field_format.specs.Format.{unsigned, integer, Format, low, octet}
 use Rattle.mavlink_messages.specs.declared.Dynamic.{Dynamic}
 
 -- offset 0: UTC time; 4: latitude, signed; 8: longitude, signed; 12: pressure altitude, signed; 16: GNSS altitude,

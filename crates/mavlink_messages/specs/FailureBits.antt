@@ -3,7 +3,7 @@
 use mathlib.Core.Bool.{cond}
 use mathlib.Core.List.{List, [], _∷_}
 use Prim.Native.Nat.{ℕ, _/_, _^_}
-use Rattle.crc_polynomial.specs.Bits.{odd}
+use Rattle.crc_polynomial.specs.Polynomial.{odd}
 
 -- those of some bits that are set
 abbrev pub setOf : List ℕ → ℕ → List ℕ

@@ -5,15 +5,15 @@ use mathlib.Core.List.{List}
 use Prim.Native.Nat.{ℕ, _+_, _-_}
 use lib.Dec.{eqb}
 use lib.ListN.{length}
-use Rattle.field_format.specs.Formats.{bodyOf, valueIn}
+use Rattle.field_format.specs.Format.{bodyOf, valueIn}
 use Rattle.refusals.specs.Numbers as because
-use Rattle.output_writing.specs.Answers.{WriterAnswer, refused}
+use Rattle.output_writing.specs.Writing.{WriterAnswer, refused}
 use Rattle.mavlink_frame.specs.declared.Header.{Header}
 use Rattle.mavlink_frame.specs.declared.Lookup.{Lookup}
 use Rattle.mavlink_frame.specs.declared.Lookup.the-variants.{Known, Unknown}
 use Rattle.mavlink_frame.specs.declared.Found.{Found}
 use Rattle.mavlink_frame.specs.declared.Found.the-variants as found-as
-use Rattle.mavlink_frame.specs.Kinds.{mavlinkKind}
+use Rattle.mavlink_frame.specs.Frame.{mavlinkKind}
 use Rattle.mavlink_frame.specs.Reader.{payloadAt, found}
 use Rattle.mavlink_frame.specs.Writer.{roomFor, frameOf}
 use Rattle.mavlink_messages.specs.declared.Message.{Message}

@@ -1,8 +1,7 @@
 -- Message 201, the static data of an aircraft (document 001, "Static Message"), 19 octets. Assumes nothing.
 use mathlib.Core.List.{[], _∷_}
 use Rattle.mavlink_messages.specs.Ranges.{staticFits}
-use Rattle.field_format.specs.Columns.{unsigned}
-use Rattle.field_format.specs.Formats.{Format, low, text, octet}
+use Rattle.field_format.specs.Format.{unsigned, Format, low, text, octet}
 use Rattle.mavlink_messages.specs.declared.Static.{Static}
 
 -- offset 0: ICAO address; 3: integrity; 4: stall speed; 6: callsign; 14: capability, where the callsign's 00 stands;

@@ -1,7 +1,7 @@
 -- Message 203, the status of a transponder (document 001, "Status Message"), 1 octet. Assumes nothing.
 use mathlib.Core.Bool.{true}
 use mathlib.Core.List.{[], _∷_}
-use Rattle.field_format.specs.Formats.{Format, octet}
+use Rattle.field_format.specs.Format.{Format, octet}
 use Rattle.mavlink_messages.specs.declared.Status.{Status}
 
 -- offset 0: self-test status

@@ -1,8 +1,7 @@
 -- Message 246, a report of traffic (document 001, "Traffic Report Message"), 38 octets. Assumes nothing.
 use mathlib.Core.List.{[], _∷_}
 use Rattle.mavlink_messages.specs.Ranges.{trafficFits}
-use Rattle.field_format.specs.Columns.{unsigned, integer}
-use Rattle.field_format.specs.Formats.{Format, low, text, octet}
+use Rattle.field_format.specs.Format.{unsigned, integer, Format, low, text, octet}
 use Rattle.mavlink_messages.specs.declared.Traffic.{Traffic}
 
 -- offset 0: ICAO address; 4: latitude, signed; 8: longitude, signed; 12: altitude, signed; 16: heading; 18:

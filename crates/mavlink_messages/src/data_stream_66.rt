@@ -2,7 +2,7 @@
 use super::DataStream;
 ghost use mathlib.Core.Path.{_≡_};
 ghost use lib.ListN.{length};
-ghost use Rattle.field_format.specs.Formats.{bodyOf, valueIn};
+ghost use Rattle.field_format.specs.Format.{bodyOf, valueIn};
 ghost use Rattle.mavlink_messages.specs.DataStream66.{dataStreamFormat};
 
 pub fn read(payload: &[u8]) -> DataStream

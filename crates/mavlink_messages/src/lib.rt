@@ -15,7 +15,7 @@ use output_writing::Written;
 ghost use mathlib.Core.Path.{_≡_};
 ghost use mathlib.Core.Bool.{true};
 ghost use lib.ListN.{length};
-ghost use Rattle.output_writing.specs.Answers.{Writing};
+ghost use Rattle.output_writing.specs.Writing.{Writing};
 ghost use Rattle.mavlink_messages.specs.Failures.{failuresIn, noFailures};
 ghost use Rattle.mavlink_messages.specs.Messages.{inRange, failuresOf, judgedBy, payloadRead, readDue, ofItsKind, writeDue, messageFrame};
 

@@ -3,7 +3,7 @@ use super::Static;
 ghost use mathlib.Core.Path.{_≡_};
 ghost use Prim.Native.Nat.{_<_};
 ghost use lib.ListN.{length};
-ghost use Rattle.field_format.specs.Formats.{bodyOf, valueIn};
+ghost use Rattle.field_format.specs.Format.{bodyOf, valueIn};
 ghost use Rattle.mavlink_messages.specs.Static201.{staticFormat};
 
 pub fn read(payload: &[u8]) -> Static

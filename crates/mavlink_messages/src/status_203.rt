@@ -2,7 +2,7 @@
 use super::Status;
 ghost use mathlib.Core.Path.{_≡_};
 ghost use lib.ListN.{length};
-ghost use Rattle.field_format.specs.Formats.{bodyOf, valueIn};
+ghost use Rattle.field_format.specs.Format.{bodyOf, valueIn};
 ghost use Rattle.mavlink_messages.specs.Status203.{statusFormat};
 
 pub fn read(payload: &[u8]) -> Status

@@ -2,7 +2,7 @@
 use super::Traffic;
 ghost use mathlib.Core.Path.{_≡_};
 ghost use lib.ListN.{length, take, drop};
-ghost use Rattle.field_format.specs.Formats.{bodyOf, valueIn};
+ghost use Rattle.field_format.specs.Format.{bodyOf, valueIn};
 ghost use Rattle.mavlink_messages.specs.Traffic246.{trafficFormat};
 
 pub fn read(payload: &[u8]) -> Traffic

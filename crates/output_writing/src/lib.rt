@@ -1,7 +1,6 @@
 // What a writer answers: of frames, of bodies and of MAVLink frames.
 ghost use mathlib.Core.Path.{_≡_};
-ghost use Rattle.output_writing.specs.Answers.{writerAnswer};
-ghost use Rattle.output_writing.specs.Numbers.{writtenNumbers};
+ghost use Rattle.output_writing.specs.Writing.{writerAnswer, writtenNumbers};
 
 // A writer's answer. `writerAnswer` of specs/Answers.antt gives the paper's number and values of each case.
 pub enum Written {

@@ -11,7 +11,7 @@ use Rattle.ucp_meanings.specs.declared.Rate.{Rate}
 use Rattle.ucp_meanings.specs.declared.Rate.the-variants.{NoData as NoRate, FeetPerMinute as RateInFeet}
 use Rattle.ucp_meanings.specs.Meanings.{altitudeMeans, rateMeans, geometricMeans, degreesE7}
 use Rattle.field_layout.specs.declared.Text.{Text}
-use Rattle.field_layout.specs.Texts.{textOctets}
+use Rattle.field_layout.specs.Layout.{textOctets}
 use Rattle.text_output.specs.declared.Printing.the-variants.{Escaped}
 use Rattle.text_output.specs.declared.Base.the-variants.{Decimal, Hexadecimal}
 use Rattle.text_output.specs.declared.Scale.{Scale}

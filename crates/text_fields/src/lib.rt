@@ -22,7 +22,7 @@ ghost use Rattle.text_output.specs.Clips.{Clips};
 ghost use Rattle.text_fields.specs.Fields.{unitShown, readingShown, quoted, truth, shown};
 ghost use Rattle.text_fields.specs.Templates.{scaleOf, unitOf, squawkValue, naturalValue, shortValue, longValue, naturalCode, shortCode, longCode, plainPiece, filled};
 
-// What a field's number tells: nothing, where it is the mark for that; or a number of small units.
+// What a field's number says: nothing, where it is the mark for that; or a number of small units.
 pub enum Reading {
     NoData,
     Known(i64),

@@ -12,8 +12,7 @@ use Rattle.mavlink_frame.specs.declared.Lookup.{Lookup}
 use Rattle.mavlink_frame.specs.declared.Lookup.the-variants.{Known, Unknown}
 use Rattle.mavlink_frame.specs.declared.Found.{Found}
 use Rattle.mavlink_frame.specs.declared.Found.the-variants.{Frame, Refused}
-use Rattle.mavlink_frame.specs.Kinds.{mavlinkKind}
-use Rattle.mavlink_frame.specs.Frame.{start}
+use Rattle.mavlink_frame.specs.Frame.{mavlinkKind, start}
 use Rattle.mavlink_frame.specs.Reader.{checkAt, checkDue, foundOf, foundBy, found}
 use Rattle.mavlink_messages.specs.Messages.{payloadRead, readBy}
 use Rattle.text_mavlink_explanation.specs.Decided.{frameRoom, DecidedAtRoom}

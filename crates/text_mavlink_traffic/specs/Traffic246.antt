@@ -4,7 +4,7 @@ use mathlib.Core.List.{List, [], _∷_, _++_}
 use Prim.Native.Nat.{ℕ}
 use lib.Dec.{eqb}
 use lib.IntN.{pos}
-use Rattle.field_layout.specs.Texts.{textOctets}
+use Rattle.field_layout.specs.Layout.{textOctets}
 use Rattle.text_output.specs.declared.Scale.the-variants.{Ones, Hundredths, Thousandths, TenMillionths}
 use Rattle.text_fields.specs.declared.Reading.the-variants.{Known}
 use Rattle.text_fields.specs.declared.Unit.the-variants.{Bare, Seconds, Metres, MetresPerSecond}

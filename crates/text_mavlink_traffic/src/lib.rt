@@ -15,7 +15,7 @@ use text_output::Scale;
 use text_output::TextRoom;
 ghost use mathlib.Core.List.{[], _∷_, _++_};
 ghost use lib.ListN.{take, drop};
-ghost use Rattle.field_layout.specs.Texts.{textOctets};
+ghost use Rattle.field_layout.specs.Layout.{textOctets};
 ghost use Rattle.text_output.specs.Clips.{Clips};
 ghost use Rattle.text_output.specs.Text.{codes};
 ghost use Rattle.text_fields.specs.Fields.{quoted, fieldShown, fieldsShown};

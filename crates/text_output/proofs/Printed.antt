@@ -1,4 +1,4 @@
--- Octets spelled one after the other. Assumes nothing.
+-- Octets printed one after the other. Assumes nothing.
 use mathlib.Core.Path.{_≡_, refl, ap}
 use mathlib.Core.Bool.{Bool, true, false}
 use mathlib.Core.List.{List, [], _∷_}

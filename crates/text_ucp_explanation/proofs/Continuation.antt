@@ -6,7 +6,7 @@ use Prim.Native.Nat.{ℕ}
 use native.Mathlib.Numerals.{add-one}
 use lib.ListN.{length, drop}
 use Rattle.ucp_frame.specs.Stretch.{Verdict, silent, refused, delivered}
-use Rattle.ucp_receiver.specs.declared.Rest.{Rest}
+use Rattle.ucp_receiver.specs.declared.Record.{Record}
 use Rattle.ucp_receiver.specs.declared.Counts.{Counts}
 use Rattle.ucp_receiver.specs.declared.Taken.{Taken}
 use Rattle.ucp_receiver.specs.Octet.{State, stateAfter, verdictDue, countsAfter, stateOf}
@@ -30,10 +30,10 @@ run-onward s c (x ∷ xs) =
     go (refused number) r e = refl
     go (delivered octets) r e = refl
 
-pub takes-onward : {rest : Rest} {counts : Counts} {store line room : List ℕ} {given : Taken} {storeAfter roomAfter : List ℕ}
-    → Takes rest counts store line room given storeAfter roomAfter → length room ≡ bodyRoom
-    → behindAll (stateOf rest store) counts line ≡ behindAll (stateOf (given .rest) storeAfter) (given .counts) (drop (given .taken) line)
-takes-onward {rest} {counts} {store} {line} {room} takes long =
-    let same : sliceRun (stateOf rest store) counts line (length room) ≡ sliceRun (stateOf rest store) counts line bodyRoom = rw long in
-    run-onward (stateOf rest store) counts line
+pub takes-onward : {receiver : Record} {store line room : List ℕ} {given : Taken} {storeAfter roomAfter : List ℕ}
+    → Takes receiver store line room given storeAfter roomAfter → length room ≡ bodyRoom
+    → behindAll (stateOf (receiver .rest) store) (receiver .counts) line ≡ behindAll (stateOf (given .receiver .rest) storeAfter) (given .receiver .counts) (drop (given .taken) line)
+takes-onward {receiver} {store} {line} {room} takes long =
+    let same : sliceRun (stateOf (receiver .rest) store) (receiver .counts) line (length room) ≡ sliceRun (stateOf (receiver .rest) store) (receiver .counts) line bodyRoom = rw long in
+    run-onward (stateOf (receiver .rest) store) (receiver .counts) line
     ∙ (λ i. behindAll (sym (takes .state ∙ ap (λ (r : SliceRun). r .state) same) i) (sym (takes .account ∙ ap (λ (r : SliceRun). r .counts) same) i) (drop (sym (takes .taken ∙ ap (λ (r : SliceRun). r .taken) same) i) line))

@@ -5,7 +5,7 @@ use Prim.Native.Nat.{ℕ, _≤_}
 use native.Mathlib.Omega.{arith}
 use lib.ListN.{length, length-append}
 use Rattle.ucp_frame.specs.Stretch.{Verdict, silent, refused, delivered}
-use Rattle.ucp_messages.specs.Reads.{ReaderAnswer, refused as unread, means, messageDue}
+use Rattle.ucp_messages.specs.Messages.{ReaderAnswer, refused as unread, means, messageDue}
 use Rattle.text_output.specs.Clips.{textRoom}
 use Rattle.text_output.proofs.Numerals.{numeral-most}
 use Rattle.text_output.proofs.Printed.{hex-length}

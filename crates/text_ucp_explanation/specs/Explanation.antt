@@ -4,7 +4,7 @@ use Prim.Native.Nat.{ℕ}
 use lib.ListN.{length}
 use Rattle.ucp_frame.specs.Stretch.{Verdict, silent, refused, delivered}
 use Rattle.text_ucp_listing.specs.Listing.{newline, okWord}
-use Rattle.ucp_messages.specs.Reads.{ReaderAnswer, refused as unread, means, messageDue}
+use Rattle.ucp_messages.specs.Messages.{ReaderAnswer, refused as unread, means, messageDue}
 use Rattle.text_output.specs.declared.Printing.the-variants.{Hex}
 use Rattle.text_output.specs.Text.{codes, printed, natural}
 use Rattle.text_refusals.specs.Refusals.{refusal}

@@ -5,8 +5,7 @@ use ucp_frame::BodyRoom;
 use ucp_messages::Message;
 use ucp_messages::Read;
 use ucp_receiver::Answer;
-use ucp_receiver::Counts;
-use ucp_receiver::Rest;
+use ucp_receiver::Record;
 use ucp_receiver::Store;
 use ucp_receiver::Taken;
 ghost use mathlib.Core.Path.{_≡_};
@@ -15,7 +14,7 @@ ghost use Rattle.ucp_receiver.specs.Answers.{verdictOf};
 ghost use Rattle.text_ucp_listing.specs.Listing.{bodyRoom};
 ghost use Rattle.text_ucp_listing.specs.Steps.{BodyWithin};
 ghost use Rattle.ucp_frame.specs.Stretch.{refused};
-ghost use Rattle.ucp_messages.specs.Reads.{messageDue, means, refused as unread};
+ghost use Rattle.ucp_messages.specs.Messages.{messageDue, means, refused as unread};
 ghost use Rattle.text_output.specs.Clips.{Clips};
 ghost use Rattle.text_ucp_explanation.specs.Explanation.{readLine, explanation};
 ghost use Rattle.text_ucp_explanation.specs.Calls.{ExplainsAnswer};
@@ -76,16 +75,15 @@ pub struct Explained {
 
 // Takes line octets up to the next answer, or all of them, and puts the line of the answer at the start of text.
 pub fn explain_next(
-    rest: Rest,
-    counts: Counts,
+    receiver: Record,
     store: &mut Store,
     room: &mut BodyRoom,
     line: &[u8],
     text: &mut TextRoom,
 ) -> Explained
-    ensures { λ r. ⌜ ExplainsAnswer rest counts (now (store .entry)) (now (room .entry)) (now (line .entry)) (now (text .entry)) r (now (store .exit)) (now (room .exit)) (now (text .exit)) ⌝ }
+    ensures { λ r. ⌜ ExplainsAnswer receiver (now (store .entry)) (now (room .entry)) (now (line .entry)) (now (text .entry)) r (now (store .exit)) (now (room .exit)) (now (text .exit)) ⌝ }
 {
-    let taken = ucp_receiver::slice::receive_slice(rest, counts, store, line, room);
+    let taken = ucp_receiver::slice::receive_slice(receiver, store, line, room);
     let answer = taken.answer;
     let written = put_answer(text, answer, room);
     Explained {

@@ -6,8 +6,7 @@ use lib.ListN.{replicate}
 use Rattle.ucp_receiver.specs.Account.{zeroCounts}
 use Rattle.ucp_receiver.specs.Octet.{fresh, stateAfter, verdictDue, countsAfter, storing}
 use Rattle.ucp_frame.specs.Stretch.{atFlag}
-use Rattle.crc_polynomial.specs.Bits.{bitsOfOctets, bitsOf}
-use Rattle.crc_polynomial.specs.Division.{divided, step, reduced}
+use Rattle.crc_polynomial.specs.Polynomial.{bitsOfOctets, bitsOf, divided, step, reduced}
 use Rattle.crc_gdl90.specs.Check.{frameCheck}
 use Rattle.text_output.specs.Text.{codes, hexDigit, printed, numeral}
 use Rattle.text_ucp_listing.specs.Listing.{okLine, noLine, counted, closingLine}

@@ -11,7 +11,7 @@ use borrow.Author.Tests.{le-ltb, lt-ltb}
 use Rattle.ucp_frame.specs.Stretch.{Verdict, silent, refused, delivered}
 use Rattle.output_writing.specs.Puts.{Puts}
 use Rattle.output_writing.proofs.ToPut.{all-to-put, first-put, last-put}
-use Rattle.ucp_receiver.specs.declared.Rest.{Rest}
+use Rattle.ucp_receiver.specs.declared.Record.{Record}
 use Rattle.ucp_receiver.specs.declared.Counts.{Counts}
 use Rattle.ucp_receiver.specs.declared.Answer.{Answer}
 use Rattle.ucp_receiver.specs.declared.Answer.the-variants.{Nothing, Delivered, Refused}
@@ -129,19 +129,19 @@ none-so-far s c room line first =
 
 -- ---- what a call of the receiver adds
 
-pub takes-within : {rest : Rest} {counts : Counts} {store line room : List ℕ} {given : Taken} {storeAfter roomAfter : List ℕ}
-    → Takes rest counts store line room given storeAfter roomAfter → (given .taken ≤ length line) × (0 < length line → 0 < given .taken)
-takes-within {rest} {counts} {store} {line} {room} takes = (
-  omega (arith, takes .taken, run-within (stateOf rest store) counts line (length room)),
-  λ h. omega (arith, takes .taken, run-moves (stateOf rest store) counts line (length room) h),
+pub takes-within : {receiver : Record} {store line room : List ℕ} {given : Taken} {storeAfter roomAfter : List ℕ}
+    → Takes receiver store line room given storeAfter roomAfter → (given .taken ≤ length line) × (0 < length line → 0 < given .taken)
+takes-within {receiver} {store} {line} {room} takes = (
+  omega (arith, takes .taken, run-within (stateOf (receiver .rest) store) (receiver .counts) line (length room)),
+  λ h. omega (arith, takes .taken, run-moves (stateOf (receiver .rest) store) (receiver .counts) line (length room) h),
 )
 
-module _ (rest : Rest) (counts : Counts) (store line room : List ℕ) (given : Taken) (storeAfter roomAfter : List ℕ)
-    (takes : Takes rest counts store line room given storeAfter roomAfter) (long : length room ≡ bodyRoom) (kept : length roomAfter ≡ length room) where
+module _ (receiver : Record) (store line room : List ℕ) (given : Taken) (storeAfter roomAfter : List ℕ)
+    (takes : Takes receiver store line room given storeAfter roomAfter) (long : length room ≡ bodyRoom) (kept : length roomAfter ≡ length room) where
   abbrev here : SliceRun
-  here = sliceRun (stateOf rest store) counts line bodyRoom
+  here = sliceRun (stateOf (receiver .rest) store) (receiver .counts) line bodyRoom
 
-  ran : sliceRun (stateOf rest store) counts line (length room) ≡ here
+  ran : sliceRun (stateOf (receiver .rest) store) (receiver .counts) line (length room) ≡ here
   ran = rw long
 
   pub body-fits : BodyWithin (given .answer) bodyRoom
@@ -158,8 +158,8 @@ module _ (rest : Rest) (counts : Counts) (store line room : List ℕ) (given : T
           let n : octets ≡ length body = cc in
           omega (arith, simp length-append at (ap length f))
 
-  pub line-told : lineOfAnswer (receiverAnswer (given .answer)) roomAfter ≡ answerLine (here .verdict)
-  line-told =
+  pub answer-line : lineOfAnswer (receiverAnswer (given .answer)) roomAfter ≡ answerLine (here .verdict)
+  answer-line =
       ap (λ (t : ReceiverAnswer). lineOfAnswer t roomAfter) (takes .answers ∙ ap (λ (r : SliceRun). answerFor (r .verdict)) ran)
       ∙ go (here .verdict) (takes .puts ∙ ap (λ (r : SliceRun). outputAtFlag (r .verdict) room) ran)
     where
@@ -175,34 +175,34 @@ after-after m n us vs l =
     λ i. record { state = l .state; counts = l .counts; room = l .room; taken = e i; text = f i }
 
 -- the receiver took octets, and the line of its answer was put
-pub more-so-far : {whole : Lines} {line first : List ℕ} (rest : Rest) (counts : Counts) (store room : List ℕ) {text : List ℕ} (taken at : ℕ)
+pub more-so-far : {whole : Lines} {line first : List ℕ} (receiver : Record) (store room : List ℕ) {text : List ℕ} (taken at : ℕ)
     (given : Taken) (storeAfter roomAfter : List ℕ) {next : ℕ} {last : List ℕ}
-    → SoFar whole line first (stateOf rest store) counts room text taken at
+    → SoFar whole line first (stateOf (receiver .rest) store) (receiver .counts) room text taken at
     → longestLine ≤ length first - at
-    → Takes rest counts store (drop taken line) room given storeAfter roomAfter → length room ≡ bodyRoom → length roomAfter ≡ length room
+    → Takes receiver store (drop taken line) room given storeAfter roomAfter → length room ≡ bodyRoom → length roomAfter ≡ length room
     → PutsLine text at (lineOfAnswer (receiverAnswer (given .answer)) roomAfter) next last
-    → SoFar whole line first (stateOf (given .rest) storeAfter) (given .counts) roomAfter last (taken + given .taken) next
-more-so-far {whole} {line} {first} rest counts store room taken at given storeAfter roomAfter {next} so free takes long kept put =
+    → SoFar whole line first (stateOf (given .receiver .rest) storeAfter) (given .receiver .counts) roomAfter last (taken + given .taken) next
+more-so-far {whole} {line} {first} receiver store room taken at given storeAfter roomAfter {next} so free takes long kept put =
     let xs = drop taken line in
-    let r = sliceRun (stateOf rest store) counts xs bodyRoom in
-    let same = ran rest counts store xs room given storeAfter roomAfter takes long kept in
+    let r = sliceRun (stateOf (receiver .rest) store) (receiver .counts) xs bodyRoom in
+    let same = ran receiver store xs room given storeAfter roomAfter takes long kept in
     let took : r .taken ≡ given .taken = sym (takes .taken ∙ ap (λ (q : SliceRun). q .taken) same) in
     let puts : Puts _ at (answerLine (r .verdict)) next _ =
-    rw (line-told rest counts store xs room given storeAfter roomAfter takes long kept) at (put .puts) in
+    rw (answer-line receiver store xs room given storeAfter roomAfter takes long kept) at (put .puts) in
     let ends : next ≤ length first = omega (arith, put .within, same-long (so .puts)) in
-    let s : r .state ≡ stateOf (given .rest) storeAfter = sym (takes .state ∙ ap (λ (q : SliceRun). q .state) same) in
-    let c : r .counts ≡ given .counts = sym (takes .account ∙ ap (λ (q : SliceRun). q .counts) same) in
+    let s : r .state ≡ stateOf (given .receiver .rest) storeAfter = sym (takes .state ∙ ap (λ (q : SliceRun). q .state) same) in
+    let c : r .counts ≡ given .receiver .counts = sym (takes .account ∙ ap (λ (q : SliceRun). q .counts) same) in
     let o : outputAtFlag (r .verdict) room ≡ roomAfter = sym (takes .puts ∙ ap (λ (q : SliceRun). outputAtFlag (q .verdict) room) same) in
     let d : drop (r .taken) xs ≡ drop (taken + given .taken) line = drop-drop (r .taken) taken line ∙ ap (λ (n : ℕ). drop (taken + n) line) took in
     let f : length first - at - length (answerLine (r .verdict)) ≡ length first - next = omega (arith, puts .ends) in
     record {
-      within = omega (arith, took, run-within (stateOf rest store) counts xs bodyRoom, length-drop taken line, so .within);
+      within = omega (arith, took, run-within (stateOf (receiver .rest) store) (receiver .counts) xs bodyRoom, length-drop taken line, so .within);
       ends = ends;
       done = so .done ++ answerLine (r .verdict);
       puts = puts-both (so .puts) puts ends;
       makes =
           so .makes
-          ∙ ap (after taken (so .done)) (lines-run (stateOf rest store) counts room xs (length first - at) free)
+          ∙ ap (after taken (so .done)) (lines-run (stateOf (receiver .rest) store) (receiver .counts) room xs (length first - at) free)
           ∙ after-after taken (r .taken) (so .done) (answerLine (r .verdict)) _
           ∙ (λ i. after (taken + took i) (so .done ++ answerLine (r .verdict)) (lines (s i) (c i) (o i) (d i) (f i)));
     }
@@ -219,14 +219,14 @@ unfolding lines
 text-full s c room [] free h = refl
 text-full s c room (x ∷ xs) free h = rw (lt-ltb free longestLine h)
 
-pub all-so-far : (rest : Rest) (counts : Counts) (store room line first : List ℕ) (given : Listed) (storeAfter roomAfter : List ℕ) {text : List ℕ}
-    → SoFar (lines (stateOf rest store) counts room line (length first)) line first (stateOf (given .rest) storeAfter) (given .counts) roomAfter text (given .taken) (given .written)
-    → lines (stateOf (given .rest) storeAfter) (given .counts) roomAfter (drop (given .taken) line) (length first - given .written)
-    ≡ noLines (stateOf (given .rest) storeAfter) (given .counts) roomAfter
-    → Lists rest counts store room line first given storeAfter roomAfter text
-all-so-far rest counts store room line first given storeAfter roomAfter so none =
+pub all-so-far : (receiver : Record) (store room line first : List ℕ) (given : Listed) (storeAfter roomAfter : List ℕ) {text : List ℕ}
+    → SoFar (lines (stateOf (receiver .rest) store) (receiver .counts) room line (length first)) line first (stateOf (given .receiver .rest) storeAfter) (given .receiver .counts) roomAfter text (given .taken) (given .written)
+    → lines (stateOf (given .receiver .rest) storeAfter) (given .receiver .counts) roomAfter (drop (given .taken) line) (length first - given .written)
+    ≡ noLines (stateOf (given .receiver .rest) storeAfter) (given .receiver .counts) roomAfter
+    → Lists receiver store room line first given storeAfter roomAfter text
+all-so-far receiver store room line first given storeAfter roomAfter so none =
     let e = sym (so .makes ∙ ap (after (given .taken) (so .done)) none) in
-    let all : so .done ≡ lines (stateOf rest store) counts room line (length first) .text =
+    let all : so .done ≡ lines (stateOf (receiver .rest) store) (receiver .counts) room line (length first) .text =
     sym (append-nil (so .done)) ∙ ap (λ (l : Lines). l .text) e in
     record {
       state = ap (λ (l : Lines). l .state) e;

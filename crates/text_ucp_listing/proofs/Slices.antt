@@ -9,7 +9,7 @@ use native.Mathlib.Omega.{arith}
 use lib.Dec.{ltb}
 use lib.ListN.{length, drop}
 use borrow.Author.Tests.{le-ltb}
-use Rattle.ucp_receiver.specs.declared.Rest.{Rest}
+use Rattle.ucp_receiver.specs.declared.Record.{Record}
 use Rattle.ucp_receiver.specs.declared.Counts.{Counts}
 use Rattle.ucp_receiver.specs.Answers.{outputAtFlag}
 use Rattle.ucp_receiver.specs.Octet.{State, stateAfter, countsAfter, verdictDue, stateOf}
@@ -53,25 +53,25 @@ unfolding lines
 moves s c room [] free h k = absurd (omega arith)
 moves s c room (x ∷ xs) free h k = rw (le-ltb free longestLine h) (omega arith)
 
-module _ {rest : Rest} {counts : Counts} {store room line text : List ℕ} {given : Listed} {storeAfter roomAfter textAfter : List ℕ}
-    (l : Lists rest counts store room line text given storeAfter roomAfter textAfter) where
+module _ {receiver : Record} {store room line text : List ℕ} {given : Listed} {storeAfter roomAfter textAfter : List ℕ}
+    (l : Lists receiver store room line text given storeAfter roomAfter textAfter) where
   pub lists-within : given .taken ≤ length line
-  lists-within = omega (arith, l .taken, onward (stateOf rest store) counts room line (length text) .within)
+  lists-within = omega (arith, l .taken, onward (stateOf (receiver .rest) store) (receiver .counts) room line (length text) .within)
 
   pub lists-moves : longestLine ≤ length text → 0 < length line → 0 < given .taken
-  lists-moves h k = omega (arith, l .taken, moves (stateOf rest store) counts room line (length text) h k)
+  lists-moves h k = omega (arith, l .taken, moves (stateOf (receiver .rest) store) (receiver .counts) room line (length text) h k)
 
-  pub lists-onward : behindAll (stateOf rest store) counts line
-      ≡ behindAll (stateOf (given .rest) storeAfter) (given .counts) (drop (given .taken) line)
+  pub lists-onward : behindAll (stateOf (receiver .rest) store) (receiver .counts) line
+      ≡ behindAll (stateOf (given .receiver .rest) storeAfter) (given .receiver .counts) (drop (given .taken) line)
   lists-onward =
-      onward (stateOf rest store) counts room line (length text) .same
+      onward (stateOf (receiver .rest) store) (receiver .counts) room line (length text) .same
       ∙ (λ i. behindAll (sym (l .state) i) (sym (l .account) i) (drop (sym (l .taken) i) line))
 
   -- the text of this call, and then the lines of the octets that are left: so the texts of calls one after the other, until
   -- all octets are taken, are the lines of the whole slice
-  pub lists-text : everyLine (stateOf rest store) counts line
-      ≡ lines (stateOf rest store) counts room line (length text) .text
-      ++ everyLine (stateOf (given .rest) storeAfter) (given .counts) (drop (given .taken) line)
+  pub lists-text : everyLine (stateOf (receiver .rest) store) (receiver .counts) line
+      ≡ lines (stateOf (receiver .rest) store) (receiver .counts) room line (length text) .text
+      ++ everyLine (stateOf (given .receiver .rest) storeAfter) (given .receiver .counts) (drop (given .taken) line)
   lists-text =
-      onward (stateOf rest store) counts room line (length text) .text
-      ∙ (λ i. lines (stateOf rest store) counts room line (length text) .text ++ everyLine (sym (l .state) i) (sym (l .account) i) (drop (sym (l .taken) i) line))
+      onward (stateOf (receiver .rest) store) (receiver .counts) room line (length text) .text
+      ∙ (λ i. lines (stateOf (receiver .rest) store) (receiver .counts) room line (length text) .text ++ everyLine (sym (l .state) i) (sym (l .account) i) (drop (sym (l .taken) i) line))

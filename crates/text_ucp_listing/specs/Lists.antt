@@ -6,7 +6,7 @@ use Prim.Native.Nat.{ℕ, _+_, _-_, _≤_}
 use lib.Dec.{ltb, leb}
 use lib.ListN.{length}
 use Rattle.output_writing.specs.Puts.{Puts}
-use Rattle.ucp_receiver.specs.declared.Rest.{Rest}
+use Rattle.ucp_receiver.specs.declared.Record.{Record}
 use Rattle.ucp_receiver.specs.declared.Counts.{Counts}
 use Rattle.ucp_receiver.specs.Answers.{outputAtFlag}
 use Rattle.ucp_receiver.specs.Octet.{State, stateOf, stateAfter, verdictDue, countsAfter}
@@ -52,13 +52,13 @@ lines s c room (x ∷ xs) free =
     cond (ltb free longestLine) (noLines s c room) more
 
 -- one call, whole: the record, the room, the slice and the text as at entry; what is given back, and what was lent as at return
-pub record Lists (rest : Rest) (counts : Counts) (store room line text : List ℕ)
+pub record Lists (receiver : Record) (store room line text : List ℕ)
     (given : Listed) (storeAfter roomAfter textAfter : List ℕ) : Type 0 where
-  pub state : stateOf (given .rest) storeAfter ≡ lines (stateOf rest store) counts room line (length text) .state
-  pub account : given .counts ≡ lines (stateOf rest store) counts room line (length text) .counts
-  pub holds : roomAfter ≡ lines (stateOf rest store) counts room line (length text) .room
-  pub taken : given .taken ≡ lines (stateOf rest store) counts room line (length text) .taken
-  pub puts : Puts text 0 (lines (stateOf rest store) counts room line (length text) .text) (given .written) textAfter
+  pub state : stateOf (given .receiver .rest) storeAfter ≡ lines (stateOf (receiver .rest) store) (receiver .counts) room line (length text) .state
+  pub account : given .receiver .counts ≡ lines (stateOf (receiver .rest) store) (receiver .counts) room line (length text) .counts
+  pub holds : roomAfter ≡ lines (stateOf (receiver .rest) store) (receiver .counts) room line (length text) .room
+  pub taken : given .taken ≡ lines (stateOf (receiver .rest) store) (receiver .counts) room line (length text) .taken
+  pub puts : Puts text 0 (lines (stateOf (receiver .rest) store) (receiver .counts) room line (length text) .text) (given .written) textAfter
   pub within : given .written ≤ length text
 
 -- ---- whole slices

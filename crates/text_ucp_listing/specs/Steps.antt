@@ -8,13 +8,13 @@ use Rattle.ucp_receiver.specs.declared.Answer.the-variants.{Nothing, Delivered,
 use Rattle.ucp_receiver.specs.Answers.{ReceiverAnswer, nothing, refusal, body}
 use Rattle.text_ucp_listing.specs.Listing.{okLine, noLine}
 
--- the line of an answer as the receiver tells it, a body by its length and where it stands
+-- the line of an answer as the receiver gives it, a body by its length and where it stands
 abbrev pub lineOfAnswer : ReceiverAnswer → List ℕ → List ℕ
 lineOfAnswer nothing room = []
 lineOfAnswer (refusal number) room = noLine number
 lineOfAnswer (body octets) room = okLine (take octets room)
 
--- a body that an answer tells is within the room
+-- a body that an answer gives is within the room
 abbrev pub BodyWithin : Answer → ℕ → Type 0
 BodyWithin Nothing room = Unit
 BodyWithin (Refused number) room = Unit

@@ -2,7 +2,7 @@
 use ucp_frame::BodyRoom;
 use ucp_receiver::Answer;
 use ucp_receiver::Counts;
-use ucp_receiver::Rest;
+use ucp_receiver::Record;
 use ucp_receiver::Store;
 ghost use mathlib.Core.Path.{_≡_};
 ghost use mathlib.Core.List.{[], _∷_};
@@ -106,8 +106,7 @@ fn put_answer(text: &mut [u8], at: usize, answer: Answer, room: &[u8]) -> usize
 
 // What a call of list_some gives back: `taken` octets of the line were taken, and `written` octets of text are at its start.
 pub struct Listed {
-    pub rest: Rest,
-    pub counts: Counts,
+    pub receiver: Record,
     pub taken: usize,
     pub written: usize,
 }
@@ -115,33 +114,29 @@ pub struct Listed {
 // Takes line octets and puts a line at the start of text for each answer. It stops at the end of line, or where the longest
 // line, 1317 octets, might not fit behind the last one: the caller then writes the text out and calls again.
 pub fn list_some(
-    rest: Rest,
-    counts: Counts,
+    receiver: Record,
     store: &mut Store,
     room: &mut BodyRoom,
     line: &[u8],
     text: &mut [u8],
 ) -> Listed
-    ensures { λ r. ⌜ Lists rest counts (now (store .entry)) (now (room .entry)) (now (line .entry)) (now (text .entry)) r (now (store .exit)) (now (room .exit)) (now (text .exit)) ⌝ }
+    ensures { λ r. ⌜ Lists receiver (now (store .entry)) (now (room .entry)) (now (line .entry)) (now (text .entry)) r (now (store .exit)) (now (room .exit)) (now (text .exit)) ⌝ }
 {
-    let mut rest = rest;
-    let mut counts = counts;
+    let mut receiver = receiver;
     let mut taken = 0;
     let mut at = 0;
     while taken < line.len() {
         if text.len() - at < 1317 {
             break;
         }
-        let t = ucp_receiver::slice::receive_slice(rest, counts, store, &line[taken..], room);
-        rest = t.rest;
-        counts = t.counts;
+        let t = ucp_receiver::slice::receive_slice(receiver, store, &line[taken..], room);
+        receiver = t.receiver;
         taken += t.taken;
         let answer = t.answer;
         at = put_answer(text, at, answer, room);
     }
     Listed {
-        rest: rest,
-        counts: counts,
+        receiver: receiver,
         taken: taken,
         written: at,
     }

@@ -7,14 +7,13 @@ use native.Mathlib.Omega.{arith}
 use borrow.Author.Tests.{le-ltb, ne-eqb}
 use lib.ListN.{length, getD, take, drop, length-append, length-drop, take-append-drop}
 use lib.Seq.{take-at, drop-cons, drop-drop, take-add, getD-append-add, length-take-le}
-use Rattle.crc_polynomial.specs.Bits.{Octets}
+use Rattle.crc_polynomial.specs.Polynomial.{Octets}
 use Rattle.crc_x25.specs.Check.{x25, x25Octets}
 use Rattle.mavlink_frame.specs.declared.Kind.{Kind}
 use Rattle.mavlink_frame.specs.declared.Header.{Header}
 use Rattle.mavlink_frame.specs.declared.Lookup.the-variants.{Known}
 use Rattle.mavlink_frame.specs.declared.Found.the-variants as found-as
-use Rattle.mavlink_frame.specs.Kinds.{mavlinkKind}
-use Rattle.mavlink_frame.specs.Frame.{headerOctets, covered, mavlinkFrame}
+use Rattle.mavlink_frame.specs.Frame.{mavlinkKind, headerOctets, covered, mavlinkFrame}
 use Rattle.mavlink_frame.specs.Reader.{payloadAt, checkAt, checkDue, found}
 use Rattle.mavlink_frame.proofs.reader.Tests.{right}
 use Rattle.mavlink_frame.proofs.reader.Accepted.{Accepted}

@@ -8,18 +8,17 @@ use borrow.Author.Tests.{eqb-true, eq-eqb, le-ltb}
 use lib.Dec.{eqb, ltb}
 use lib.ListN.{length, take, drop}
 use lib.Seq.{take-at, getD-drop}
-use Rattle.field_format.specs.Formats.{bodyOf, valueIn}
-use Rattle.crc_polynomial.specs.Bits.{Octets}
+use Rattle.field_format.specs.Format.{bodyOf, valueIn}
+use Rattle.crc_polynomial.specs.Polynomial.{Octets}
 use Rattle.output_writing.specs.declared.Written.{Written}
 use Rattle.output_writing.specs.declared.Written.the-variants.{Wrote, Refused}
-use Rattle.output_writing.specs.Answers.{refused, wrote, writerAnswer, outputAfter, Writing}
+use Rattle.output_writing.specs.Writing.{refused, wrote, writerAnswer, outputAfter, Writing}
 use Rattle.mavlink_frame.specs.declared.Kind.{Kind}
 use Rattle.mavlink_frame.specs.declared.Header.{Header}
 use Rattle.mavlink_frame.specs.declared.Lookup.the-variants.{Known}
 use Rattle.mavlink_frame.specs.declared.Found.{Found}
 use Rattle.mavlink_frame.specs.declared.Found.the-variants as found-as
-use Rattle.mavlink_frame.specs.Kinds.{kind, mavlinkKind}
-use Rattle.mavlink_frame.specs.Frame.{mavlinkFrame}
+use Rattle.mavlink_frame.specs.Frame.{kind, mavlinkKind, mavlinkFrame}
 use Rattle.mavlink_frame.specs.Reader.{payloadAt, found}
 use Rattle.mavlink_frame.specs.Writer.{roomFor, frameBy}
 use Rattle.mavlink_frame.proofs.reader.Accepted.{Accepted, accepted}

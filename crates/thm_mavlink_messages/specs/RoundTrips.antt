@@ -3,11 +3,11 @@ use mathlib.Core.Path.{_≡_}
 use mathlib.Core.List.{List, _++_}
 use Prim.Native.Nat.{ℕ, _≤_}
 use lib.ListN.{length, take, drop}
-use Rattle.crc_polynomial.specs.Bits.{Octets}
-use Rattle.field_format.specs.Formats.{TypedAs}
+use Rattle.crc_polynomial.specs.Polynomial.{Octets}
+use Rattle.field_format.specs.Format.{TypedAs}
 use Rattle.output_writing.specs.declared.Written.{Written}
 use Rattle.output_writing.specs.declared.Written.the-variants.{Wrote}
-use Rattle.output_writing.specs.Answers.{Writing}
+use Rattle.output_writing.specs.Writing.{Writing}
 use Rattle.mavlink_frame.specs.declared.Header.{Header}
 use Rattle.mavlink_messages.specs.declared.Failures.{Failures}
 use Rattle.mavlink_messages.specs.declared.Message.{Message}

@@ -1,12 +1,9 @@
 -- The frames, by computation. Assumes nothing.
 use mathlib.Core.Path.{refl}
-use Rattle.crc_polynomial.specs.Bits.{bitsOfOctets, bitsOf}
-use Rattle.crc_polynomial.specs.Division.{divided, step, reduced}
+use Rattle.crc_polynomial.specs.Polynomial.{bitsOfOctets, bitsOf, divided, step, reduced}
 use Rattle.crc_gdl90.specs.Check.{frameCheck}
-use Rattle.ucp_frame.specs.Stuffing.{escaped, stuffed}
-use Rattle.ucp_frame.specs.Frame.{frame}
-use Rattle.ucp_frame.specs.Unstuffing.{unstuffed}
-use Rattle.ucp_frame.specs.Stretch.{atFlag, judged, verdict}
+use Rattle.ucp_frame.specs.Frame.{escaped, stuffed, frame}
+use Rattle.ucp_frame.specs.Stretch.{unstuffed, atFlag, judged, verdict}
 use Rattle.ucp_history.specs.History.{cutAtFlags, closingVerdict, answer}
 use Rattle.ucp_receiver.specs.Octet.{storing, stateAfter, verdictDue, countsAfter}
 use Rattle.ucp_receiver.specs.Slice.{sliceRun}

@@ -14,9 +14,9 @@ use Rattle.thm_ucp_messages.proofs.ReadBack.{written-reads-back}
 use Rattle.thm_ucp_receiver.specs.Promises.{AnswersAs, frameAnswer}
 use Rattle.thm_ucp_receiver.proofs.Frames.{frame-is-put-out}
 use Rattle.ucp_messages.specs.declared.Message.{Message}
-use Rattle.ucp_messages.specs.Bodies.{messageFits, messageBody}
+use Rattle.ucp_messages.specs.Messages.{messageFits, messageBody}
 use Rattle.ucp_send.specs.Sends.{sendDue}
-use Rattle.output_writing.specs.Answers.{refused, wrote, outputAfter}
+use Rattle.output_writing.specs.Writing.{refused, wrote, outputAfter}
 use Rattle.thm_ucp_messages.specs.Delivery.{SentIsDelivered}
 
 -- an accepted call: the fields fit, and the frame writer accepted the body

@@ -4,7 +4,7 @@ use native.Mathlib.Omega.{arith}
 use borrow.Author.Tests.{eqb-true}
 use lib.ListN.{length}
 use Rattle.ucp_answers.specs.Refusals.{refusalBy}
-use Rattle.field_format.specs.Formats.{bodyOf}
+use Rattle.field_format.specs.Format.{bodyOf}
 use Rattle.ucp_answers.proofs.RoundTrips as formats
 use Rattle.ucp_kinds.specs.Heartbeat0.{heartbeatFormat}
 use Rattle.ucp_kinds.specs.Uplink7.{uplinkFits}
@@ -16,8 +16,7 @@ use Rattle.ucp_kinds.specs.Control45.{controlFormat}
 use Rattle.ucp_kinds.specs.Initialization117.{initializationFormat}
 use Rattle.ucp_messages.specs.declared.Message.the-variants.{Heartbeat, Uplink, Ownship, GeometricAltitude, Traffic, Request, Control, Initialization}
 use Rattle.ucp_messages.specs.Kinds.{kindOf}
-use Rattle.ucp_messages.specs.Reads.{means, refused, answerAs}
-use Rattle.ucp_messages.specs.Bodies.{messageFits, messageBody}
+use Rattle.ucp_messages.specs.Messages.{means, refused, answerAs, messageFits, messageBody}
 use Rattle.thm_ucp_messages.specs.RoundTrips.{MessageReadsBack, UplinkReadsBack}
 
 pub written-reads-back : MessageReadsBack

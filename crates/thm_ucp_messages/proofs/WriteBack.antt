@@ -8,8 +8,8 @@ use native.Mathlib.Omega.{arith}
 use borrow.Author.Tests.{eqb-true, eq-eqb}
 use lib.Dec.{eqb}
 use lib.ListN.{length, getD, drop, length-drop}
-use Rattle.crc_polynomial.specs.Bits.{Octets}
-use Rattle.field_format.specs.Formats.{Format, Right, HasId, fits, bodyOf, valueIn}
+use Rattle.crc_polynomial.specs.Polynomial.{Octets}
+use Rattle.field_format.specs.Format.{Format, Right, HasId, fits, bodyOf, valueIn}
 use Rattle.ucp_answers.specs.Refusals.{refusalOf, reads}
 use Rattle.ucp_answers.proofs.RoundTrips as formats
 use Rattle.ucp_messages.specs.declared.Kind.{Kind}
@@ -25,8 +25,7 @@ use Rattle.ucp_kinds.specs.Request44.{requestFormat}
 use Rattle.ucp_kinds.specs.Control45.{controlFormat}
 use Rattle.ucp_kinds.specs.Initialization117.{initializationFormat}
 use Rattle.ucp_messages.specs.Kinds.{kindOf, kindIn}
-use Rattle.ucp_messages.specs.Reads.{means, refused, meansUnlessRefused, answerAs}
-use Rattle.ucp_messages.specs.Bodies.{messageFits, messageBody}
+use Rattle.ucp_messages.specs.Messages.{means, refused, meansUnlessRefused, answerAs, messageFits, messageBody}
 use Rattle.thm_ucp_messages.specs.RoundTrips.{MessageWritesBack}
 
 -- ---- the ID of a kind

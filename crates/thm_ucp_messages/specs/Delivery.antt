@@ -10,11 +10,10 @@ use Rattle.thm_ucp_messages.specs.Typed.{MessageTyped}
 use Rattle.thm_ucp_receiver.specs.Line.{Observed, upTo, Line}
 use Rattle.thm_ucp_receiver.specs.Promises.{AnswersAs, EndsIn}
 use Rattle.ucp_messages.specs.declared.Message.{Message}
-use Rattle.ucp_messages.specs.Bodies.{messageBody}
-use Rattle.ucp_messages.specs.Reads.{means, messageDue}
+use Rattle.ucp_messages.specs.Messages.{messageBody, means, messageDue}
 use Rattle.ucp_send.specs.Sends.{Sends}
 use Rattle.output_writing.specs.declared.Written.{Written}
-use Rattle.output_writing.specs.Answers.{wrote, writerAnswer}
+use Rattle.output_writing.specs.Writing.{wrote, writerAnswer}
 
 -- where a line, whatever it brought before, ends in the octets that an accepted call to the sender wrote, and the room is 436
 -- octets or more: the last call delivers a body, and the body means the message

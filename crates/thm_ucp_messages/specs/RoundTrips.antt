@@ -4,11 +4,10 @@ use mathlib.Core.Bool.{true}
 use mathlib.Core.List.{List}
 use Prim.Native.Nat.{ℕ}
 use lib.ListN.{drop}
-use Rattle.crc_polynomial.specs.Bits.{Octets}
+use Rattle.crc_polynomial.specs.Polynomial.{Octets}
 use Rattle.ucp_messages.specs.declared.Message.{Message}
 use Rattle.ucp_messages.specs.declared.Message.the-variants.{Uplink}
-use Rattle.ucp_messages.specs.Reads.{means, messageDue}
-use Rattle.ucp_messages.specs.Bodies.{messageFits, messageBody}
+use Rattle.ucp_messages.specs.Messages.{means, messageDue, messageFits, messageBody}
 use Rattle.thm_ucp_messages.specs.Typed.{MessageTyped}
 
 -- the body of a message whose fields fit reads back as that message

@@ -1,8 +1,8 @@
 -- A message is a value of its type: each number is one that its type holds. Of the numbers that a writer tests for their width
 -- nothing is said. Assumes nothing.
-use Rattle.field_format.specs.Formats.{TypedAs}
+use Rattle.field_format.specs.Format.{TypedAs}
 use Rattle.ucp_messages.specs.declared.Message.{Message}
-use Rattle.ucp_messages.specs.Formats.{Carried, value, payload, carriedBy}
+use Rattle.ucp_messages.specs.Messages.{Carried, value, payload, carriedBy}
 
 abbrev TypedCarried : Carried → Type 0
 TypedCarried (value f a) = TypedAs f a

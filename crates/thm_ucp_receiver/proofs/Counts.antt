@@ -8,9 +8,8 @@ use native.Mathlib.Nat.{add-mod, add-zero, mod-add-mod}
 use lib.Dec.{eqb, ltb}
 use lib.ListN.{length, take, length-append}
 use borrow.Author.Tests.{eqb-true, eqb-false}
-use Rattle.ucp_frame.specs.Stuffing.{flag}
-use Rattle.ucp_frame.specs.Unstuffing.{Ending, whole, escapeLast, badEscape, Unstuffed, unstuffed}
-use Rattle.ucp_frame.specs.Stretch.{Verdict, silent, refused, delivered, storeOctets}
+use Rattle.ucp_frame.specs.Frame.{flag}
+use Rattle.ucp_frame.specs.Stretch.{Ending, whole, escapeLast, badEscape, Unstuffed, unstuffed, Verdict, silent, refused, delivered, storeOctets}
 use Rattle.ucp_history.specs.History.{Call, Segment, cutAtFlags, closingVerdict, ifDelivered, ifRefused, overClosed, sinceLast, Account, account}
 use Rattle.ucp_receiver.specs.declared.Phase.the-variants.{Hunting, TooLong}
 use Rattle.ucp_receiver.specs.declared.Counts.{Counts}

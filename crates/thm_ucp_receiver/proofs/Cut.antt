@@ -7,7 +7,7 @@ use native.Mathlib.Omega.{arith}
 use lib.Dec.{eqb}
 use lib.ListN.{length}
 use borrow.Author.Tests.{eqb-true, eqb-false, eq-eqb, ne-eqb}
-use Rattle.ucp_frame.specs.Stuffing.{flag}
+use Rattle.ucp_frame.specs.Frame.{flag}
 use Rattle.ucp_frame.specs.Stretch.{Verdict, silent, refused, delivered, verdict}
 use Rattle.ucp_frame.proofs.Stuffing.{FlagFree, flag-free-cons}
 use Rattle.ucp_history.specs.History.{Call, Segment, Cut, cutAtFlags, closingVerdict, ifDelivered, ifRefused, overClosed, sinceLast, account}

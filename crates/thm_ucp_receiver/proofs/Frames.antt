@@ -9,20 +9,17 @@ use lib.Dec.{eqb}
 use lib.ListN.{length, take, drop, getD}
 use lib.Seq.{getD-append-add, take-append-seam}
 use borrow.Author.Tests.{eqb-true, eq-eqb, ne-eqb}
-use Rattle.crc_polynomial.specs.Bits.{Octets}
+use Rattle.crc_polynomial.specs.Polynomial.{Octets}
 use Rattle.crc_gdl90.specs.Check.{frameCheck, frameCheckOctets}
-use Rattle.ucp_frame.specs.Stuffing.{flag, stuffed}
-use Rattle.ucp_frame.specs.Frame.{frame}
+use Rattle.ucp_frame.specs.Frame.{flag, stuffed, frame}
 use Rattle.ucp_frame.specs.Stretch.{Verdict, silent, refused, delivered, verdict}
 use Rattle.ucp_frame.proofs.Stuffing.{FlagFree, stuffed-flag-free}
 use Rattle.ucp_frame.proofs.Frame.{append-injective}
 use Rattle.ucp_frame.proofs.Unstuffing.{octets-cons}
 use Rattle.ucp_history.specs.History.{Call, Segment, closingVerdict, answer}
-use Rattle.ucp_receiver.specs.declared.Rest.{Rest}
-use Rattle.ucp_receiver.specs.declared.Counts.{Counts}
+use Rattle.ucp_receiver.specs.declared.Record.{Record}
 use Rattle.ucp_receiver.specs.Answers.{body, answerFor, outputAtFlag}
-use Rattle.ucp_receiver.specs.Account.{zeroCounts}
-use Rattle.ucp_receiver.specs.Octet.{noOctets, freshRest}
+use Rattle.ucp_receiver.specs.Octet.{noOctets, freshRecord}
 use Rattle.thm_ucp_receiver.specs.Line.{Observed, callOf, Runs}
 use Rattle.thm_ucp_receiver.specs.Promises.{AnswersAs, EndsIn, BodyLength, DeliveredIsFrame, FrameIsDelivered, frameAnswer, PutOutIsFrame, FrameIsPutOut, carrying, WrongCheckRefused}
 use Rattle.thm_ucp_receiver.proofs.Stretch.{delivered-answers, carried, is-frame}
@@ -74,12 +71,12 @@ delivered-is-frame before c b o = by-octet (eqb (c .octet) flag) refl
     by-octet false e d = absurd (delivered-answers b (sym d ∙ rw e))
 
 -- every octet of a line is one
-line-octets : (before os : List Observed) (rest : Rest) (counts : Counts) (store : List ℕ) → Runs rest counts store (before ++ os)
+line-octets : (before os : List Observed) (receiver : Record) (store : List ℕ) → Runs receiver store (before ++ os)
     → Octets (octetsOf (map callOf before))
-line-octets [] os rest counts store r = λ i. omega arith
-line-octets (o ∷ before) os rest counts store r =
+line-octets [] os receiver store r = λ i. omega arith
+line-octets (o ∷ before) os receiver store r =
     octets-cons (o .octet) (octetsOf (map callOf before)) (r .0)
-    (line-octets before os (o .given .rest) (o .given .counts) (o .storeAfter) (r .2))
+    (line-octets before os (o .given .receiver) (o .storeAfter) (r .2))
 
 pub put-out-is-frame : PutOutIsFrame
 put-out-is-frame before after o octets l k = go (answer calls (callOf o)) refl (sym (a .tells) ∙ k) (a .puts)
@@ -97,7 +94,7 @@ put-out-is-frame before after o octets l k = go (answer calls (callOf o)) refl (
     go (delivered b) e t p =
         let n : octets ≡ length b = cc in
         let w : take octets (o .outputThen) ≡ b = ap₂ take n p ∙ take-append-seam b (drop (length b) (o .output)) in
-        rw w (delivered-is-frame calls (callOf o) b (line-octets before (o ∷ after) freshRest zeroCounts noOctets l) e)
+        rw w (delivered-is-frame calls (callOf o) b (line-octets before (o ∷ after) freshRecord noOctets l) e)
 
 -- ---- the frame at the end of a line
 

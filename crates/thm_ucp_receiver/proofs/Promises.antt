@@ -7,11 +7,11 @@ use native.Mathlib.Nat.{add-mod, add-mod-mod, mod-mod}
 use lib.ListN.{length, drop}
 use lib.Seq.{take-append-seam}
 use borrow.Author.Tests.{eq-eqb}
-use Rattle.ucp_frame.specs.Stuffing.{flag}
+use Rattle.ucp_frame.specs.Frame.{flag}
 use Rattle.ucp_frame.specs.Stretch.{Verdict, silent, refused, delivered}
 use Rattle.ucp_history.specs.History.{Call, cutAtFlags, answer, overClosed, sinceLast, Account, account}
-use Rattle.ucp_receiver.specs.declared.Rest.{Rest}
 use Rattle.ucp_receiver.specs.declared.Counts.{Counts}
+use Rattle.ucp_receiver.specs.declared.Record.{Record}
 use Rattle.ucp_receiver.specs.Answers.{ReceiverAnswer, answerFor, outputAtFlag}
 use Rattle.ucp_receiver.specs.Octet.{State, afterFlag, stateAfter, verdictDue, countsAfter}
 use Rattle.thm_ucp_receiver.specs.Line.{Observed, callOf, upTo, Meets, Runs, Line}
@@ -22,14 +22,14 @@ use Rattle.thm_ucp_receiver.proofs.Counts.{counted, stands-counts}
 
 -- ---- the record after a history
 
-record At (h : List Call) (rest : Rest) (counts : Counts) (store : List ℕ) : Type 0 where
-  stands : Stands h (record { rest = rest; store = store })
-  tally : counts ≡ counted (account h)
+record At (h : List Call) (receiver : Record) (store : List ℕ) : Type 0 where
+  stands : Stands h (record { rest = receiver .rest; store = store })
+  tally : receiver .counts ≡ counted (account h)
 
-next : (h : List Call) {rest : Rest} {counts : Counts} {store : List ℕ} (o : Observed) → At h rest counts store → Meets rest counts store o
-    → At (h ++ (callOf o ∷ [])) (o .given .rest) (o .given .counts) (o .storeAfter)
-next h {rest} {store = store} o a r =
-    let s : State = record { rest = rest; store = store } in
+next : (h : List Call) {receiver : Record} {store : List ℕ} (o : Observed) → At h receiver store → Meets receiver store o
+    → At (h ++ (callOf o ∷ [])) (o .given .receiver) (o .storeAfter)
+next h {receiver} {store} o a r =
+    let s : State = record { rest = receiver .rest; store = store } in
     record {
       stands = subst (Stands (h ++ (callOf o ∷ []))) (sym (r .state)) (stands-next h s (callOf o) (a .stands));
       tally =
@@ -39,15 +39,14 @@ next h {rest} {store = store} o a r =
 
 -- the record that a part of a line leads to, and the rest of the line from there
 record Come (h : List Call) (os : List Observed) : Type 0 where
-  rest : Rest
-  counts : Counts
+  receiver : Record
   store : List ℕ
-  at : At h rest counts store
-  runs : Runs rest counts store os
+  at : At h receiver store
+  runs : Runs receiver store os
 
-come : (h : List Call) (before os : List Observed) {rest : Rest} {counts : Counts} {store : List ℕ}
-    → At h rest counts store → Runs rest counts store (before ++ os) → Come (h ++ map callOf before) os
-come h [] os a r = rw append-nil (record { rest = _; counts = _; store = _; at = a; runs = r })
+come : (h : List Call) (before os : List Observed) {receiver : Record} {store : List ℕ}
+    → At h receiver store → Runs receiver store (before ++ os) → Come (h ++ map callOf before) os
+come h [] os a r = rw append-nil (record { receiver = _; store = _; at = a; runs = r })
 come h (o ∷ before) os a r =
     rw append-assoc at (come (h ++ (callOf o ∷ [])) before os (next h o a (r .1)) (r .2))
 
@@ -67,7 +66,7 @@ answers before after o l =
     }
 
 after-call : (before after : List Observed) (o : Observed) → Line (before ++ o ∷ after)
-    → At (upTo before o) (o .given .rest) (o .given .counts) (o .storeAfter)
+    → At (upTo before o) (o .given .receiver) (o .storeAfter)
 after-call before after o l = let k = arrive before (o ∷ after) l in next (map callOf before) o (k .at) (k .runs .1)
 
 -- a count that has run round adds up to the same
@@ -100,7 +99,7 @@ counts before after o l =
     a : Account
     a = account calls
 
-    t : o .given .counts ≡ counted (account calls)
+    t : o .given .receiver .counts ≡ counted (account calls)
     t = after-call before after o l .tally
 
 pub store-clean : StoreClean
@@ -108,7 +107,7 @@ store-clean before after o l = stands-clean _ _ (after-call before after o l .st
 
 pub flag-clears : FlagClears
 unfolding stateAfter
-flag-clears rest counts store output given storeAfter outputThen r =
+flag-clears receiver store output given storeAfter outputThen r =
     (ap (λ (s : State). s .store) (r .state), ap (λ (s : State). s .rest) (r .state))
 
 -- ---- after a flag only what follows counts
@@ -119,7 +118,7 @@ shown silent = record { answer = answerFor silent; octets = [] }
 shown (refused number) = record { answer = answerFor (refused number); octets = [] }
 shown (delivered octets) = record { answer = answerFor (delivered octets); octets = octets }
 
-seen-shown : (s : State) {c : Counts} (o : Observed) → Meets (s .rest) c (s .store) o
+seen-shown : (s : State) {c : Counts} (o : Observed) → Meets (record { rest = s .rest; counts = c }) (s .store) o
     → seen o ≡ shown (verdictDue s (o .octet) (length (o .output)))
 seen-shown s o r =
     ap₂ (λ (a : ReceiverAnswer) (l : List ℕ). record { answer = a; octets = putOut a l }) (r .answers) (r .puts)
@@ -133,7 +132,7 @@ seen-shown s o r =
         λ i. record { answer = answerFor (delivered octets); octets = take-append-seam octets (drop (length octets) (o .output)) i }
 
 same-seen : (os ps : List Observed) (s t : State) (c d : Counts) → s ≡ t
-    → Runs (s .rest) c (s .store) os → Runs (t .rest) d (t .store) ps → map callOf os ≡ map callOf ps → map seen os ≡ map seen ps
+    → Runs (record { rest = s .rest; counts = c }) (s .store) os → Runs (record { rest = t .rest; counts = d }) (t .store) ps → map callOf os ≡ map callOf ps → map seen os ≡ map seen ps
 same-seen [] [] s t c d e r q k = refl
 same-seen [] (p ∷ ps) s t c d e r q k = absurd (nil≢cons k)
 same-seen (o ∷ os) [] s t c d e r q k = absurd (cons≢nil k)
@@ -143,7 +142,7 @@ same-seen (o ∷ os) (p ∷ ps) s t c d e r q k =
     (seen-shown s o (r .1)
     ∙ ap₂ (λ (u : State) (b : Call). shown (verdictDue u (b .octet) (b .room))) e h
     ∙ sym (seen-shown t p (q .1)))
-    (same-seen os ps _ _ (o .given .counts) (p .given .counts)
+    (same-seen os ps _ _ (o .given .receiver .counts) (p .given .receiver .counts)
     (r .1 .state ∙ ap₂ (λ (u : State) (b : Call). stateAfter u (b .octet)) e h ∙ sym (q .1 .state))
     (r .2) (q .2) (tail-eq-of-cons-eq k))
 
@@ -155,6 +154,6 @@ pub later-only : LaterOnly
 later-only before other f g os ps e n l m k =
     let a = arrive before (f ∷ os) l in
     let b = arrive other (g ∷ ps) m in
-    same-seen os ps _ _ (f .given .counts) (g .given .counts)
+    same-seen os ps _ _ (f .given .receiver .counts) (g .given .receiver .counts)
     (a .runs .1 .state ∙ flag-leads _ (f .octet) e ∙ sym (b .runs .1 .state ∙ flag-leads _ (g .octet) n))
     (a .runs .2) (b .runs .2) k

@@ -9,9 +9,8 @@ use lib.Dec.{eqb, ltb}
 use lib.ListN.{length, take, set, replicate, length-append}
 use lib.Seq.{take-at, take-append-le, take-append-seam, set-append-seam}
 use borrow.Author.Tests.{ltb-true, ltb-false, lt-ltb, le-ltb, ne-eqb}
-use Rattle.ucp_frame.specs.Stuffing.{flag, escape}
-use Rattle.ucp_frame.specs.Unstuffing.{Ending, whole, escapeLast, badEscape, Unstuffed, unstuffed}
-use Rattle.ucp_frame.specs.Stretch.{Verdict, storeOctets, byEnding, judged, verdict}
+use Rattle.ucp_frame.specs.Frame.{flag, escape}
+use Rattle.ucp_frame.specs.Stretch.{Ending, whole, escapeLast, badEscape, Unstuffed, unstuffed, Verdict, storeOctets, byEnding, judged, verdict}
 use Rattle.ucp_frame.proofs.Unstuffing.{onward, unstuffed-snoc, unstuffed-nothing}
 use Rattle.ucp_receiver.specs.declared.Phase.{Phase}
 use Rattle.ucp_receiver.specs.declared.Phase.the-variants.{Reading, Escape, BadEscape, TooLong}

@@ -8,9 +8,8 @@ use native.Mathlib.Omega.{arith}
 use lib.Dec.{eqb, ltb}
 use lib.ListN.{length, take, getD, replicate, length-append, length-replicate, length-take}
 use borrow.Author.Tests.{eqb-true, eqb-false, ltb-false}
-use Rattle.ucp_frame.specs.Stuffing.{flag}
-use Rattle.ucp_frame.specs.Unstuffing.{Unstuffed, unstuffed}
-use Rattle.ucp_frame.specs.Stretch.{Verdict, silent, storeOctets}
+use Rattle.ucp_frame.specs.Frame.{flag}
+use Rattle.ucp_frame.specs.Stretch.{Unstuffed, unstuffed, Verdict, silent, storeOctets}
 use Rattle.ucp_history.specs.History.{Call, Segment, cutAtFlags, closingVerdict, answer}
 use Rattle.ucp_receiver.specs.declared.Phase.{Phase}
 use Rattle.ucp_receiver.specs.declared.Phase.the-variants.{Hunting, TooLong}

@@ -5,15 +5,14 @@ use Prim.Native.Nat.{ℕ, zero, suc, _<_, _≤_}
 use native.Mathlib.Omega.{arith}
 use native.Mathlib.Numerals.{add-one}
 use lib.ListN.{length, take, getD, length-replicate}
-use Rattle.crc_polynomial.specs.Bits.{Octets}
+use Rattle.crc_polynomial.specs.Polynomial.{Octets}
 use Rattle.ucp_frame.specs.Stretch.{Verdict, silent, refused, delivered}
-use Rattle.ucp_receiver.specs.declared.Rest.{Rest}
 use Rattle.ucp_receiver.specs.declared.Counts.{Counts}
+use Rattle.ucp_receiver.specs.declared.Record.{Record}
 use Rattle.ucp_receiver.specs.declared.Answer.{Answer}
 use Rattle.ucp_receiver.specs.declared.Answer.the-variants.{Nothing, Delivered, Refused}
 use Rattle.ucp_receiver.specs.Answers.{ReceiverAnswer, nothing, refusal, body, receiverAnswer, answerFor, outputAtFlag}
-use Rattle.ucp_receiver.specs.Account.{zeroCounts}
-use Rattle.ucp_receiver.specs.Octet.{State, noOctets, freshRest, stateAfter, verdictDue, countsAfter}
+use Rattle.ucp_receiver.specs.Octet.{State, noOctets, freshRecord, stateAfter, verdictDue, countsAfter}
 use Rattle.ucp_receiver.specs.Slice.{SliceRun, later, endAt, sliceRun}
 use Rattle.thm_ucp_receiver.specs.Line.{Observed, Meets, Runs, Line}
 use Rattle.thm_ucp_receiver.specs.Slice.{answersOver, lastOf, TakenAs, SliceIsOctets, ObservedSlice, roomsOf, Held, recordAfter, outputLast, Lent, AnswersLast, CallsOf, SliceRuns, SlicesRun, CallsUpTo, LineOfSlices, SliceIsCall}
@@ -82,7 +81,7 @@ slice-is-octets s c (x ∷ xs) room =
 
 -- ---- the calls by the octet
 
--- the answer that tells this
+-- the answer that says this
 abbrev answerTo : ReceiverAnswer → Answer
 answerTo nothing = Nothing
 answerTo (refusal number) = Refused number
@@ -93,10 +92,13 @@ tells nothing = refl
 tells (refusal number) = refl
 tells (body octets) = refl
 
-told-once : (a : Answer) → a ≡ answerTo (receiverAnswer a)
-told-once Nothing = refl
-told-once (Refused number) = refl
-told-once (Delivered octets) = refl
+answer-once : (a : Answer) → a ≡ answerTo (receiverAnswer a)
+answer-once Nothing = refl
+answer-once (Refused number) = refl
+answer-once (Delivered octets) = refl
+
+abbrev recordOf : State → Counts → Record
+recordOf s c = record { rest = s .rest; counts = c }
 
 -- what the contracts leave of a call with an octet, and of one with a slice that comes to this run
 abbrev called : State → Counts → ℕ → List ℕ → Observed
@@ -106,11 +108,7 @@ called s c x output =
       octet = x;
       output = output;
       given =
-          record {
-            rest = stateAfter s x .rest;
-            counts = countsAfter c s x (length output);
-            answer = answerTo (answerFor v);
-          };
+          record { receiver = recordOf (stateAfter s x) (countsAfter c s x (length output)); answer = answerTo (answerFor v) };
       storeAfter = stateAfter s x .store;
       outputThen = outputAtFlag v output;
     }
@@ -121,12 +119,12 @@ calledWith xs output r =
       line = xs;
       output = output;
       given =
-          record { rest = r .state .rest; counts = r .counts; answer = answerTo (answerFor (r .verdict)); taken = r .taken };
+          record { receiver = recordOf (r .state) (r .counts); answer = answerTo (answerFor (r .verdict)); taken = r .taken };
       storeAfter = r .state .store;
       outputThen = outputAtFlag (r .verdict) output;
     }
 
-meets : (s : State) (c : Counts) (x : ℕ) (output : List ℕ) → Meets (s .rest) c (s .store) (called s c x output)
+meets : (s : State) (c : Counts) (x : ℕ) (output : List ℕ) → Meets (recordOf s c) (s .store) (called s c x output)
 meets s c x output = record { state = refl; account = refl; answers = tells _; puts = refl }
 
 -- a silent call before others
@@ -140,8 +138,8 @@ module _ (s : State) (c : Counts) (x : ℕ) (xs : List ℕ) (output : List ℕ) 
   first = called s c x output
 
   call-then : (r : SliceRun) → verdictDue s x (length output) ≡ silent
-      → CallsOf (stateAfter s x .rest) (countsAfter c s x (length output)) (stateAfter s x .store) (calledWith xs output r)
-      → CallsOf (s .rest) c (s .store) (calledWith (x ∷ xs) output (later r))
+      → CallsOf (recordOf (stateAfter s x) (countsAfter c s x (length output))) (stateAfter s x .store) (calledWith xs output r)
+      → CallsOf (recordOf s c) (s .store) (calledWith (x ∷ xs) output (later r))
   call-then r e k =
       rw (add-one (r .taken))
       (record {
@@ -158,7 +156,7 @@ module _ (s : State) (c : Counts) (x : ℕ) (xs : List ℕ) (output : List ℕ) 
       same : first .outputThen ≡ output
       same = ap (λ (v : Verdict). outputAtFlag v output) e
 
-  call-only : CallsOf (s .rest) c (s .store) (calledWith (x ∷ xs) output (stopped s c x xs (length output)))
+  call-only : CallsOf (recordOf s c) (s .store) (calledWith (x ∷ xs) output (stopped s c x xs (length output)))
   call-only =
       record {
         calls = first ∷ [];
@@ -172,15 +170,15 @@ module _ (s : State) (c : Counts) (x : ℕ) (xs : List ℕ) (output : List ℕ) 
       }
 
   calls-by-answer : (r : SliceRun)
-      → CallsOf (stateAfter s x .rest) (countsAfter c s x (length output)) (stateAfter s x .store) (calledWith xs output r)
+      → CallsOf (recordOf (stateAfter s x) (countsAfter c s x (length output))) (stateAfter s x .store) (calledWith xs output r)
       → (v : Verdict) → verdictDue s x (length output) ≡ v
-      → CallsOf (s .rest) c (s .store) (calledWith (x ∷ xs) output (endAt v (stopped s c x xs (length output)) (later r)))
+      → CallsOf (recordOf s c) (s .store) (calledWith (x ∷ xs) output (endAt v (stopped s c x xs (length output)) (later r)))
   calls-by-answer r k silent e = call-then r e k
   calls-by-answer r k (refused number) e = call-only
   calls-by-answer r k (delivered octets) e = call-only
 
 calls-of-run : (s : State) (c : Counts) (xs output : List ℕ) → Octets xs
-    → CallsOf (s .rest) c (s .store) (calledWith xs output (sliceRun s c xs (length output)))
+    → CallsOf (recordOf s c) (s .store) (calledWith xs output (sliceRun s c xs (length output)))
 unfolding sliceRun
 calls-of-run s c [] output small =
     record { calls = []; runs = tt; octets = refl; rooms = refl; lent = tt; leaves = refl; puts = refl; answers = refl }
@@ -189,11 +187,11 @@ calls-of-run s c (x ∷ xs) output small =
     (calls-of-run (stateAfter s x) (countsAfter c s x (length output)) xs output (λ i. small (suc i))) (verdictDue s x (length output)) refl
 
 pub slice-runs : SliceRuns
-slice-runs rest counts store s t =
-    subst (CallsOf rest counts store) (sym same)
-    (calls-of-run (record { rest = rest; store = store }) counts (s .line) (s .output) (t .0))
+slice-runs receiver store s t =
+    subst (CallsOf receiver store) (sym same)
+    (calls-of-run (record { rest = receiver .rest; store = store }) (receiver .counts) (s .line) (s .output) (t .0))
   where
-    same : s ≡ calledWith (s .line) (s .output) (sliceRun (record { rest = rest; store = store }) counts (s .line) (length (s .output)))
+    same : s ≡ calledWith (s .line) (s .output) (sliceRun (record { rest = receiver .rest; store = store }) (receiver .counts) (s .line) (length (s .output)))
     same =
         λ i.
         record {
@@ -201,9 +199,8 @@ slice-runs rest counts store s t =
           output = s .output;
           given =
               record {
-                rest = t .1 .state i .rest;
-                counts = t .1 .account i;
-                answer = (told-once (s .given .answer) ∙ ap answerTo (t .1 .answers)) i;
+                receiver = record { rest = t .1 .state i .rest; counts = t .1 .account i };
+                answer = (answer-once (s .given .answer) ∙ ap answerTo (t .1 .answers)) i;
                 taken = t .1 .taken i;
               };
           storeAfter = t .1 .state i .store;
@@ -216,7 +213,7 @@ gather : (f : Observed → ℕ) (os ps : List Observed) {l m : List ℕ} → map
 gather f os ps e k = map-append f os ps ∙ ap₂ (λ (a b : List ℕ). a ++ b) e k
 
 abbrev RunsFrom : Held → List Observed → Type 0
-RunsFrom h = Runs (h .rest) (h .counts) (h .store)
+RunsFrom h = Runs (h .receiver) (h .store)
 
 runs-append : (h : Held) (os ps : List Observed) → RunsFrom h os → RunsFrom (recordAfter h os) ps → RunsFrom h (os ++ ps)
 runs-append h [] ps r q = q
@@ -226,22 +223,22 @@ record-append : (h : Held) (os ps : List Observed) → recordAfter h (os ++ ps) 
 record-append h [] ps = refl
 record-append h (o ∷ os) ps = record-append _ os ps
 
-calls-up-to : (rest : Rest) (counts : Counts) (store : List ℕ) (before after : List ObservedSlice) (s : ObservedSlice)
-    → SlicesRun rest counts store (before ++ s ∷ after) → CallsUpTo rest counts store before s
-calls-up-to rest counts store [] after s r =
-    let k = slice-runs rest counts store s (r .0) in
+calls-up-to : (receiver : Record) (store : List ℕ) (before after : List ObservedSlice) (s : ObservedSlice)
+    → SlicesRun receiver store (before ++ s ∷ after) → CallsUpTo receiver store before s
+calls-up-to receiver store [] after s r =
+    let k = slice-runs receiver store s (r .0) in
     record {
       earlier = [];
       octets = refl;
       rooms = refl;
-      met = record { rest = rest; counts = counts; store = store };
+      met = record { receiver = receiver; store = store };
       meets = refl;
       own = k;
       runs = k .runs;
     }
-calls-up-to rest counts store (b ∷ before) after s r =
-    let k = slice-runs rest counts store b (r .0) in
-    let j = calls-up-to (b .given .rest) (b .given .counts) (b .storeAfter) before after s (r .1) in
+calls-up-to receiver store (b ∷ before) after s r =
+    let k = slice-runs receiver store b (r .0) in
+    let j = calls-up-to (b .given .receiver) (b .storeAfter) before after s (r .1) in
     record {
       earlier = k .calls ++ j .earlier;
       octets = gather _ (k .calls) (j .earlier) (k .octets) (j .octets);
@@ -251,12 +248,12 @@ calls-up-to rest counts store (b ∷ before) after s r =
       own = j .own;
       runs =
           rw append-assoc
-          (runs-append (record { rest = rest; counts = counts; store = store }) (k .calls) (j .earlier ++ j .own .calls) (k .runs)
+          (runs-append (record { receiver = receiver; store = store }) (k .calls) (j .earlier ++ j .own .calls) (k .runs)
           (subst (λ (h : Held). RunsFrom h (j .earlier ++ j .own .calls)) (sym (k .leaves)) (j .runs)));
     }
 
 pub line-of-slices : LineOfSlices
-line-of-slices = calls-up-to freshRest zeroCounts noOctets
+line-of-slices = calls-up-to freshRecord noOctets
 
 -- the last of some calls
 record Last (t : ReceiverAnswer) (held : Held) (output : List ℕ) (os : List Observed) : Type 0 where
@@ -264,7 +261,7 @@ record Last (t : ReceiverAnswer) (held : Held) (output : List ℕ) (os : List Ob
   last : Observed
   parts : os ≡ earlier ++ last ∷ []
   answer : receiverAnswer (last .given .answer) ≡ t
-  leaves : recordAfter held os ≡ record { rest = last .given .rest; counts = last .given .counts; store = last .storeAfter }
+  leaves : recordAfter held os ≡ record { receiver = last .given .receiver; store = last .storeAfter }
   puts : outputLast output os ≡ last .outputThen
 
 last-call : (t : ReceiverAnswer) (held : Held) (output : List ℕ) (o : Observed) (os : List Observed) → AnswersLast t (o ∷ os)
@@ -283,7 +280,7 @@ last-call t held output o (p ∷ os) a =
     }
 
 -- the calls of a slice that took an octet are not none
-last-of : (met : Held) (s : ObservedSlice) (k : CallsOf (met .rest) (met .counts) (met .store) s) → 1 ≤ s .given .taken
+last-of : (met : Held) (s : ObservedSlice) (k : CallsOf (met .receiver) (met .store) s) → 1 ≤ s .given .taken
     → Last (receiverAnswer (s .given .answer)) met (s .output) (k .calls)
 last-of met s k some = go (k .calls) (k .rooms) (k .answers)
   where
@@ -303,13 +300,12 @@ slice-is-call before after s r some =
       octets = rw (← whole) (gather _ (u .earlier) (u .own .calls) (u .octets) (u .own .octets));
       rooms = rw (← whole) (gather _ (u .earlier) (u .own .calls) (u .rooms) (u .own .rooms));
       answer = k .answer;
-      rest = ap (λ (h : Held). h .rest) left;
-      counts = ap (λ (h : Held). h .counts) left;
+      receiver = ap (λ (h : Held). h .receiver) left;
       storeAfter = ap (λ (h : Held). h .store) left;
       outputThen = sym (k .puts) ∙ u .own .puts;
     }
   where
-    u : CallsUpTo freshRest zeroCounts noOctets before s
+    u : CallsUpTo freshRecord noOctets before s
     u = line-of-slices before after s r
 
     k : Last (receiverAnswer (s .given .answer)) (u .met) (s .output) (u .own .calls)
@@ -320,6 +316,6 @@ slice-is-call before after s r some =
         ap (λ (l : List Observed). u .earlier ++ l) (k .parts)
         ∙ sym (append-assoc (u .earlier) (k .earlier) (k .last ∷ []))
 
-    left : _≡_ {A = Held} (record { rest = k .last .given .rest; counts = k .last .given .counts; store = k .last .storeAfter })
-        (record { rest = s .given .rest; counts = s .given .counts; store = s .storeAfter })
+    left : _≡_ {A = Held} (record { receiver = k .last .given .receiver; store = k .last .storeAfter })
+        (record { receiver = s .given .receiver; store = s .storeAfter })
     left = sym (k .leaves) ∙ u .own .leaves

@@ -10,12 +10,10 @@ use lib.Dec.{eqb, ltb}
 use lib.ListN.{length, drop, getD, length-append, take-append-drop, drop-of-length-le}
 use lib.Seq.{take-at, getD-at, getD-append-add, drop-cons}
 use borrow.Author.Tests.{ltb-false, le-ltb, eqb-true}
-use Rattle.crc_polynomial.specs.Bits.{Octets}
+use Rattle.crc_polynomial.specs.Polynomial.{Octets}
 use Rattle.crc_gdl90.specs.Check.{frameCheck, frameCheckOctets}
-use Rattle.ucp_frame.specs.Stuffing.{flag, stuffed}
-use Rattle.ucp_frame.specs.Frame.{frame}
-use Rattle.ucp_frame.specs.Unstuffing.{Ending, whole, escapeLast, badEscape, Unstuffed, unstuffed}
-use Rattle.ucp_frame.specs.Stretch.{Verdict, silent, refused, delivered, storeOctets, withoutCheck, checkSent, atFlag, byEnding, judged, verdict}
+use Rattle.ucp_frame.specs.Frame.{flag, stuffed, frame}
+use Rattle.ucp_frame.specs.Stretch.{Ending, whole, escapeLast, badEscape, Unstuffed, unstuffed, Verdict, silent, refused, delivered, storeOctets, withoutCheck, checkSent, atFlag, byEnding, judged, verdict}
 use Rattle.ucp_frame.proofs.Stuffing.{FlagFree}
 use Rattle.ucp_frame.proofs.Unstuffing.{unstuffed-stuffed, stuffed-unstuffed, unstuffed-octets}
 use Rattle.thm_ucp_receiver.specs.Promises.{StretchIsAnswered, BodyLength, frameAnswer}

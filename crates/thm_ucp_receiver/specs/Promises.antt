@@ -6,15 +6,14 @@ use mathlib.Core.List.{List, [], _∷_, _++_, map}
 use Prim.Native.Nat.{ℕ, _+_, _%_, _^_, _≤_}
 use lib.Dec.{ltb}
 use lib.ListN.{length, take, getD}
-use Rattle.crc_polynomial.specs.Bits.{Octets}
+use Rattle.crc_polynomial.specs.Polynomial.{Octets}
 use Rattle.crc_gdl90.specs.Check.{frameCheck, frameCheckOctets}
 use Rattle.refusals.specs.Numbers as because
-use Rattle.ucp_frame.specs.Stuffing.{flag, stuffed}
-use Rattle.ucp_frame.specs.Frame.{frame, longestBody}
+use Rattle.ucp_frame.specs.Frame.{flag, stuffed, frame, longestBody}
 use Rattle.ucp_frame.specs.Stretch.{Verdict, silent, refused, delivered, storeOctets, verdict}
 use Rattle.ucp_history.specs.History.{Call, answer, Account, account}
-use Rattle.ucp_receiver.specs.declared.Rest.{Rest}
 use Rattle.ucp_receiver.specs.declared.Counts.{Counts}
+use Rattle.ucp_receiver.specs.declared.Record.{Record}
 use Rattle.ucp_receiver.specs.declared.Received.{Received}
 use Rattle.ucp_receiver.specs.Answers.{ReceiverAnswer, nothing, refusal, body, receiverAnswer, answerFor, outputAtFlag}
 use Rattle.ucp_receiver.specs.Octet.{noOctets, flagRest, Receives}
@@ -54,7 +53,7 @@ pub record CountsAs (calls : List Call) (c : Counts) : Type 0 where
 abbrev pub CountsByHistory : Type 0
 CountsByHistory =
     (before after : List Observed) (o : Observed) → Line (before ++ o ∷ after)
-    → CountsAs (upTo before o) (o .given .counts)
+    → CountsAs (upTo before o) (o .given .receiver .counts)
 
 -- the history's numbers leave no octet out
 abbrev pub EveryOctetCounted : Type 0
@@ -70,14 +69,14 @@ pub record CleanBeyond (stored : ℕ) (store : List ℕ) : Type 0 where
 abbrev pub StoreClean : Type 0
 StoreClean =
     (before after : List Observed) (o : Observed) → Line (before ++ o ∷ after)
-    → CleanBeyond (o .given .rest .stored) (o .storeAfter)
+    → CleanBeyond (o .given .receiver .rest .stored) (o .storeAfter)
 
 -- after every flag, from any record and whatever the answer, the store is zero and the rest is the one fixed value
 abbrev pub FlagClears : Type 0
 FlagClears =
-    (rest : Rest) (counts : Counts) (store output : List ℕ) (given : Received) (storeAfter outputThen : List ℕ)
-    → Receives rest counts store flag output given storeAfter outputThen
-    → (storeAfter ≡ noOctets) × (given .rest ≡ flagRest)
+    (receiver : Record) (store output : List ℕ) (given : Received) (storeAfter outputThen : List ℕ)
+    → Receives receiver store flag output given storeAfter outputThen
+    → (storeAfter ≡ noOctets) × (given .receiver .rest ≡ flagRest)
 
 -- ---- two lines that each come to a flag (the tender, demand 1)
 

@@ -4,14 +4,13 @@ use mathlib.Core.Path.{_≡_}
 use mathlib.Core.List.{List, [], _∷_, _++_, map}
 use Prim.Native.Nat.{ℕ, suc, _<_, _≤_}
 use lib.ListN.{length, take, getD, replicate}
-use Rattle.crc_polynomial.specs.Bits.{Octets}
+use Rattle.crc_polynomial.specs.Polynomial.{Octets}
 use Rattle.ucp_frame.specs.Stretch.{Verdict, silent}
-use Rattle.ucp_receiver.specs.declared.Rest.{Rest}
 use Rattle.ucp_receiver.specs.declared.Counts.{Counts}
+use Rattle.ucp_receiver.specs.declared.Record.{Record}
 use Rattle.ucp_receiver.specs.declared.Taken.{Taken}
 use Rattle.ucp_receiver.specs.Answers.{ReceiverAnswer, nothing, receiverAnswer}
-use Rattle.ucp_receiver.specs.Account.{zeroCounts}
-use Rattle.ucp_receiver.specs.Octet.{State, noOctets, freshRest, stateAfter, verdictDue, countsAfter}
+use Rattle.ucp_receiver.specs.Octet.{State, noOctets, freshRecord, stateAfter, verdictDue, countsAfter}
 use Rattle.ucp_receiver.specs.Slice.{SliceRun, sliceRun, Takes}
 use Rattle.thm_ucp_receiver.specs.Line.{Observed, Runs, Line}
 
@@ -57,9 +56,9 @@ pub record ObservedSlice : Type 0 where
   pub outputThen : List ℕ
 
 -- the slice has octets, and the call meets the contract from this record
-abbrev pub MeetsSlice : Rest → Counts → List ℕ → ObservedSlice → Type 0
-MeetsSlice rest counts store s =
-    Octets (s .line) × Takes rest counts store (s .line) (s .output) (s .given) (s .storeAfter) (s .outputThen)
+abbrev pub MeetsSlice : Record → List ℕ → ObservedSlice → Type 0
+MeetsSlice receiver store s =
+    Octets (s .line) × Takes receiver store (s .line) (s .output) (s .given) (s .storeAfter) (s .outputThen)
 
 -- the octets that it took
 abbrev pub sliceOctets : ObservedSlice → List ℕ
@@ -71,14 +70,13 @@ roomsOf s = replicate (s .given .taken) (length (s .output))
 
 -- the record, whole
 pub record Held : Type 0 where
-  pub rest : Rest
-  pub counts : Counts
+  pub receiver : Record
   pub store : List ℕ
 
 -- after some calls by the octet, the record and the output are as the last of them left them
 abbrev pub recordAfter : Held → List Observed → Held
 recordAfter held [] = held
-recordAfter held (o ∷ os) = recordAfter (record { rest = o .given .rest; counts = o .given .counts; store = o .storeAfter }) os
+recordAfter held (o ∷ os) = recordAfter (record { receiver = o .given .receiver; store = o .storeAfter }) os
 
 abbrev pub outputLast : List ℕ → List Observed → List ℕ
 outputLast output [] = output
@@ -96,31 +94,31 @@ AnswersLast t (o ∷ []) = receiverAnswer (o .given .answer) ≡ t
 AnswersLast t (o ∷ p ∷ os) = (receiverAnswer (o .given .answer) ≡ nothing) × AnswersLast t (p ∷ os)
 
 -- calls by the octet, from the same record and with the same output, that come to what the call with the slice comes to
-pub record CallsOf (rest : Rest) (counts : Counts) (store : List ℕ) (s : ObservedSlice) : Type 0 where
+pub record CallsOf (receiver : Record) (store : List ℕ) (s : ObservedSlice) : Type 0 where
   pub calls : List Observed
-  pub runs : Runs rest counts store calls
+  pub runs : Runs receiver store calls
   pub octets : map (λ (o : Observed). o .octet) calls ≡ sliceOctets s
   pub rooms : map (λ (o : Observed). length (o .output)) calls ≡ roomsOf s
   pub lent : Lent (s .output) calls
   pub leaves :
-      recordAfter (record { rest = rest; counts = counts; store = store }) calls
-      ≡ record { rest = s .given .rest; counts = s .given .counts; store = s .storeAfter }
+      recordAfter (record { receiver = receiver; store = store }) calls
+      ≡ record { receiver = s .given .receiver; store = s .storeAfter }
   pub puts : outputLast (s .output) calls ≡ s .outputThen
   pub answers : AnswersLast (receiverAnswer (s .given .answer)) calls
 
 abbrev pub SliceRuns : Type 0
-SliceRuns = (rest : Rest) (counts : Counts) (store : List ℕ) (s : ObservedSlice) → MeetsSlice rest counts store s → CallsOf rest counts store s
+SliceRuns = (receiver : Record) (store : List ℕ) (s : ObservedSlice) → MeetsSlice receiver store s → CallsOf receiver store s
 
 -- ---- a line driven by slices
 
 -- each of these calls meets the contract, the first from this record and the others from what the one before gave back
-abbrev pub SlicesRun : Rest → Counts → List ℕ → List ObservedSlice → Type 0
-SlicesRun rest counts store [] = Unit
-SlicesRun rest counts store (s ∷ ss) =
-    MeetsSlice rest counts store s × SlicesRun (s .given .rest) (s .given .counts) (s .storeAfter) ss
+abbrev pub SlicesRun : Record → List ℕ → List ObservedSlice → Type 0
+SlicesRun receiver store [] = Unit
+SlicesRun receiver store (s ∷ ss) =
+    MeetsSlice receiver store s × SlicesRun (s .given .receiver) (s .storeAfter) ss
 
 abbrev pub SliceLine : List ObservedSlice → Type 0
-SliceLine = SlicesRun freshRest zeroCounts noOctets
+SliceLine = SlicesRun freshRecord noOctets
 
 -- the octets, or the rooms, of calls with slices one after the other
 abbrev pub gathered : (ObservedSlice → List ℕ) → List ObservedSlice → List ℕ
@@ -128,20 +126,20 @@ gathered f [] = []
 gathered f (s ∷ ss) = f s ++ gathered f ss
 
 -- calls by the octet for the slices before, and then those of this slice, run from this record
-pub record CallsUpTo (rest : Rest) (counts : Counts) (store : List ℕ) (before : List ObservedSlice) (s : ObservedSlice) : Type 0 where
+pub record CallsUpTo (receiver : Record) (store : List ℕ) (before : List ObservedSlice) (s : ObservedSlice) : Type 0 where
   pub earlier : List Observed
   pub octets : map (λ (o : Observed). o .octet) earlier ≡ gathered sliceOctets before
   pub rooms : map (λ (o : Observed). length (o .output)) earlier ≡ gathered roomsOf before
   pub met : Held
-  pub meets : recordAfter (record { rest = rest; counts = counts; store = store }) earlier ≡ met
-  pub own : CallsOf (met .rest) (met .counts) (met .store) s
-  pub runs : Runs rest counts store (earlier ++ own .calls)
+  pub meets : recordAfter (record { receiver = receiver; store = store }) earlier ≡ met
+  pub own : CallsOf (met .receiver) (met .store) s
+  pub runs : Runs receiver store (earlier ++ own .calls)
 
 -- a line driven by slices is a line of calls by the octet, up to each of its slices
 abbrev pub LineOfSlices : Type 0
 LineOfSlices =
     (before after : List ObservedSlice) (s : ObservedSlice) → SliceLine (before ++ s ∷ after)
-    → CallsUpTo freshRest zeroCounts noOctets before s
+    → CallsUpTo freshRecord noOctets before s
 
 -- a line of calls by the octet that ends in a call which gives back what this slice does
 pub record EndsAsSlice (before : List ObservedSlice) (s : ObservedSlice) : Type 0 where
@@ -151,8 +149,7 @@ pub record EndsAsSlice (before : List ObservedSlice) (s : ObservedSlice) : Type 
   pub octets : map (λ (o : Observed). o .octet) (earlier ++ last ∷ []) ≡ gathered sliceOctets before ++ sliceOctets s
   pub rooms : map (λ (o : Observed). length (o .output)) (earlier ++ last ∷ []) ≡ gathered roomsOf before ++ roomsOf s
   pub answer : receiverAnswer (last .given .answer) ≡ receiverAnswer (s .given .answer)
-  pub rest : last .given .rest ≡ s .given .rest
-  pub counts : last .given .counts ≡ s .given .counts
+  pub receiver : last .given .receiver ≡ s .given .receiver
   pub storeAfter : last .storeAfter ≡ s .storeAfter
   pub outputThen : last .outputThen ≡ s .outputThen
 

@@ -5,7 +5,7 @@ use Prim.Native.Nat.{ℕ}
 use lib.ListN.{take}
 use Rattle.output_writing.specs.declared.Written.{Written}
 use Rattle.output_writing.specs.declared.Written.the-variants.{Wrote, Refused}
-use Rattle.output_writing.specs.Answers.{writerAnswer}
+use Rattle.output_writing.specs.Writing.{writerAnswer}
 use Rattle.ucp_frame.specs.Frame.{framesOf}
 use Rattle.ucp_writer.specs.Room.{frameDue}
 use Rattle.ucp_writer.specs.Writes.{WritesFrame}

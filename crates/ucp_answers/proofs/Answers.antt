@@ -7,7 +7,7 @@ use borrow.Author.Tests.{eq-eqb, ne-eqb}
 use lib.Dec.{eqb}
 use lib.ListN.{length, drop}
 use Rattle.ucp_answers.proofs.Readers.{wrong-length, wrong-fixed, wrong-field, right, in-other-terms}
-use Rattle.field_format.specs.Formats.{Format, standAt, bodySize, valueIn}
+use Rattle.field_format.specs.Format.{Format, standAt, bodySize, valueIn}
 use Rattle.ucp_answers.specs.Refusals.{refusalOf, reads}
 
 module _ {A B : Type 0} (f : Format A) (refused : ℕ → B) (means : A → B) (body : List ℕ) where

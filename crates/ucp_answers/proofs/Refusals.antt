@@ -7,9 +7,8 @@ use Prim.Native.Nat.{ℕ}
 use native.Mathlib.Omega.{arith}
 use borrow.Author.Tests.{eqb-true, eqb-false, eq-eqb, ne-eqb}
 use lib.ListN.{length, drop}
-use Rattle.ucp_answers.specs.Refusals.{refusalBy}
-use Rattle.field_format.specs.Formats.{Format, standAt, bodySize, valueIn}
-use Rattle.ucp_answers.specs.Refusals.{refusalOf}
+use Rattle.ucp_answers.specs.Refusals.{refusalBy, refusalOf}
+use Rattle.field_format.specs.Format.{Format, standAt, bodySize, valueIn}
 
 -- what each number says of the three tests
 abbrev Due : Bool → Bool → Bool → ℕ → Type 0

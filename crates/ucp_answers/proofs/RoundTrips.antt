@@ -7,8 +7,8 @@ use Prim.Native.Nat.{ℕ}
 use native.Mathlib.Omega.{arith}
 use borrow.Author.Tests.{eqb-true, eq-eqb}
 use lib.ListN.{length}
-use Rattle.crc_polynomial.specs.Bits.{Octets}
-use Rattle.field_format.specs.Formats.{Format, Right, HasId, bodySize, valueIn, bodyOf, fits, TypedAs}
+use Rattle.crc_polynomial.specs.Polynomial.{Octets}
+use Rattle.field_format.specs.Format.{Format, Right, HasId, bodySize, valueIn, bodyOf, fits, TypedAs}
 use Rattle.field_format.proofs.Formats.{body-size, value-back, in-ranges, room, value-fits, body-again}
 use Rattle.field_format.proofs.Heads.{head-found}
 use Rattle.ucp_answers.specs.Refusals.{refusalBy, unlessRefused, refusalOf, reads}

@@ -5,7 +5,7 @@ use Prim.Native.Nat.{ℕ}
 use lib.Dec.{eqb}
 use mathlib.Core.List.{List}
 use lib.ListN.{length, drop}
-use Rattle.field_format.specs.Formats.{Format, standAt, bodySize, valueIn}
+use Rattle.field_format.specs.Format.{Format, standAt, bodySize, valueIn}
 use Rattle.refusals.specs.Numbers as because
 
 -- 11 for another length than the kind's, then 12 for a wrong version, signature or subtype, then 13 for a field outside

@@ -7,7 +7,7 @@ use lib.Dec.{ltb}
 use lib.ListN.{length}
 use Rattle.refusals.specs.Numbers as because
 use Rattle.output_writing.specs.declared.Written.{Written}
-use Rattle.output_writing.specs.Answers.{WriterAnswer, refused, wrote, Writing}
+use Rattle.output_writing.specs.Writing.{WriterAnswer, refused, wrote, Writing}
 
 -- the answer that is due: 13 for a field outside its range, then 8 for an output shorter than the body
 unfoldable pub bodyDue : Bool → List ℕ → List ℕ → WriterAnswer

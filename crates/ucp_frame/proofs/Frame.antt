@@ -5,11 +5,9 @@ use Prim.Native.Nat.{ℕ, suc, _+_, _*_, _≤_}
 use native.Mathlib.Omega.{arith}
 use lib.ListN.{length, take, length-append}
 use lib.Seq.{take-append-seam, take-at}
-use Rattle.crc_polynomial.specs.Bits.{bitsOfOctets, bitsOf}
-use Rattle.crc_polynomial.specs.Division.{divided, step, reduced}
+use Rattle.crc_polynomial.specs.Polynomial.{bitsOfOctets, bitsOf, divided, step, reduced}
 use Rattle.crc_gdl90.specs.Check.{frameCheck, frameCheckOctets}
-use Rattle.ucp_frame.specs.Stuffing.{flag, escaped, stuffed}
-use Rattle.ucp_frame.specs.Frame.{frame, framesOf, longestBody, longestFrame, longestFrameBody}
+use Rattle.ucp_frame.specs.Frame.{flag, escaped, stuffed, frame, framesOf, longestBody, longestFrame, longestFrameBody}
 use Rattle.ucp_frame.proofs.Stuffing.{FlagFree, stuffed-flag-free, stuffed-length-most}
 use Rattle.ucp_frame.proofs.Unstuffing.{stuffed-injective}
 

@@ -8,7 +8,7 @@ use lib.Bits.{bitXor}
 use lib.Dec.{eqb}
 use lib.ListN.{length, getD, length-append}
 use borrow.Author.Tests.{eqb-true, eqb-false, ne-eqb}
-use Rattle.ucp_frame.specs.Stuffing.{flag, escape, escaped, stuffed}
+use Rattle.ucp_frame.specs.Frame.{flag, escape, escaped, stuffed}
 
 -- the three ways of an octet
 pub data Escaped (x : ℕ) : List ℕ → Type 0 where

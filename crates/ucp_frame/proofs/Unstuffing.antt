@@ -7,9 +7,9 @@ use native.Mathlib.Omega.{arith}
 use lib.Dec.{eqb}
 use lib.ListN.{length}
 use borrow.Author.Tests.{eqb-true, eqb-false, ne-eqb}
-use Rattle.crc_polynomial.specs.Bits.{Octets}
-use Rattle.ucp_frame.specs.Stuffing.{flag, escape, escaped, stuffed}
-use Rattle.ucp_frame.specs.Unstuffing.{Ending, whole, escapeLast, badEscape, Unstuffed, nothingBut, also, unstuffed}
+use Rattle.crc_polynomial.specs.Polynomial.{Octets}
+use Rattle.ucp_frame.specs.Frame.{flag, escape, escaped, stuffed}
+use Rattle.ucp_frame.specs.Stretch.{Ending, whole, escapeLast, badEscape, Unstuffed, nothingBut, also, unstuffed}
 use Rattle.ucp_frame.proofs.Stuffing.{Escaped, a-flag, an-escape, itself, way, escaped-itself, FlagFree}
 
 -- the ways that a reading goes

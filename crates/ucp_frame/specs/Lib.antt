@@ -1,4 +1,2 @@
-pub mod Stuffing
 pub mod Frame
-pub mod Unstuffing
 pub mod Stretch

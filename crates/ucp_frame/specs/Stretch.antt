@@ -1,13 +1,42 @@
--- What is due for the line octets between two flags, a stretch (document 01, "The receiver, byte by byte" and the table's
--- rows 1 to 6). Assumes nothing.
+-- The line octets between two flags: unstuffed up to the first fault, and what is due for them at the closing flag (document 01,
+-- "The receiver, byte by byte", and the table's rows 1 to 6). Assumes nothing.
 use mathlib.Core.Bool.{cond}
 use mathlib.Core.List.{List, [], _∷_}
 use Prim.Native.Nat.{ℕ, _+_, _*_, _-_}
 use lib.Dec.{eqb, ltb}
+use Rattle.ucp_frame.specs.Frame.{flag, escape}
 use lib.ListN.{length, take, getD}
 use Rattle.crc_gdl90.specs.Check.{frameCheck}
 use Rattle.refusals.specs.Numbers as because
-use Rattle.ucp_frame.specs.Unstuffing.{Ending, whole, escapeLast, badEscape, Unstuffed, unstuffed}
+
+-- how the octets between two flags end
+pub data Ending : Type 0 where
+  -- all of them are read
+  whole : Ending
+  -- 7D directly before the closing flag
+  escapeLast : Ending
+  -- 7D followed by an octet other than 5D, 5E; what follows is not read
+  badEscape : Ending
+
+pub record Unstuffed : Type 0 where
+  pub octets : List ℕ
+  pub ending : Ending
+
+abbrev pub nothingBut : Ending → Unstuffed
+nothingBut e = record { octets = []; ending = e }
+
+abbrev pub also : ℕ → Unstuffed → Unstuffed
+also x u = record { octets = x ∷ u .octets; ending = u .ending }
+
+unfoldable pub unstuffed : List ℕ → Unstuffed
+unstuffed [] = nothingBut whole
+unstuffed (x ∷ []) = cond (eqb x escape) (nothingBut escapeLast) (also x (nothingBut whole))
+unstuffed (x ∷ y ∷ ys) =
+    cond (eqb x escape)
+    (cond (eqb y 0x5E) (also flag (unstuffed ys))
+    (cond (eqb y 0x5D) (also escape (unstuffed ys))
+    (nothingBut badEscape)))
+    (also x (unstuffed (y ∷ ys)))
 
 -- an answer in the paper's terms: none, a refusal's number, or the body that is put out
 pub data Verdict : Type 0 where

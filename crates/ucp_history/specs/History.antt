@@ -6,7 +6,7 @@ use mathlib.Core.List.{List, [], _∷_}
 use Prim.Native.Nat.{ℕ, _+_}
 use lib.Dec.{eqb}
 use lib.ListN.{length}
-use Rattle.ucp_frame.specs.Stuffing.{flag}
+use Rattle.ucp_frame.specs.Frame.{flag}
 use Rattle.ucp_frame.specs.Stretch.{Verdict, silent, refused, delivered, verdict}
 
 -- one call: the line octet, and how many octets of output are lent

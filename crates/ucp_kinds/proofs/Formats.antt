@@ -3,7 +3,7 @@ use mathlib.Core.Path.{_≡_, refl}
 use mathlib.Core.List.{[], _∷_}
 use Prim.Native.Nat.{ℕ}
 use native.Mathlib.Omega.{arith}
-use Rattle.field_format.specs.Formats.{Right, offsets}
+use Rattle.field_format.specs.Format.{Right, offsets}
 use Rattle.ucp_kinds.specs.Heartbeat0.{heartbeatFormat}
 use Rattle.ucp_kinds.specs.Report10.{reportFormat}
 use Rattle.ucp_kinds.specs.GeometricAltitude11.{geometricFormat}

@@ -3,9 +3,8 @@ use mathlib.Core.Bool.{_&&_}
 use mathlib.Core.List.{[], _∷_}
 use Rattle.field_codes.specs.Codes.{isSquawk}
 use Rattle.field_texts.specs.Text.{isPadded}
-use Rattle.field_layout.specs.Texts.{textOctets}
-use Rattle.field_format.specs.Columns.{unsigned, integer}
-use Rattle.field_format.specs.Formats.{Format, high, low, text, octet, bits, bit}
+use Rattle.field_layout.specs.Layout.{textOctets}
+use Rattle.field_format.specs.Format.{unsigned, integer, Format, high, low, text, octet, bits, bit}
 use Rattle.ucp_kinds.specs.declared.Control.{Control}
 
 -- offset 0: ID; 1: version; 2, from bit 7: 1090ES enabled, modes S, C and A, ident, air-ground state, barometer checked;

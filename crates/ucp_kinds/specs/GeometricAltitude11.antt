@@ -1,8 +1,7 @@
 -- Message 11, Ownship geometric altitude (document 01; 003, section 6.2.3). Assumes nothing.
 use mathlib.Core.Bool.{true}
 use mathlib.Core.List.{[], _∷_}
-use Rattle.field_format.specs.Columns.{unsigned, integer}
-use Rattle.field_format.specs.Formats.{Format, high, number}
+use Rattle.field_format.specs.Format.{unsigned, integer, Format, high, number}
 use Rattle.ucp_kinds.specs.declared.GeometricAltitude.{GeometricAltitude}
 
 -- offset 0: ID; 1: altitude, signed, 16 bits; 3: metrics, 16 bits

@@ -1,8 +1,7 @@
 -- Message 0, Heartbeat (document 01; GDL90 ICD): all bits carried as they are. Assumes nothing.
 use mathlib.Core.Bool.{true}
 use mathlib.Core.List.{[], _∷_}
-use Rattle.field_format.specs.Columns.{unsigned}
-use Rattle.field_format.specs.Formats.{Format, high, low, octet, number}
+use Rattle.field_format.specs.Format.{unsigned, Format, high, low, octet, number}
 use Rattle.ucp_kinds.specs.declared.Heartbeat.{Heartbeat}
 
 -- offset 0: ID; 1 and 2: status; 3: time stamp, low octet first; 5: message counts, high octet first

@@ -3,9 +3,8 @@ use mathlib.Core.Bool.{_&&_}
 use mathlib.Core.List.{[], _∷_}
 use Rattle.field_codes.specs.Codes.{isEmitter, isSizeCode}
 use Rattle.field_texts.specs.Text.{isSpaced}
-use Rattle.field_layout.specs.Texts.{textOctets}
-use Rattle.field_format.specs.Columns.{part}
-use Rattle.field_format.specs.Formats.{Format, high, low, text, octet, bits}
+use Rattle.field_layout.specs.Layout.{textOctets}
+use Rattle.field_format.specs.Format.{part, Format, high, low, text, octet, bits}
 use Rattle.ucp_kinds.specs.declared.Initialization.{Initialization}
 
 -- offset 0: ID; 1: signature; 2: subtype; 3: version; 4: address, 24 bits; 7: emitter; 8: callsign; 16: stall speed;

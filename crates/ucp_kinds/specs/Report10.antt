@@ -2,8 +2,7 @@
 use mathlib.Core.Bool.{true}
 use mathlib.Core.List.{[], _∷_}
 use Prim.Native.Nat.{ℕ}
-use Rattle.field_format.specs.Columns.{unsigned, integerPart}
-use Rattle.field_format.specs.Formats.{Format, high, text, octet, number, bits}
+use Rattle.field_format.specs.Format.{unsigned, integerPart, Format, high, text, octet, number, bits}
 use Rattle.ucp_kinds.specs.declared.Report.{Report}
 
 -- offset 0: ID; 1: alert, address type; 2: address; 5: latitude, signed; 8: longitude, signed; 11: altitude,

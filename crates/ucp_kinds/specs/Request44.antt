@@ -1,7 +1,7 @@
 -- Message 44, Message Request version 2 (document 003, section 6.1.2.2). Assumes nothing.
 use mathlib.Core.Bool.{true}
 use mathlib.Core.List.{[], _∷_}
-use Rattle.field_format.specs.Formats.{Format, octet}
+use Rattle.field_format.specs.Format.{Format, octet}
 use Rattle.ucp_kinds.specs.declared.Request.{Request}
 
 -- offset 0: ID; 1: version; 2: requested message ID

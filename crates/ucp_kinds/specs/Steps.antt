@@ -2,7 +2,7 @@
 use Prim.Native.Nat.{ℕ, _+_, _*_, _/_, _%_}
 use lib.IntN.{ℤ}
 use Rattle.field_signed.specs.Signed.{complement}
-use Rattle.field_format.specs.Formats.{high}
+use Rattle.field_format.specs.Format.{high}
 use Rattle.ucp_kinds.specs.declared.report_10.Three.{Three}
 use Rattle.ucp_kinds.specs.declared.report_10.Two.{Two}
 use Rattle.ucp_kinds.specs.declared.report_10.Position.{Position}

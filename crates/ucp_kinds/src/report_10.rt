@@ -6,7 +6,7 @@ ghost use mathlib.Core.Path.{_≡_};
 ghost use lib.ListN.{length};
 ghost use Rattle.field_signed.specs.Signed.{complement};
 ghost use Prim.Native.Nat.{_+_, _*_, _<_};
-ghost use Rattle.field_format.specs.Formats.{valueIn, bodyOf, fits, Fitting};
+ghost use Rattle.field_format.specs.Format.{valueIn, bodyOf, fits, Fitting};
 ghost use Rattle.ucp_answers.specs.Refusals.{reads};
 ghost use Rattle.ucp_kinds.specs.Report10.{reportFormat};
 ghost use Rattle.ucp_kinds.specs.Steps.{heightOf, threeOf, positionOf, motionOf};

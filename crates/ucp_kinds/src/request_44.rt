@@ -4,7 +4,7 @@ use super::RequestRead;
 use output_writing::Written;
 ghost use mathlib.Core.Path.{_≡_};
 ghost use lib.ListN.{length};
-ghost use Rattle.field_format.specs.Formats.{valueIn, bodyOf, fits};
+ghost use Rattle.field_format.specs.Format.{valueIn, bodyOf, fits};
 ghost use Rattle.ucp_answers.specs.Refusals.{reads};
 ghost use Rattle.ucp_kinds.specs.Request44.{requestFormat};
 ghost use Rattle.ucp_answers.specs.Writes.{WritesBody};

@@ -17,7 +17,7 @@ use Rattle.ucp_kinds.specs.declared.ControlRead.{ControlRead}
 use Rattle.ucp_kinds.specs.declared.ControlRead.the-variants as control
 use Rattle.ucp_kinds.specs.declared.InitializationRead.{InitializationRead}
 use Rattle.ucp_kinds.specs.declared.InitializationRead.the-variants as initialization
-use Rattle.field_format.specs.Formats.{valueIn}
+use Rattle.field_format.specs.Format.{valueIn}
 use Rattle.ucp_answers.specs.Refusals.{refusalOf, reads}
 use Rattle.ucp_answers.proofs.Answers.{in-terms-of}
 use Rattle.ucp_kinds.specs.Heartbeat0.{heartbeatFormat}
@@ -29,7 +29,7 @@ use Rattle.ucp_kinds.specs.Control45.{controlFormat}
 use Rattle.ucp_kinds.specs.Initialization117.{initializationFormat}
 use Rattle.ucp_messages.specs.declared.Kind.the-variants as kind
 use Rattle.ucp_messages.specs.declared.Message.the-variants as message
-use Rattle.ucp_messages.specs.Reads.{ReaderAnswer, refused, means, refusalIn, answerAs}
+use Rattle.ucp_messages.specs.Messages.{ReaderAnswer, refused, means, refusalIn, answerAs}
 
 abbrev pub heartbeatAnswer : HeartbeatRead → ReaderAnswer
 heartbeatAnswer (heartbeat.Heartbeat h) = means (message.Heartbeat h)
@@ -45,7 +45,7 @@ uplinkAnswer (uplink.Refused number) = refused number
 
 pub uplink-answer : {r : UplinkRead} (body : List ℕ) → r ≡ uplinkRead body → uplinkAnswer r ≡ answerAs kind.Uplink body
 unfolding answerAs refusalIn uplinkRead
-uplink-answer body e = ap uplinkAnswer e ∙ told uplinkAnswer uplink.Refused (uplinkRefusal body) uplink.Uplink
+uplink-answer body e = ap uplinkAnswer e ∙ in-other-terms uplinkAnswer uplink.Refused (uplinkRefusal body) uplink.Uplink
 
 abbrev pub ownshipAnswer : ReportRead → ReaderAnswer
 ownshipAnswer (report.Report r) = means (message.Ownship r)

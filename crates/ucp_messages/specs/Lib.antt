@@ -1,4 +1,2 @@
 pub mod Kinds
-pub mod Formats
-pub mod Reads
-pub mod Bodies
+pub mod Messages

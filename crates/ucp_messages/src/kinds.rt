@@ -10,7 +10,7 @@ use ucp_kinds::ReportRead;
 use ucp_kinds::RequestRead;
 use ucp_kinds::UplinkRead;
 ghost use mathlib.Core.Path.{_≡_};
-ghost use Rattle.ucp_messages.specs.Reads.{readerAnswer, answerAs};
+ghost use Rattle.ucp_messages.specs.Messages.{readerAnswer, answerAs};
 
 pub fn heartbeat(body: &[u8]) -> Read
     ensures { λ r. ⌜ readerAnswer r ≡ answerAs Kind.Heartbeat (now (body .entry)) ⌝ }

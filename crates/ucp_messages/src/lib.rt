@@ -1,5 +1,5 @@
 // The messages of the UCP line: what a body means, and the body of a message. The kinds' own fields are read and written by
-// ucp_kinds and ucp_kinds.
+// ucp_kinds.
 mod kinds;
 
 use output_writing::Written;
@@ -19,8 +19,7 @@ use ucp_kinds::uplink_7;
 ghost use mathlib.Core.Path.{_≡_};
 ghost use Rattle.ucp_answers.specs.Writes.{WritesBody};
 ghost use Rattle.ucp_messages.specs.Kinds.{kindOf};
-ghost use Rattle.ucp_messages.specs.Reads.{Reads};
-ghost use Rattle.ucp_messages.specs.Bodies.{messageFits, messageBody};
+ghost use Rattle.ucp_messages.specs.Messages.{Reads, messageFits, messageBody};
 
 // The kinds of message. An ID that is none of theirs is of an unknown kind.
 pub enum Kind {
@@ -47,7 +46,7 @@ pub enum Message {
     Initialization(Initialization),
 }
 
-// A message reader's answer. `answerOf` of specs/Reads.antt gives the paper's number and values of each case.
+// A message reader's answer. `readerAnswer` of specs/Messages.antt gives the paper's number and values of each case.
 pub enum Read {
     // The body is this message. Of an uplink, the payload is the body without its first octet.
     Message(Message),

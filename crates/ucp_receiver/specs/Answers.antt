@@ -6,7 +6,7 @@ use Rattle.ucp_frame.specs.Stretch.{Verdict, silent, refused, delivered}
 use Rattle.ucp_receiver.specs.declared.Answer.{Answer}
 use Rattle.ucp_receiver.specs.declared.Answer.the-variants.{Nothing, Delivered, Refused}
 
--- the paper's number and values of each case of the answer; a body is told by its length, and stands in the output
+-- the paper's number and values of each case of the answer; a body is given by its length, and stands in the output
 pub data ReceiverAnswer : Type 0 where
   nothing : ReceiverAnswer
   refusal : ℕ → ReceiverAnswer

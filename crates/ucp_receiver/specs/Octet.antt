@@ -7,16 +7,17 @@ use Prim.Native.Nat.{ℕ, _+_}
 use lib.Dec.{eqb, ltb}
 use lib.ListN.{length, set, replicate}
 use Rattle.refusals.specs.Numbers as because
-use Rattle.ucp_frame.specs.Stuffing.{flag, escape}
+use Rattle.ucp_frame.specs.Frame.{flag, escape}
 use Rattle.ucp_frame.specs.Stretch.{Verdict, silent, refused, storeOctets}
 use Rattle.ucp_receiver.specs.declared.Answer.the-variants.{Nothing}
 use Rattle.ucp_receiver.specs.Answers.{receiverAnswer, answerFor, outputAtFlag}
 use Rattle.ucp_receiver.specs.Closing.{closedStretch}
 use Rattle.ucp_receiver.specs.declared.Counts.{Counts}
-use Rattle.ucp_receiver.specs.Account.{countedFlag, countedSkipped, countedOpen, repeated}
+use Rattle.ucp_receiver.specs.Account.{zeroCounts, countedFlag, countedSkipped, countedOpen, repeated}
 use Rattle.ucp_receiver.specs.declared.Phase.{Phase}
 use Rattle.ucp_receiver.specs.declared.Phase.the-variants.{Hunting, Reading, Escape, BadEscape, TooLong}
 use Rattle.ucp_receiver.specs.declared.Rest.{Rest}
+use Rattle.ucp_receiver.specs.declared.Record.{Record}
 use Rattle.ucp_receiver.specs.declared.Received.{Received}
 
 -- the record without its counts
@@ -33,6 +34,9 @@ noOctets = replicate storeOctets 0
 -- at the start, and after every flag
 abbrev pub freshRest : Rest
 freshRest = record { phase = Hunting; stored = 0 }
+
+abbrev pub freshRecord : Record
+freshRecord = record { rest = freshRest; counts = zeroCounts }
 
 abbrev pub flagRest : Rest
 flagRest = record { phase = Reading; stored = 0 }
@@ -99,15 +103,15 @@ countsAfter c s x room = cond (eqb x flag) (countedFlag (closedIn (s .rest .phas
 -- ---- the call
 
 -- one call, whole: the record, the octet and the output as at entry; what is given back, the store and the output as at return
-pub record Receives (rest : Rest) (counts : Counts) (store : List ℕ) (octet : ℕ) (output : List ℕ)
+pub record Receives (receiver : Record) (store : List ℕ) (octet : ℕ) (output : List ℕ)
     (given : Received) (storeAfter outputThen : List ℕ) : Type 0 where
-  pub state : stateOf (given .rest) storeAfter ≡ stateAfter (stateOf rest store) octet
-  pub account : given .counts ≡ countsAfter counts (stateOf rest store) octet (length output)
-  pub answers : receiverAnswer (given .answer) ≡ answerFor (verdictDue (stateOf rest store) octet (length output))
-  pub puts : outputThen ≡ outputAtFlag (verdictDue (stateOf rest store) octet (length output)) output
+  pub state : stateOf (given .receiver .rest) storeAfter ≡ stateAfter (stateOf (receiver .rest) store) octet
+  pub account : given .receiver .counts ≡ countsAfter (receiver .counts) (stateOf (receiver .rest) store) octet (length output)
+  pub answers : receiverAnswer (given .answer) ≡ answerFor (verdictDue (stateOf (receiver .rest) store) octet (length output))
+  pub puts : outputThen ≡ outputAtFlag (verdictDue (stateOf (receiver .rest) store) octet (length output)) output
 
 -- a call with an octet taken for other than the flag, whole: no output is lent to it
-pub record Advances (rest : Rest) (counts : Counts) (store : List ℕ) (octet : ℕ) (given : Received) (storeAfter : List ℕ) : Type 0 where
-  pub state : stateOf (given .rest) storeAfter ≡ advancedIn (rest .phase) octet (stateOf rest store)
-  pub account : given .counts ≡ countedOctet (rest .phase) counts
+pub record Advances (receiver : Record) (store : List ℕ) (octet : ℕ) (given : Received) (storeAfter : List ℕ) : Type 0 where
+  pub state : stateOf (given .receiver .rest) storeAfter ≡ advancedIn (receiver .rest .phase) octet (stateOf (receiver .rest) store)
+  pub account : given .receiver .counts ≡ countedOctet (receiver .rest .phase) (receiver .counts)
   pub answers : given .answer ≡ Nothing

@@ -6,7 +6,7 @@ use lib.ListN.{length}
 use Rattle.ucp_frame.specs.Stretch.{Verdict, silent, refused, delivered}
 use Rattle.ucp_receiver.specs.Answers.{receiverAnswer, answerFor, outputAtFlag}
 use Rattle.ucp_receiver.specs.declared.Counts.{Counts}
-use Rattle.ucp_receiver.specs.declared.Rest.{Rest}
+use Rattle.ucp_receiver.specs.declared.Record.{Record}
 use Rattle.ucp_receiver.specs.Octet.{State, stateOf, stateAfter, verdictDue, countsAfter}
 use Rattle.ucp_receiver.specs.declared.Taken.{Taken}
 
@@ -34,10 +34,10 @@ sliceRun s c (x ∷ xs) room =
     (later (sliceRun (stateAfter s x) (countsAfter c s x room) xs room))
 
 -- one call with a slice, whole, as `Receives` is of one octet
-pub record Takes (rest : Rest) (counts : Counts) (store line output : List ℕ)
+pub record Takes (receiver : Record) (store line output : List ℕ)
     (given : Taken) (storeAfter outputThen : List ℕ) : Type 0 where
-  pub state : stateOf (given .rest) storeAfter ≡ sliceRun (stateOf rest store) counts line (length output) .state
-  pub account : given .counts ≡ sliceRun (stateOf rest store) counts line (length output) .counts
-  pub taken : given .taken ≡ sliceRun (stateOf rest store) counts line (length output) .taken
-  pub answers : receiverAnswer (given .answer) ≡ answerFor (sliceRun (stateOf rest store) counts line (length output) .verdict)
-  pub puts : outputThen ≡ outputAtFlag (sliceRun (stateOf rest store) counts line (length output) .verdict) output
+  pub state : stateOf (given .receiver .rest) storeAfter ≡ sliceRun (stateOf (receiver .rest) store) (receiver .counts) line (length output) .state
+  pub account : given .receiver .counts ≡ sliceRun (stateOf (receiver .rest) store) (receiver .counts) line (length output) .counts
+  pub taken : given .taken ≡ sliceRun (stateOf (receiver .rest) store) (receiver .counts) line (length output) .taken
+  pub answers : receiverAnswer (given .answer) ≡ answerFor (sliceRun (stateOf (receiver .rest) store) (receiver .counts) line (length output) .verdict)
+  pub puts : outputThen ≡ outputAtFlag (sliceRun (stateOf (receiver .rest) store) (receiver .counts) line (length output) .verdict) output

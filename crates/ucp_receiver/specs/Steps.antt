@@ -8,11 +8,12 @@ use Rattle.ucp_receiver.specs.declared.Answer.{Answer}
 use Rattle.ucp_receiver.specs.declared.Answer.the-variants.{Nothing, Delivered, Refused}
 use Rattle.ucp_receiver.specs.Answers.{verdictOf, receiverAnswer, answerFor, outputAtFlag}
 use mathlib.Core.Bool.{Bool, true, false}
-use Rattle.ucp_frame.specs.Stuffing.{flag}
+use Rattle.ucp_frame.specs.Frame.{flag}
 use Rattle.ucp_receiver.specs.declared.Counts.{Counts}
 use Rattle.ucp_receiver.specs.declared.Phase.{Phase}
 use Rattle.ucp_receiver.specs.declared.Phase.the-variants.{Reading}
 use Rattle.ucp_receiver.specs.declared.Rest.{Rest}
+use Rattle.ucp_receiver.specs.declared.Record.{Record}
 use Rattle.ucp_receiver.specs.Octet.{State, stateOf, advancedIn, countedBy}
 use Rattle.ucp_receiver.specs.declared.slice.Passed.{Passed}
 use Rattle.ucp_receiver.specs.declared.Taken.{Taken}
@@ -53,10 +54,10 @@ abbrev pub Ignores : Phase → Type 0
 Ignores p = (x : ℕ) (s : State) → advancedIn p x s ≡ s
 
 -- octets at `at` that bring no answer, and the run behind them
-pub record Passes (rest : Rest) (counts : Counts) (store line : List ℕ) (at : ℕ) (given : Passed) (storeAfter : List ℕ) : Type 0 where
+pub record Passes (receiver : Record) (store line : List ℕ) (at : ℕ) (given : Passed) (storeAfter : List ℕ) : Type 0 where
   pub within : at + given .taken ≤ length line
-  pub runs : (room : ℕ) → sliceRun (stateOf rest store) counts (drop at line) room
-      ≡ laterBy (given .taken) (sliceRun (stateOf (given .rest) storeAfter) (given .counts) (drop (at + given .taken) line) room)
+  pub runs : (room : ℕ) → sliceRun (stateOf (receiver .rest) store) (receiver .counts) (drop at line) room
+      ≡ laterBy (given .taken) (sliceRun (stateOf (given .receiver .rest) storeAfter) (given .receiver .counts) (drop (at + given .taken) line) room)
 
 abbrev pub isAnswer : Answer → Bool
 isAnswer Nothing = false
@@ -64,13 +65,13 @@ isAnswer (Delivered octets) = true
 isAnswer (Refused number) = true
 
 -- some octets at `at`, up to one that may bring an answer, and the run behind them where it brings none
-pub record Turns (rest : Rest) (counts : Counts) (store line : List ℕ) (at : ℕ) (output : List ℕ)
+pub record Turns (receiver : Record) (store line : List ℕ) (at : ℕ) (output : List ℕ)
     (given : Taken) (storeAfter outputThen : List ℕ) : Type 0 where
   pub due : Verdict
   pub moved : 0 < given .taken
   pub within : at + given .taken ≤ length line
   pub answers : receiverAnswer (given .answer) ≡ answerFor due
   pub puts : outputThen ≡ outputAtFlag due output
-  pub runs : sliceRun (stateOf rest store) counts (drop at line) (length output)
-      ≡ endAt due (record { state = stateOf (given .rest) storeAfter; counts = given .counts; taken = given .taken; verdict = due })
-      (laterBy (given .taken) (sliceRun (stateOf (given .rest) storeAfter) (given .counts) (drop (at + given .taken) line) (length output)))
+  pub runs : sliceRun (stateOf (receiver .rest) store) (receiver .counts) (drop at line) (length output)
+      ≡ endAt due (record { state = stateOf (given .receiver .rest) storeAfter; counts = given .receiver .counts; taken = given .taken; verdict = due })
+      (laterBy (given .taken) (sliceRun (stateOf (given .receiver .rest) storeAfter) (given .receiver .counts) (drop (at + given .taken) line) (length output)))

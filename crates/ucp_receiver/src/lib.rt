@@ -1,5 +1,5 @@
 // The receiver of the UCP line: by the octet, by the slice, with its byte account. The store is lent, so that a frame's octets
-// rest in one place; the small rest of the record goes in and comes back by value.
+// rest in one place; the record besides it goes in and comes back by value.
 pub mod account;
 pub mod closing;
 pub mod octet;
@@ -30,14 +30,19 @@ pub struct Rest {
     pub stored: usize,
 }
 
-// What a call gives back.
-pub struct Received {
+// The record besides the store. What counts there are is `account`'s alone: all others hand them on.
+pub struct Record {
     pub rest: Rest,
     pub counts: Counts,
+}
+
+// What a call gives back.
+pub struct Received {
+    pub receiver: Record,
     pub answer: Answer,
 }
 
-// The receiver's answer to a call. `answerOf` of specs/Answers.antt gives the paper's number and values of each case.
+// The receiver's answer to a call. `receiverAnswer` of specs/Answers.antt gives the paper's number and values of each case.
 pub enum Answer {
     // No answer is due.
     Nothing,
@@ -58,8 +63,7 @@ pub struct Counts {
 
 // What a call with a slice of the line gives back: `taken` octets were taken.
 pub struct Taken {
-    pub rest: Rest,
-    pub counts: Counts,
+    pub receiver: Record,
     pub answer: Answer,
     pub taken: usize,
 }

@@ -1,15 +1,16 @@
-// The receiver by the octet. The store is lent, so that a frame's octets rest in one place; the small rest of the record
-// goes in and comes back by value.
+// The receiver by the octet. The store is lent, so that a frame's octets rest in one place; the record besides it goes in and
+// comes back by value.
 use super::Answer;
 use super::Counts;
 use super::Phase;
 use super::Received;
+use super::Record;
 use super::Rest;
 use super::Store;
 ghost use mathlib.Core.Path.{_≡_};
 ghost use lib.ListN.{length};
 ghost use Rattle.ucp_receiver.specs.Closing.{Closes};
-ghost use Rattle.ucp_receiver.specs.Octet.{Receives, Advances, storing, advancedIn, closedIn, countedBy, freshRest, stateOf};
+ghost use Rattle.ucp_receiver.specs.Octet.{Receives, Advances, storing, advancedIn, closedIn, countedBy, freshRecord, stateOf};
 
 // ---- an octet other than the flag
 
@@ -106,57 +107,62 @@ pub fn count_octets(counts: Counts, phase: Phase, n: usize) -> Counts
 // ---- one octet
 
 // The flag: the answer is due, the store is cleared, and the next stretch begins.
-pub fn receive_flag(rest: Rest, counts: Counts, store: &mut Store, output: &mut [u8]) -> Received
-    ensures { λ r. ⌜ Receives rest counts (now (store .entry)) 0x7E (now (output .entry)) r (now (store .exit)) (now (output .exit)) ⌝ }
+pub fn receive_flag(receiver: Record, store: &mut Store, output: &mut [u8]) -> Received
+    ensures { λ r. ⌜ Receives receiver (now (store .entry)) 0x7E (now (output .entry)) r (now (store .exit)) (now (output .exit)) ⌝ }
 {
+    let rest = receiver.rest;
+    let counts = receiver.counts;
     let answer = close(rest, store, output);
     *store = [0; super::STORE_OCTETS];
     Received {
-        rest: Rest {
-            phase: Phase::Reading, // whatever the last one was
-            stored: 0,
+        receiver: Record {
+            rest: Rest {
+                phase: Phase::Reading, // whatever the last one was
+                stored: 0,
+            },
+            counts: super::account::count_flag(counts, answer),
         },
-        counts: super::account::count_flag(counts, answer),
         answer,
     }
 }
 
 // Any other octet brings no answer.
-pub fn receive_other(rest: Rest, counts: Counts, store: &mut Store, octet: u8) -> Received
-    ensures { λ r. ⌜ Advances rest counts (now (store .entry)) octet r (now (store .exit)) ⌝ }
+pub fn receive_other(receiver: Record, store: &mut Store, octet: u8) -> Received
+    ensures { λ r. ⌜ Advances receiver (now (store .entry)) octet r (now (store .exit)) ⌝ }
 {
+    let rest = receiver.rest;
+    let counts = receiver.counts;
     let phase = rest.phase;
     Received {
-        rest: advance(rest, store, octet),
-        counts: count_octets(counts, phase, 1),
+        receiver: Record {
+            rest: advance(rest, store, octet),
+            counts: count_octets(counts, phase, 1),
+        },
         answer: Answer::Nothing,
     }
 }
 
 // One octet of the line, from any value of the record.
-pub fn receive(
-    rest: Rest,
-    counts: Counts,
-    store: &mut Store,
-    octet: u8,
-    output: &mut [u8],
-) -> Received
-    ensures { λ r. ⌜ Receives rest counts (now (store .entry)) octet (now (output .entry)) r (now (store .exit)) (now (output .exit)) ⌝ }
+pub fn receive(receiver: Record, store: &mut Store, octet: u8, output: &mut [u8]) -> Received
+    ensures { λ r. ⌜ Receives receiver (now (store .entry)) octet (now (output .entry)) r (now (store .exit)) (now (output .exit)) ⌝ }
 {
     if octet == 0x7E {
-        receive_flag(rest, counts, store, output)
+        receive_flag(receiver, store, output)
     } else {
-        receive_other(rest, counts, store, octet)
+        receive_other(receiver, store, octet)
     }
 }
 
-// ---- the record at the start: this, the zero account, and the store [0; 438]
+// ---- the record at the start: this, and the store [0; 438]
 
-pub fn fresh_rest() -> Rest
-    ensures { λ r. ⌜ r ≡ freshRest ⌝ }
+pub fn fresh_record() -> Record
+    ensures { λ r. ⌜ r ≡ freshRecord ⌝ }
 {
-    Rest {
-        phase: Phase::Hunting,
-        stored: 0,
+    Record {
+        rest: Rest {
+            phase: Phase::Hunting,
+            stored: 0,
+        },
+        counts: super::account::zero_counts(),
     }
 }

@@ -1,8 +1,8 @@
 // The receiver by the slice: what `receive` does octet by octet, up to and including the octet that brings the next answer.
 use super::Answer;
-use super::Counts;
 use super::Phase;
 use super::Received;
+use super::Record;
 use super::Rest;
 use super::Store;
 use super::Taken;
@@ -17,8 +17,7 @@ ghost use Rattle.ucp_receiver.specs.Steps.{PutsPlain, NoFlag, Ignores, P
 
 // How many octets of a slice were passed without a full step.
 struct Passed {
-    rest: Rest,
-    counts: Counts,
+    receiver: Record,
     taken: usize,
 }
 
@@ -71,106 +70,96 @@ fn to_flag(line: &[u8], from: usize) -> usize
 }
 
 // The octets that a phase only counts.
-fn pass_ignored(rest: Rest, counts: Counts, line: &[u8], from: usize) -> Passed
-    requires { ⌜ (from ≤ length (now line)) × Ignores (rest .phase) ⌝ }
-    ensures { λ r. ⌜ ((store : List ℕ) → Passes rest counts store (now (line .entry)) from r store) ⌝ }
+fn pass_ignored(receiver: Record, line: &[u8], from: usize) -> Passed
+    requires { ⌜ (from ≤ length (now line)) × Ignores (receiver .rest .phase) ⌝ }
+    ensures { λ r. ⌜ ((store : List ℕ) → Passes receiver store (now (line .entry)) from r store) ⌝ }
 {
+    let rest = receiver.rest;
+    let counts = receiver.counts;
     let phase = rest.phase;
     let n = to_flag(line, from);
     Passed {
-        rest,
-        counts: super::octet::count_octets(counts, phase, n),
+        receiver: Record {
+            rest,
+            counts: super::octet::count_octets(counts, phase, n),
+        },
         taken: n,
     }
 }
 
 // The octets that a stretch without a fault only stores.
-fn pass_plain(rest: Rest, counts: Counts, store: &mut Store, line: &[u8], from: usize) -> Passed
-    requires { ⌜ (from ≤ length (now line)) × (rest .phase ≡ Phase.Reading) ⌝ }
-    ensures { λ r. ⌜ Passes rest counts (now (store .entry)) (now (line .entry)) from r (now (store .exit)) ⌝ }
+fn pass_plain(receiver: Record, store: &mut Store, line: &[u8], from: usize) -> Passed
+    requires { ⌜ (from ≤ length (now line)) × (receiver .rest .phase ≡ Phase.Reading) ⌝ }
+    ensures { λ r. ⌜ Passes receiver (now (store .entry)) (now (line .entry)) from r (now (store .exit)) ⌝ }
 {
+    let rest = receiver.rest;
+    let counts = receiver.counts;
     let stored = rest.stored;
     if stored <= super::STORE_OCTETS {
         let n = put_plain(store, stored, line, from);
         Passed {
-            rest: Rest {
-                phase: Phase::Reading,
-                stored: stored + n,
+            receiver: Record {
+                rest: Rest {
+                    phase: Phase::Reading,
+                    stored: stored + n,
+                },
+                counts: super::account::count_open(counts, n),
             },
-            counts: super::account::count_open(counts, n),
             taken: n,
         }
     } else {
-        Passed {
-            rest,
-            counts,
-            taken: 0,
-        }
+        Passed { receiver, taken: 0 }
     }
 }
 
 // Octets that need no full step, as many as there are at `from`.
-fn pass(rest: Rest, counts: Counts, store: &mut Store, line: &[u8], from: usize) -> Passed
+fn pass(receiver: Record, store: &mut Store, line: &[u8], from: usize) -> Passed
     requires { ⌜ from ≤ length (now line) ⌝ }
-    ensures { λ r. ⌜ Passes rest counts (now (store .entry)) (now (line .entry)) from r (now (store .exit)) ⌝ }
+    ensures { λ r. ⌜ Passes receiver (now (store .entry)) (now (line .entry)) from r (now (store .exit)) ⌝ }
 {
+    let rest = receiver.rest;
     let phase = rest.phase;
     match phase {
-        Phase::Hunting => pass_ignored(rest, counts, line, from),
-        Phase::Reading => pass_plain(rest, counts, store, line, from),
-        Phase::Escape => Passed {
-            rest,
-            counts,
-            taken: 0,
-        },
-        Phase::BadEscape => pass_ignored(rest, counts, line, from),
-        Phase::TooLong => pass_ignored(rest, counts, line, from),
+        Phase::Hunting => pass_ignored(receiver, line, from),
+        Phase::Reading => pass_plain(receiver, store, line, from),
+        Phase::Escape => Passed { receiver, taken: 0 },
+        Phase::BadEscape => pass_ignored(receiver, line, from),
+        Phase::TooLong => pass_ignored(receiver, line, from),
     }
 }
 
 // One octet, by a full step: `super::octet::receive` written out. With two callers `receive_flag` stays a function of its own in
 // the compiled code, so that neither of them carries it for every octet.
-fn step(rest: Rest, counts: Counts, store: &mut Store, octet: u8, output: &mut [u8]) -> Received
-    ensures { λ r. ⌜ Receives rest counts (now (store .entry)) octet (now (output .entry)) r (now (store .exit)) (now (output .exit)) ⌝ }
+fn step(receiver: Record, store: &mut Store, octet: u8, output: &mut [u8]) -> Received
+    ensures { λ r. ⌜ Receives receiver (now (store .entry)) octet (now (output .entry)) r (now (store .exit)) (now (output .exit)) ⌝ }
 {
     if octet == 0x7E {
-        super::octet::receive_flag(rest, counts, store, output)
+        super::octet::receive_flag(receiver, store, output)
     } else {
-        super::octet::receive_other(rest, counts, store, octet)
+        super::octet::receive_other(receiver, store, octet)
     }
 }
 
 // One turn: what needs no full step, and then one octet more.
-fn turn(
-    rest: Rest,
-    counts: Counts,
-    store: &mut Store,
-    line: &[u8],
-    from: usize,
-    output: &mut [u8],
-) -> Taken
+fn turn(receiver: Record, store: &mut Store, line: &[u8], from: usize, output: &mut [u8]) -> Taken
     requires { ⌜ from < length (now line) ⌝ }
-    ensures { λ r. ⌜ Turns rest counts (now (store .entry)) (now (line .entry)) from (now (output .entry)) r (now (store .exit)) (now (output .exit)) ⌝ }
+    ensures { λ r. ⌜ Turns receiver (now (store .entry)) (now (line .entry)) from (now (output .entry)) r (now (store .exit)) (now (output .exit)) ⌝ }
 {
-    let passed = pass(rest, counts, store, line, from);
-    let rest = passed.rest;
-    let counts = passed.counts;
+    let passed = pass(receiver, store, line, from);
+    let receiver = passed.receiver;
     let at = from + passed.taken;
     if at < line.len() {
-        let received = step(rest, counts, store, line[at], output);
-        let rest = received.rest;
-        let counts = received.counts;
+        let received = step(receiver, store, line[at], output);
+        let receiver = received.receiver;
         let answer = received.answer;
         Taken {
-            rest,
-            counts,
+            receiver,
             answer,
             taken: passed.taken + 1,
         }
     } else {
         Taken {
-            rest,
-            counts,
+            receiver,
             answer: Answer::Nothing,
             taken: passed.taken,
         }
@@ -188,27 +177,18 @@ fn answered(answer: Answer) -> bool
 }
 
 // Octets of the line up to and including the one that brings the next answer.
-pub fn receive_slice(
-    rest: Rest,
-    counts: Counts,
-    store: &mut Store,
-    line: &[u8],
-    output: &mut [u8],
-) -> Taken
-    ensures { λ r. ⌜ Takes rest counts (now (store .entry)) (now (line .entry)) (now (output .entry)) r (now (store .exit)) (now (output .exit)) ⌝ }
+pub fn receive_slice(receiver: Record, store: &mut Store, line: &[u8], output: &mut [u8]) -> Taken
+    ensures { λ r. ⌜ Takes receiver (now (store .entry)) (now (line .entry)) (now (output .entry)) r (now (store .exit)) (now (output .exit)) ⌝ }
 {
-    let mut rest = rest;
-    let mut counts = counts;
+    let mut receiver = receiver;
     let mut i = 0;
     while i < line.len() {
-        let t = turn(rest, counts, store, line, i, output);
-        rest = t.rest;
-        counts = t.counts;
+        let t = turn(receiver, store, line, i, output);
+        receiver = t.receiver;
         i += t.taken;
         let answer = t.answer;
         let all = Taken {
-            rest,
-            counts,
+            receiver,
             answer,
             taken: i,
         };
@@ -217,8 +197,7 @@ pub fn receive_slice(
         }
     }
     Taken {
-        rest,
-        counts,
+        receiver,
         answer: Answer::Nothing,
         taken: i,
     }

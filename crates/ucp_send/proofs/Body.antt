@@ -11,10 +11,10 @@ use lib.Seq.{take-at}
 use Rattle.ucp_messages.specs.declared.Message.{Message}
 use Rattle.ucp_messages.specs.declared.Message.the-variants.{Heartbeat, Uplink, Ownship, GeometricAltitude, Traffic, Request, Control, Initialization}
 use Rattle.output_writing.specs.declared.Written.the-variants.{Wrote, Refused}
-use Rattle.field_format.specs.Formats.{bodyOf}
+use Rattle.field_format.specs.Format.{bodyOf}
 use Rattle.ucp_kinds.specs.Uplink7.{uplinkFits}
-use Rattle.ucp_messages.specs.Bodies.{messageFits, messageBody}
-use Rattle.output_writing.specs.Answers.{refused, wrote}
+use Rattle.ucp_messages.specs.Messages.{messageFits, messageBody}
+use Rattle.output_writing.specs.Writing.{refused, wrote}
 use Rattle.ucp_answers.specs.Writes.{bodyDue, WritesBody}
 
 -- no kind makes a body of more than 436 octets

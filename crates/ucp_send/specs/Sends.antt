@@ -7,9 +7,9 @@ use Rattle.refusals.specs.Numbers as because
 use Rattle.ucp_frame.specs.Frame.{frame}
 use Rattle.ucp_writer.specs.Room.{frameDue}
 use Rattle.ucp_messages.specs.declared.Message.{Message}
-use Rattle.ucp_messages.specs.Bodies.{messageFits, messageBody}
+use Rattle.ucp_messages.specs.Messages.{messageFits, messageBody}
 use Rattle.output_writing.specs.declared.Written.{Written}
-use Rattle.output_writing.specs.Answers.{WriterAnswer, refused, Writing}
+use Rattle.output_writing.specs.Writing.{WriterAnswer, refused, Writing}
 
 -- the answer that is due: 13 for a field outside its range, then what the frame writer answers to the message's body
 unfoldable pub sendDue : Message → List ℕ → List ℕ → WriterAnswer

@@ -4,10 +4,9 @@ use mathlib.Core.List.{List, [], _++_, append-nil}
 use Prim.Native.Nat.{ℕ, _<_}
 use native.Mathlib.Nat.{zero-add}
 use lib.ListN.{length, getD, take, drop}
-use Rattle.crc_polynomial.specs.Bits.{bitsOfOctets}
-use Rattle.crc_polynomial.specs.Division.{divided}
+use Rattle.crc_polynomial.specs.Polynomial.{bitsOfOctets, divided}
 use Rattle.crc_gdl90.proofs.Head.{take-none, take-one, take-two}
-use Rattle.ucp_frame.specs.Stuffing.{escaped, stuffed}
+use Rattle.ucp_frame.specs.Frame.{escaped, stuffed}
 use Rattle.ucp_writer.specs.Steps.{frameRest}
 use Rattle.ucp_writer.proofs.Rest.{rest-part}
 

@@ -7,15 +7,13 @@ use native.Mathlib.Numerals.{add-one}
 use native.Mathlib.Omega.{arith}
 use lib.ListN.{length, getD, take, drop, drop-of-length-le}
 use lib.Seq.{sets, sets-eq, drop-cons}
-use Rattle.crc_polynomial.specs.Bits.{bitsOfOctets, bitsOf}
-use Rattle.crc_polynomial.specs.Division.{divided}
+use Rattle.crc_polynomial.specs.Polynomial.{bitsOfOctets, bitsOf, divided}
 use Rattle.crc_polynomial.proofs.Laws.{divided-append}
 use lib.Pow.{shr-shr}
 use Rattle.field_words.specs.Words.{octetsUp}
 use Rattle.crc_gdl90.specs.Check.{frameCheck}
 use Rattle.crc_gdl90.proofs.Eight.{part, part-first}
-use Rattle.ucp_frame.specs.Stuffing.{flag, escaped, stuffed}
-use Rattle.ucp_frame.specs.Frame.{frame}
+use Rattle.ucp_frame.specs.Frame.{flag, escaped, stuffed, frame}
 use Rattle.ucp_frame.proofs.Stuffing.{stuffed-append}
 use Rattle.ucp_writer.specs.Steps.{frameEnd, frameRest}
 use Rattle.output_writing.specs.Puts.{Puts}

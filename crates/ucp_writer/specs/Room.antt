@@ -6,7 +6,7 @@ use lib.Dec.{eqb, ltb}
 use lib.ListN.{length}
 use Rattle.refusals.specs.Numbers as because
 use Rattle.ucp_frame.specs.Frame.{frame, longestBody}
-use Rattle.output_writing.specs.Answers.{WriterAnswer, refused, wrote}
+use Rattle.output_writing.specs.Writing.{WriterAnswer, refused, wrote}
 
 -- the answer that is due: 7 for a body of 0 or more than 436 octets, then 8 for an output shorter than this very frame
 unfoldable pub frameDue : List ℕ → List ℕ → WriterAnswer

@@ -1,9 +1,8 @@
 -- What the steps of the frame writer do to the output. Assumes nothing.
 use mathlib.Core.List.{List, [], _∷_, _++_}
 use Prim.Native.Nat.{ℕ, _+_, _/_, _%_}
-use Rattle.crc_polynomial.specs.Bits.{bitsOfOctets}
-use Rattle.crc_polynomial.specs.Division.{divided}
-use Rattle.ucp_frame.specs.Stuffing.{flag, stuffed}
+use Rattle.crc_polynomial.specs.Polynomial.{bitsOfOctets, divided}
+use Rattle.ucp_frame.specs.Frame.{flag, stuffed}
 
 -- a frame's end: its check, low octet first, stuffed, and the flag
 unfoldable pub frameEnd : ℕ → List ℕ

@@ -2,7 +2,7 @@
 use mathlib.Core.List.{List}
 use Prim.Native.Nat.{ℕ}
 use Rattle.output_writing.specs.declared.Written.{Written}
-use Rattle.output_writing.specs.Answers.{Writing}
+use Rattle.output_writing.specs.Writing.{Writing}
 use Rattle.ucp_frame.specs.Frame.{frame}
 use Rattle.ucp_writer.specs.Room.{frameDue}
 

@@ -2,7 +2,7 @@
 ghost use mathlib.Core.Path.{_≡_};
 ghost use mathlib.Core.Bool.{true};
 ghost use Rattle.field_words.specs.Words.{octetsUp};
-ghost use Rattle.ucp_frame.specs.Stuffing.{stuffed};
+ghost use Rattle.ucp_frame.specs.Frame.{stuffed};
 
 // None of the eight octets needs an escape where it says so. It may say no for octets of 7F: its caller then stuffs octet by octet.
 pub fn is_plain(word: u64) -> bool

@@ -4,8 +4,7 @@ ghost use mathlib.Core.Bool.{_||_};
 ghost use Prim.Native.Nat.{_≤_};
 ghost use lib.Dec.{eqb};
 ghost use lib.ListN.{length};
-ghost use Rattle.ucp_frame.specs.Stuffing.{flag, escape, escaped};
-ghost use Rattle.ucp_frame.specs.Frame.{frame, longestBody};
+ghost use Rattle.ucp_frame.specs.Frame.{flag, escape, escaped, frame, longestBody};
 ghost use Rattle.ucp_writer.specs.Room.{frameDue, refusalNumber};
 
 // The refusal that is due: 7, a body of 0 or more than 436 octets; 8, an output shorter than the frame; 0, none.

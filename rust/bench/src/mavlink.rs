@@ -149,36 +149,43 @@ fn status_frame(header: Header, &[status]: &[u8; 1]) -> Frame {
 
 #[inline]
 fn data_stream(octets: &[u8; 6]) -> Message {
-    let [r0, r1, system, component, stream, start] = *octets;
+    let [r0, r1, target_system, target_component, req_stream_id, start_stop] = *octets;
     Message::DataStream(DataStream {
-        rate: u16::from_le_bytes([r0, r1]),
-        system,
-        component,
-        stream,
-        start,
+        req_message_rate: u16::from_le_bytes([r0, r1]),
+        target_system,
+        target_component,
+        req_stream_id,
+        start_stop,
     })
 }
 
 #[inline]
 fn put_data_stream(of: &DataStream, octets: &mut [u8; 6]) {
-    let [r0, r1] = of.rate.to_le_bytes();
-    *octets = [r0, r1, of.system, of.component, of.stream, of.start];
+    let [r0, r1] = of.req_message_rate.to_le_bytes();
+    *octets = [
+        r0,
+        r1,
+        of.target_system,
+        of.target_component,
+        of.req_stream_id,
+        of.start_stop,
+    ];
 }
 
 #[inline]
 fn static_data(octets: &[u8; 19]) -> Result<Message, Refusal> {
-    let [a0, a1, a2, integrity, s0, s1, callsign @ .., capability, emitter, size, lateral, longitudinal] =
+    let [a0, a1, a2, integrity, s0, s1, callsign @ .., capability, emitter, alw_encode, gps_lat_offs, gps_lon_offs] =
         *octets;
     let of = Static {
-        address: u32::from_le_bytes([a0, a1, a2, 0]),
+        icao: u32::from_le_bytes([a0, a1, a2, 0]),
         integrity,
-        stall: u16::from_le_bytes([s0, s1]),
+        stall_speed: u16::from_le_bytes([s0, s1]),
         callsign,
         capability,
         emitter,
-        size,
-        lateral,
-        longitudinal,
+        alw_encode,
+        gps_lat_offs,
+        gps_lon_offs,
     };
     ensure(static_fits(&of), Refusal::MavlinkField)?;
     Ok(Message::Static(of))
@@ -186,45 +193,45 @@ fn static_data(octets: &[u8; 19]) -> Result<Message, Refusal> {
 
 #[inline]
 fn static_fits(of: &Static) -> bool {
-    of.address < 1 << 24
+    of.icao < 1 << 24
         && is_callsign(&of.callsign)
         && of.capability == 0
         && of.emitter <= 19
-        && of.size <= 15
-        && of.lateral <= 7
-        && of.longitudinal <= 31
+        && of.alw_encode <= 15
+        && of.gps_lat_offs <= 7
+        && of.gps_lon_offs <= 31
 }
 
 #[inline]
 fn put_static(of: &Static, octets: &mut [u8; 19]) {
-    let [a0, a1, a2, _] = of.address.to_le_bytes();
+    let [a0, a1, a2, _] = of.icao.to_le_bytes();
     put_at(octets, 0, [a0, a1, a2, of.integrity]);
-    put_at(octets, 4, of.stall.to_le_bytes());
+    put_at(octets, 4, of.stall_speed.to_le_bytes());
     put_at(octets, 6, of.callsign);
-    put_at(octets, 14, [of.capability, of.emitter, of.size]);
-    put_at(octets, 17, [of.lateral, of.longitudinal]);
+    put_at(octets, 14, [of.capability, of.emitter, of.alw_encode]);
+    put_at(octets, 17, [of.gps_lat_offs, of.gps_lon_offs]);
 }
 
 #[inline]
 fn dynamic(octets: &[u8; 42]) -> Result<Message, Refusal> {
-    let [fix, satellites, emergency, control] = at(octets, 38);
+    let [fix_type, num_sats, em_status, control] = at(octets, 38);
     let of = Dynamic {
-        utc: u32::from_le_bytes(at(octets, 0)),
+        utc_time: u32::from_le_bytes(at(octets, 0)),
         latitude: i32::from_le_bytes(at(octets, 4)),
         longitude: i32::from_le_bytes(at(octets, 8)),
-        pressure: i32::from_le_bytes(at(octets, 12)),
-        gnss: i32::from_le_bytes(at(octets, 16)),
-        horizontal: u32::from_le_bytes(at(octets, 20)),
-        vertical: u16::from_le_bytes(at(octets, 24)),
-        velocity: u16::from_le_bytes(at(octets, 26)),
-        climb: i16::from_le_bytes(at(octets, 28)),
-        north: i16::from_le_bytes(at(octets, 30)),
-        east: i16::from_le_bytes(at(octets, 32)),
+        alt_pres: i32::from_le_bytes(at(octets, 12)),
+        alt_gnss: i32::from_le_bytes(at(octets, 16)),
+        acc_horiz: u32::from_le_bytes(at(octets, 20)),
+        acc_vert: u16::from_le_bytes(at(octets, 24)),
+        acc_vel: u16::from_le_bytes(at(octets, 26)),
+        vel_vert: i16::from_le_bytes(at(octets, 28)),
+        ns_vog: i16::from_le_bytes(at(octets, 30)),
+        ew_vog: i16::from_le_bytes(at(octets, 32)),
         state: u16::from_le_bytes(at(octets, 34)),
         squawk: u16::from_le_bytes(at(octets, 36)),
-        fix,
-        satellites,
-        emergency,
+        fix_type,
+        num_sats,
+        em_status,
         control,
     };
     ensure(dynamic_fits(&of), Refusal::MavlinkField)?;
@@ -233,46 +240,46 @@ fn dynamic(octets: &[u8; 42]) -> Result<Message, Refusal> {
 
 #[inline]
 fn dynamic_fits(of: &Dynamic) -> bool {
-    of.squawk <= 7777 && of.fix <= 5
+    of.squawk <= 7777 && of.fix_type <= 5
 }
 
 #[inline]
 fn put_dynamic(of: &Dynamic, octets: &mut [u8; 42]) {
-    put_at(octets, 0, of.utc.to_le_bytes());
+    put_at(octets, 0, of.utc_time.to_le_bytes());
     put_at(octets, 4, of.latitude.to_le_bytes());
     put_at(octets, 8, of.longitude.to_le_bytes());
-    put_at(octets, 12, of.pressure.to_le_bytes());
-    put_at(octets, 16, of.gnss.to_le_bytes());
-    put_at(octets, 20, of.horizontal.to_le_bytes());
-    put_at(octets, 24, of.vertical.to_le_bytes());
-    put_at(octets, 26, of.velocity.to_le_bytes());
-    put_at(octets, 28, of.climb.to_le_bytes());
-    put_at(octets, 30, of.north.to_le_bytes());
-    put_at(octets, 32, of.east.to_le_bytes());
+    put_at(octets, 12, of.alt_pres.to_le_bytes());
+    put_at(octets, 16, of.alt_gnss.to_le_bytes());
+    put_at(octets, 20, of.acc_horiz.to_le_bytes());
+    put_at(octets, 24, of.acc_vert.to_le_bytes());
+    put_at(octets, 26, of.acc_vel.to_le_bytes());
+    put_at(octets, 28, of.vel_vert.to_le_bytes());
+    put_at(octets, 30, of.ns_vog.to_le_bytes());
+    put_at(octets, 32, of.ew_vog.to_le_bytes());
     put_at(octets, 34, of.state.to_le_bytes());
     put_at(octets, 36, of.squawk.to_le_bytes());
-    let last = [of.fix, of.satellites, of.emergency, of.control];
+    let last = [of.fix_type, of.num_sats, of.em_status, of.control];
     put_at(octets, 38, last);
 }
 
 #[inline]
 fn traffic(octets: &[u8; 38]) -> Result<Message, Refusal> {
-    let [ninth, emitter, age] = at(octets, 35);
+    let [callsign_ninth, emitter_type, tslc] = at(octets, 35);
     let of = Traffic {
-        address: u32::from_le_bytes(at(octets, 0)),
-        latitude: i32::from_le_bytes(at(octets, 4)),
-        longitude: i32::from_le_bytes(at(octets, 8)),
+        icao_address: u32::from_le_bytes(at(octets, 0)),
+        lat: i32::from_le_bytes(at(octets, 4)),
+        lon: i32::from_le_bytes(at(octets, 8)),
         altitude: i32::from_le_bytes(at(octets, 12)),
         heading: u16::from_le_bytes(at(octets, 16)),
-        speed: u16::from_le_bytes(at(octets, 18)),
-        climb: i16::from_le_bytes(at(octets, 20)),
-        valid: u16::from_le_bytes(at(octets, 22)),
+        hor_velocity: u16::from_le_bytes(at(octets, 18)),
+        ver_velocity: i16::from_le_bytes(at(octets, 20)),
+        valid_flags: u16::from_le_bytes(at(octets, 22)),
         squawk: u16::from_le_bytes(at(octets, 24)),
-        datum: octets[26],
+        altitude_type: octets[26],
         callsign: at(octets, 27),
-        ninth,
-        emitter,
-        age,
+        callsign_ninth,
+        emitter_type,
+        tslc,
     };
     ensure(traffic_fits(&of), Refusal::MavlinkField)?;
     Ok(Message::Traffic(of))
@@ -285,18 +292,18 @@ fn traffic_fits(of: &Traffic) -> bool {
 
 #[inline]
 fn put_traffic(of: &Traffic, octets: &mut [u8; 38]) {
-    put_at(octets, 0, of.address.to_le_bytes());
-    put_at(octets, 4, of.latitude.to_le_bytes());
-    put_at(octets, 8, of.longitude.to_le_bytes());
+    put_at(octets, 0, of.icao_address.to_le_bytes());
+    put_at(octets, 4, of.lat.to_le_bytes());
+    put_at(octets, 8, of.lon.to_le_bytes());
     put_at(octets, 12, of.altitude.to_le_bytes());
     put_at(octets, 16, of.heading.to_le_bytes());
-    put_at(octets, 18, of.speed.to_le_bytes());
-    put_at(octets, 20, of.climb.to_le_bytes());
-    put_at(octets, 22, of.valid.to_le_bytes());
+    put_at(octets, 18, of.hor_velocity.to_le_bytes());
+    put_at(octets, 20, of.ver_velocity.to_le_bytes());
+    put_at(octets, 22, of.valid_flags.to_le_bytes());
     put_at(octets, 24, of.squawk.to_le_bytes());
-    octets[26] = of.datum;
+    octets[26] = of.altitude_type;
     put_at(octets, 27, of.callsign);
-    put_at(octets, 35, [of.ninth, of.emitter, of.age]);
+    put_at(octets, 35, [of.callsign_ninth, of.emitter_type, of.tslc]);
 }
 
 #[inline]

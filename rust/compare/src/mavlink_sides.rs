@@ -84,67 +84,67 @@ fn second_message(message: &ours::Message) -> Message {
 
 fn second_data_stream(of: ours::DataStream) -> RequestDataStream {
     RequestDataStream {
-        rate: of.rate,
-        target_system: of.system,
-        target_component: of.component,
-        stream: of.stream,
-        start_stop: of.start,
+        rate: of.req_message_rate,
+        target_system: of.target_system,
+        target_component: of.target_component,
+        stream: of.req_stream_id,
+        start_stop: of.start_stop,
     }
 }
 
 fn second_static(of: ours::Static) -> Static {
     Static {
-        address: of.address,
+        address: of.icao,
         integrity: of.integrity,
-        stall_speed: of.stall,
+        stall_speed: of.stall_speed,
         callsign: of.callsign,
         capability: of.capability,
         emitter: of.emitter,
-        size: of.size,
-        lateral: of.lateral,
-        longitudinal: of.longitudinal,
+        size: of.alw_encode,
+        lateral: of.gps_lat_offs,
+        longitudinal: of.gps_lon_offs,
     }
 }
 
 fn second_dynamic(of: ours::Dynamic) -> Dynamic {
     Dynamic {
-        utc_time: of.utc,
+        utc_time: of.utc_time,
         latitude: of.latitude,
         longitude: of.longitude,
-        pressure_altitude: of.pressure,
-        gnss_altitude: of.gnss,
-        horizontal_accuracy: of.horizontal,
-        vertical_accuracy: of.vertical,
-        velocity_accuracy: of.velocity,
-        vertical_velocity: of.climb,
-        north_velocity: of.north,
-        east_velocity: of.east,
+        pressure_altitude: of.alt_pres,
+        gnss_altitude: of.alt_gnss,
+        horizontal_accuracy: of.acc_horiz,
+        vertical_accuracy: of.acc_vert,
+        velocity_accuracy: of.acc_vel,
+        vertical_velocity: of.vel_vert,
+        north_velocity: of.ns_vog,
+        east_velocity: of.ew_vog,
         state: of.state,
         squawk: of.squawk,
-        fix: of.fix,
-        satellites: of.satellites,
-        emergency: of.emergency,
+        fix: of.fix_type,
+        satellites: of.num_sats,
+        emergency: of.em_status,
         control: of.control,
     }
 }
 
 fn second_traffic(of: ours::Traffic) -> Traffic {
-    let mut callsign = [of.ninth; 9];
+    let mut callsign = [of.callsign_ninth; 9];
     callsign[..8].copy_from_slice(&of.callsign);
     Traffic {
-        address: of.address,
-        latitude: of.latitude,
-        longitude: of.longitude,
+        address: of.icao_address,
+        latitude: of.lat,
+        longitude: of.lon,
         altitude: of.altitude,
         heading: of.heading,
-        horizontal_velocity: of.speed,
-        vertical_velocity: of.climb,
-        valid: of.valid,
+        horizontal_velocity: of.hor_velocity,
+        vertical_velocity: of.ver_velocity,
+        valid: of.valid_flags,
         squawk: of.squawk,
-        altitude_type: of.datum,
+        altitude_type: of.altitude_type,
         callsign,
-        emitter: of.emitter,
-        since_last: of.age,
+        emitter: of.emitter_type,
+        since_last: of.tslc,
     }
 }
 
@@ -170,66 +170,66 @@ pub fn our_message(message: &Message) -> ours::Message {
 
 fn our_data_stream(of: &RequestDataStream) -> ours::DataStream {
     ours::DataStream {
-        rate: of.rate,
-        system: of.target_system,
-        component: of.target_component,
-        stream: of.stream,
-        start: of.start_stop,
+        req_message_rate: of.rate,
+        target_system: of.target_system,
+        target_component: of.target_component,
+        req_stream_id: of.stream,
+        start_stop: of.start_stop,
     }
 }
 
 fn our_static(of: &Static) -> ours::Static {
     ours::Static {
-        address: of.address,
+        icao: of.address,
         integrity: of.integrity,
-        stall: of.stall_speed,
+        stall_speed: of.stall_speed,
         callsign: of.callsign,
         capability: of.capability,
         emitter: of.emitter,
-        size: of.size,
-        lateral: of.lateral,
-        longitudinal: of.longitudinal,
+        alw_encode: of.size,
+        gps_lat_offs: of.lateral,
+        gps_lon_offs: of.longitudinal,
     }
 }
 
 fn our_dynamic(of: &Dynamic) -> ours::Dynamic {
     ours::Dynamic {
-        utc: of.utc_time,
+        utc_time: of.utc_time,
         latitude: of.latitude,
         longitude: of.longitude,
-        pressure: of.pressure_altitude,
-        gnss: of.gnss_altitude,
-        horizontal: of.horizontal_accuracy,
-        vertical: of.vertical_accuracy,
-        velocity: of.velocity_accuracy,
-        climb: of.vertical_velocity,
-        north: of.north_velocity,
-        east: of.east_velocity,
+        alt_pres: of.pressure_altitude,
+        alt_gnss: of.gnss_altitude,
+        acc_horiz: of.horizontal_accuracy,
+        acc_vert: of.vertical_accuracy,
+        acc_vel: of.velocity_accuracy,
+        vel_vert: of.vertical_velocity,
+        ns_vog: of.north_velocity,
+        ew_vog: of.east_velocity,
         state: of.state,
         squawk: of.squawk,
-        fix: of.fix,
-        satellites: of.satellites,
-        emergency: of.emergency,
+        fix_type: of.fix,
+        num_sats: of.satellites,
+        em_status: of.emergency,
         control: of.control,
     }
 }
 
 fn our_traffic(of: &Traffic) -> ours::Traffic {
-    let [callsign @ .., ninth] = of.callsign;
+    let [callsign @ .., callsign_ninth] = of.callsign;
     ours::Traffic {
-        address: of.address,
-        latitude: of.latitude,
-        longitude: of.longitude,
+        icao_address: of.address,
+        lat: of.latitude,
+        lon: of.longitude,
         altitude: of.altitude,
         heading: of.heading,
-        speed: of.horizontal_velocity,
-        climb: of.vertical_velocity,
-        valid: of.valid,
+        hor_velocity: of.horizontal_velocity,
+        ver_velocity: of.vertical_velocity,
+        valid_flags: of.valid,
         squawk: of.squawk,
-        datum: of.altitude_type,
+        altitude_type: of.altitude_type,
         callsign,
-        ninth,
-        emitter: of.emitter,
-        age: of.since_last,
+        callsign_ninth,
+        emitter_type: of.emitter,
+        tslc: of.since_last,
     }
 }

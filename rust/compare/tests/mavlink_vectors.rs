@@ -42,19 +42,19 @@ fn assert_both_ways(octets: &[u8], frame: Frame) {
     assert!(output[octets.len()..].iter().all(|&octet| octet == HELD));
 }
 
-/// Its text says size 0; its octets decide.
+/// Its text says alwEncode 0; its octets decide.
 #[test]
 fn the_published_static_packet() {
     let message = Message::Static(Static {
-        address: 0xA0_12_34,
+        icao: 0xA0_12_34,
         integrity: 0x25,
-        stall: 0,
+        stall_speed: 0,
         callsign: *b"PING2020",
         capability: 0,
         emitter: 0x12,
-        size: 1,
-        lateral: 4,
-        longitudinal: 1,
+        alw_encode: 1,
+        gps_lat_offs: 4,
+        gps_lon_offs: 1,
     });
     let frame = Frame {
         header: sequence(0x2F),
@@ -70,22 +70,22 @@ fn the_published_static_packet() {
 #[test]
 fn the_published_dynamic_packet() {
     let message = Message::Dynamic(Dynamic {
-        utc: 1_166_374_037,
+        utc_time: 1_166_374_037,
         latitude: 371_135_267,
         longitude: -934_946_477,
-        pressure: 0,
-        gnss: 375_773,
-        horizontal: 78_375,
-        vertical: 110,
-        velocity: 9999,
-        climb: 0,
-        north: -300,
-        east: 130,
+        alt_pres: 0,
+        alt_gnss: 375_773,
+        acc_horiz: 78_375,
+        acc_vert: 110,
+        acc_vel: 9999,
+        vel_vert: 0,
+        ns_vog: -300,
+        ew_vog: 130,
         state: 8,
         squawk: 1200,
-        fix: 3,
-        satellites: 5,
-        emergency: 0,
+        fix_type: 3,
+        num_sats: 5,
+        em_status: 0,
         control: 0,
     });
     let frame = Frame {

@@ -3,7 +3,7 @@
 
 use compare::bodies::longest_frame;
 use ostrogosz::{
-    crc_gdl90, write_frame, Answer, Counts, Receiver, Refusal, LONGEST_BODY, LONGEST_FRAME,
+    frame_check, write_frame, Answer, Counts, Receiver, Refusal, LONGEST_BODY, LONGEST_FRAME,
 };
 
 /// Bodies and their frames.

@@ -14,7 +14,7 @@
 //! | [`messages::send_message`] | its buffer, 878 | 13; no message is known to get 7 or 8 |
 //! | [`mavlink::read_frame`] | | 20, 21, 20, 22, 23, 20, 24, 25 |
 //! | [`mavlink::write_frame`] | [`mavlink::LONGEST_FRAME`], 50 | 25, 8 |
-//! | [`crc_gdl90`], [`meanings`] | | none |
+//! | [`frame_check`], [`meanings`] | | none |
 //!
 //! A refusal writes nothing. Success writes exactly the answer at the start of
 //! the output; the octets behind it keep what they held. A lent output is its
@@ -56,7 +56,7 @@ mod writer;
 
 pub use receiver::{Answer, Counts, Receiver, Taken, STORE};
 pub use refusal::Refusal;
-pub use writer::{crc_gdl90, write_frame};
+pub use writer::{frame_check, write_frame};
 
 /// Octets of the longest body that a frame carries.
 pub const LONGEST_BODY: usize = 436;

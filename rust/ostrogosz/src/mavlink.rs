@@ -1,7 +1,9 @@
 //! MAVLink version 1: its frame, and five kinds of message.
 //!
 //! Every field is a number in its raw unit. "Range" is tested in reading and in
-//! writing. Every other value is carried, marks for what is unknown too.
+//! writing. Every other value is carried, marks for what is unknown too. Fields
+//! have the names of source document 001 in Rust's spelling (`altPres` is
+//! `alt_pres`), those of [`DataStream`] the names of MAVLink's common set.
 //!
 //! | Message | ID | Octets of its frame |
 //! |---|---|---|
@@ -70,15 +72,15 @@ pub enum Message {
 #[repr(C)]
 pub struct DataStream {
     /// Messages a second.
-    pub rate: u16,
+    pub req_message_rate: u16,
     /// Target system.
-    pub system: u8,
+    pub target_system: u8,
     /// Target component.
-    pub component: u8,
+    pub target_component: u8,
     /// The stream that is requested.
-    pub stream: u8,
+    pub req_stream_id: u8,
     /// 1 to start, 0 to stop.
-    pub start: u8,
+    pub start_stop: u8,
 }
 
 /// Message 201.
@@ -86,11 +88,11 @@ pub struct DataStream {
 #[repr(C)]
 pub struct Static {
     /// Address: 24 bits; a wider one is refused in writing.
-    pub address: u32,
+    pub icao: u32,
     /// System integrity and design assurance.
     pub integrity: u8,
     /// Stall speed in cm/s.
-    pub stall: u16,
+    pub stall_speed: u16,
     /// Callsign: range A-Z, 0-9 and space, with no zero at the end.
     pub callsign: [u8; 8],
     /// Capability: range 0, so that a unit that announces one is refused.
@@ -98,11 +100,11 @@ pub struct Static {
     /// Emitter category: range 0 to 19.
     pub emitter: u8,
     /// A code of length and width: range 0 to 15.
-    pub size: u8,
+    pub alw_encode: u8,
     /// Lateral offset of the antenna: range 0 to 7.
-    pub lateral: u8,
+    pub gps_lat_offs: u8,
     /// Longitudinal offset of the antenna: range 0 to 31.
-    pub longitudinal: u8,
+    pub gps_lon_offs: u8,
 }
 
 /// Message 202.
@@ -110,37 +112,37 @@ pub struct Static {
 #[repr(C)]
 pub struct Dynamic {
     /// Seconds since 1980-01-06. Unknown: [`u32::MAX`].
-    pub utc: u32,
+    pub utc_time: u32,
     /// Latitude in 1E-7 degree, north positive. Unknown: [`i32::MAX`].
     pub latitude: i32,
     /// Longitude in 1E-7 degree, east positive. Unknown: [`i32::MAX`].
     pub longitude: i32,
     /// Pressure altitude in millimetres. Unknown: [`i32::MAX`].
-    pub pressure: i32,
+    pub alt_pres: i32,
     /// GNSS altitude in millimetres. Unknown: [`i32::MAX`].
-    pub gnss: i32,
+    pub alt_gnss: i32,
     /// Horizontal accuracy in millimetres. Unknown: [`u32::MAX`].
-    pub horizontal: u32,
+    pub acc_horiz: u32,
     /// Vertical accuracy in centimetres. Unknown: [`u16::MAX`].
-    pub vertical: u16,
+    pub acc_vert: u16,
     /// Velocity accuracy in mm/s. Unknown: [`u16::MAX`].
-    pub velocity: u16,
+    pub acc_vel: u16,
     /// Vertical speed in cm/s. Unknown: [`i16::MAX`].
-    pub climb: i16,
+    pub vel_vert: i16,
     /// Velocity in cm/s, north positive. Unknown: [`i16::MAX`].
-    pub north: i16,
+    pub ns_vog: i16,
     /// Velocity in cm/s, east positive. Unknown: [`i16::MAX`].
-    pub east: i16,
+    pub ew_vog: i16,
     /// State flags.
     pub state: u16,
     /// Squawk, its four digits read as a decimal number: range 0 to 7777.
     pub squawk: u16,
     /// Kind of position fix: range 0 to 5.
-    pub fix: u8,
+    pub fix_type: u8,
     /// Satellites visible. Unknown: [`u8::MAX`].
-    pub satellites: u8,
+    pub num_sats: u8,
     /// Emergency status.
-    pub emergency: u8,
+    pub em_status: u8,
     /// Control flags.
     pub control: u8,
 }
@@ -159,34 +161,34 @@ pub struct Status {
 #[repr(C)]
 pub struct Traffic {
     /// Address: all 32 bits are carried.
-    pub address: u32,
+    pub icao_address: u32,
     /// Latitude in 1E-7 degree, north positive.
-    pub latitude: i32,
+    pub lat: i32,
     /// Longitude in 1E-7 degree, east positive.
-    pub longitude: i32,
-    /// Altitude in millimetres, up positive; the datum says above what.
+    pub lon: i32,
+    /// Altitude in millimetres, up positive; its type says above what.
     pub altitude: i32,
     /// Course over ground in 1E-2 degree.
     pub heading: u16,
     /// Horizontal speed in cm/s.
-    pub speed: u16,
+    pub hor_velocity: u16,
     /// Vertical speed in cm/s.
-    pub climb: i16,
+    pub ver_velocity: i16,
     /// Which fields are valid.
-    pub valid: u16,
+    pub valid_flags: u16,
     /// Squawk, its four digits read as a decimal number: range 0 to 7777, or
     /// 65535 for none.
     pub squawk: u16,
     /// 0 for pressure altitude, 1 for geometric.
-    pub datum: u8,
+    pub altitude_type: u8,
     /// Callsign, its first eight octets: any.
     pub callsign: [u8; 8],
     /// The callsign's ninth octet: any.
-    pub ninth: u8,
+    pub callsign_ninth: u8,
     /// Emitter category.
-    pub emitter: u8,
+    pub emitter_type: u8,
     /// Seconds since the last communication.
-    pub age: u8,
+    pub tslc: u8,
 }
 
 /// Reads the frame at the start of `input`; the octets behind it are left.

@@ -7,7 +7,7 @@
 //!
 //! - [`check`]: the frame check sequence, by long division.
 //! - [`frame`]: stuffing and the frame writer.
-//! - [`ucp_receiver`]: the receiver by the byte and its byte account.
+//! - [`receiver`]: the receiver by the byte and its byte account.
 //! - [`lister`]: the program that lists a line.
 //! - [`messages`]: the eight message kinds of the UCP line.
 //! - [`mavlink`]: MAVLink version 1 frames and their five kinds.

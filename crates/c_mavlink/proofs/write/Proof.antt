@@ -1,11 +1,11 @@
 -- `c_mavlink::write` meets its contract, by the message writer's. Assumes nothing.
-use Rattle.output_writing.proofs.Numbers.{told}
+use Rattle.output_writing.proofs.Numbers.{as-numbers}
 use borrow.Author.Needs.{needs}
 use Rattle.c_mavlink.proofs.write.Statement.{statement}
 use Rattle.c_mavlink.proofs.write.Tie as tie
 
 returns : tie.Need-returns
-returns c = told (c .in-numbers .ensures) (c .before .before .before .write-message .ensures)
+returns c = as-numbers (c .in-numbers .ensures) (c .before .before .before .write-message .ensures)
 
 pub write-spec : {M : Type 1} → statement M
 write-spec = tie.close (tie.spec (λ c κs. search needs) (λ c κs. search needs) (λ c. search needs) returns)

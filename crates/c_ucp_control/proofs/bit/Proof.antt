@@ -3,7 +3,7 @@ use mathlib.Core.Path.{sym, ap}
 use mathlib.Core.Bool.{Bool, not}
 use native.Mathlib.Omega.{arith}
 use borrow.Author.Tests.{eq-eqb, ne-eqb}
-use Rattle.field_layout.specs.Digits.{bitOf}
+use Rattle.field_layout.specs.Layout.{bitOf}
 use Rattle.c_ucp_control.proofs.bit.Statement.{statement}
 use Rattle.c_ucp_control.proofs.bit.Tie as tie
 

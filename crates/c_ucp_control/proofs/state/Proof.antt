@@ -5,7 +5,7 @@ use Prim.Native.Nat.{ℕ, _+_, _*_}
 use denote.Ref.{now}
 use lib.ListN.{getD}
 use Rattle.field_layout.proofs.Elements.{by-elements}
-use Rattle.field_format.specs.Formats.{bodyOf}
+use Rattle.field_format.specs.Format.{bodyOf}
 use Rattle.c_lent.specs.Structs.{held}
 use Rattle.c_ucp_control.specs.Struct.{controlStruct, controlState}
 use borrow.Author.Needs.{needs}

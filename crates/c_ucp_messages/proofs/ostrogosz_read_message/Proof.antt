@@ -2,7 +2,7 @@
 use mathlib.Core.Path.{_∙_}
 use native.Mathlib.Omega.{arith}
 use denote.Ref.{now}
-use Rattle.ucp_messages.specs.Reads.{answerAs}
+use Rattle.ucp_messages.specs.Messages.{answerAs}
 use Rattle.ucp_messages.proofs.BodyKind.{kind-so, kind-none}
 use Rattle.c_ucp_messages.proofs.Reports.{ownship-numbers, traffic-numbers}
 use borrow.Author.Needs.{needs}

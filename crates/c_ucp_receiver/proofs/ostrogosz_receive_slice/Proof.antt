@@ -7,8 +7,8 @@ use Rattle.c_ucp_receiver.proofs.ostrogosz_receive_slice.Tie as tie
 returns : tie.Need-returns
 returns c =
     let written = c .before .before in
-    takes _ _ _ _ _ _ (written .put-line .ensures) (c .before .kind-of .ensures) (c .value-of .ensures) _ _ _ _ _ _ _
-    (written .before .before .before .before .before .before .taken-by .ensures .took)
+    takes _ _ _ _ _ (written .put-line .ensures) (c .before .kind-of .ensures) (c .value-of .ensures) _ _ _ _ _ _ _
+    (written .before .before .before .before .before .taken-by .ensures .took)
 
 pub ostrogosz-receive-slice-spec : {M : Type 1} → statement M
 ostrogosz-receive-slice-spec =

@@ -5,11 +5,11 @@ use Rattle.c_ucp_receiver.proofs.ostrogosz_receiver_start.Statement.{st
 use Rattle.c_ucp_receiver.proofs.ostrogosz_receiver_start.Tie as tie
 
 put-line-requires : tie.Need-put-line-requires
-put-line-requires c κs = rw (c .before .fresh-rest .ensures) (search needs)
+put-line-requires c κs = rw (c .fresh-record .ensures) (search needs)
 
 returns : tie.Need-returns
-returns c = (refl, c .put-line .ensures ∙ rw (c .before .before .fresh-rest .ensures, c .before .zero-counts .ensures))
+returns c = (refl, c .put-line .ensures ∙ rw (c .before .fresh-record .ensures))
 
 pub ostrogosz-receiver-start-spec : {M : Type 1} → statement M
 ostrogosz-receiver-start-spec =
-    tie.close (tie.spec (λ c κs. search needs) (λ c κs. search needs) put-line-requires returns)
+    tie.close (tie.spec (λ c κs. search needs) put-line-requires returns)

@@ -7,9 +7,9 @@ use Rattle.c_ucp_receiver.proofs.put_open_line.Tie as tie
 
 returns : tie.Need-returns
 returns c =
-    let a = c .before .before .before .args in
-    let p = c .before .before .before .pre in
-    rw (c .before .phase-number .ensures) (open-line (now (a .line)) (a .rest) (a .counts) (p .0) (p .2) (p .3) (p .4))
+    let a = c .before .before .before .before .before .args in
+    let p = c .before .before .before .before .before .pre in
+    rw (c .before .phase-number .ensures) (open-line (now (a .line)) (a .receiver) (p .0) (p .2) (p .3) (p .4))
 
 pub put-open-line-spec : {M : Type 1} → statement M
 put-open-line-spec =

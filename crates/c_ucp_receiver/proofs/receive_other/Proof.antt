@@ -7,15 +7,15 @@ use Rattle.c_ucp_receiver.proofs.receive_other.Tie as tie
 
 put-open-line-requires : tie.Need-put-open-line-requires
 put-open-line-requires c κs =
-    let e = c .before .before .before .before .before .received-by .ensures in
-    let kept = kept-counts _ _ _ _ _ (c .before .before .before .before .before .before .before .before .before .before .pre) (e .received .account) in
+    let e = c .before .before .before .before .received-by .ensures in
+    let kept = kept-counts _ _ _ _ _ (c .before .before .before .before .before .before .before .before .before .pre) (e .received .account) in
     (search needs, e .stored, kept .0, kept .1, kept .2)
 
 returns : tie.Need-returns
 returns c =
     let written = c .before .before in
-    receives _ _ _ _ _ _ (written .put-open-line .ensures) (c .before .kind-of .ensures) (c .value-of .ensures) _ _ _ _ _ _
-    (written .before .before .before .before .before .before .received-by .ensures .received)
+    receives _ _ _ _ _ (written .put-open-line .ensures) (c .before .kind-of .ensures) (c .value-of .ensures) _ _ _ _ _ _
+    (written .before .before .before .before .before .received-by .ensures .received)
 
 pub receive-other-spec : {M : Type 1} → statement M
 receive-other-spec =

@@ -7,11 +7,10 @@ use Rattle.c_ucp_receiver.proofs.taken_by.Tie as tie
 returns : tie.Need-returns
 returns c =
     let called = c .before .before in
-    let counts = called .before .before .before .counts-in .ensures in
-    let rest = called .before .before .before .before .rest-in .ensures in
-    fitting-slice _ _ _ _ _ _ _ (rw (rest .0) at (rest .1)) (rw (rest .0, counts) at (called .receive-slice .ensures))
+    let e = called .before .before .before .record-in .ensures in
+    fitting-slice _ _ _ _ _ _ _ (rw (e .0) at (e .1)) (rw (e .0) at (called .receive-slice .ensures))
 
 pub taken-by-spec : {M : Type 1} → statement M
 taken-by-spec =
     tie.close
-    (tie.spec (λ c κs. search needs) (λ c κs. search needs) (λ c κs. search needs) (λ c. search needs) returns)
+    (tie.spec (λ c κs. search needs) (λ c κs. search needs) (λ c. search needs) returns)

@@ -1,7 +1,7 @@
 -- `c_ucp_report::left` meets its contract, by the number that the octets make. Assumes nothing.
 use native.Mathlib.Omega.{arith}
 use denote.Ref.{now}
-use Rattle.crc_polynomial.specs.Bits.{Octets}
+use Rattle.crc_polynomial.specs.Polynomial.{Octets}
 use Rattle.c_ucp_report.proofs.Words.{number-from}
 use borrow.Author.Needs.{needs}
 use Rattle.c_ucp_report.proofs.left.Statement.{statement}

@@ -4,7 +4,7 @@ use Prim.Native.Nat.{_/_, _%_}
 use native.Mathlib.Omega.{arith}
 use denote.Ref.{now}
 use lib.ListN.{getD}
-use Rattle.crc_polynomial.specs.Bits.{Octets}
+use Rattle.crc_polynomial.specs.Polynomial.{Octets}
 use Rattle.field_layout.specs.Steps.{big16}
 use Rattle.c_ucp_report.proofs.Numbers.{read-speed}
 use Rattle.c_ucp_report.proofs.Words.{number-from}

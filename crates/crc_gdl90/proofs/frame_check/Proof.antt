@@ -4,8 +4,7 @@ use mathlib.Core.Path.{_≡_, refl, sym, ap, _∙_}
 use Prim.Native.Nat.{ℕ, _+_, _-_, _<_, _≤_}
 use lib.ListN.{length, drop}
 use denote.Ref.{now}
-use Rattle.crc_polynomial.specs.Bits.{bitsOfOctets}
-use Rattle.crc_polynomial.specs.Division.{divided}
+use Rattle.crc_polynomial.specs.Polynomial.{bitsOfOctets, divided}
 use Rattle.crc_gdl90.specs.Check.{frameCheck}
 use Rattle.crc_gdl90.proofs.Step.{octet-first, none-left}
 use borrow.Author.Needs.{needs}

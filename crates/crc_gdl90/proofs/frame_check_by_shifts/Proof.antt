@@ -3,8 +3,7 @@ use mathlib.Core.Path.{sym, ap, _∙_}
 use Prim.Native.Nat.{ℕ}
 use lib.ListN.{drop}
 use denote.Ref.{now}
-use Rattle.crc_polynomial.specs.Bits.{bitsOfOctets}
-use Rattle.crc_polynomial.specs.Division.{divided}
+use Rattle.crc_polynomial.specs.Polynomial.{bitsOfOctets, divided}
 use Rattle.crc_gdl90.specs.Check.{frameCheck}
 use Rattle.crc_gdl90.proofs.Head.{head-first}
 use borrow.Author.Needs.{needs}

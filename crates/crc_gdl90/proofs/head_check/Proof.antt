@@ -6,8 +6,7 @@ use native.Mathlib.Omega.{arith}
 use borrow.Author.Needs.{needs}
 use denote.Ref.{now}
 use lib.ListN.{length, getD}
-use Rattle.crc_polynomial.specs.Bits.{bitsOfOctets}
-use Rattle.crc_polynomial.specs.Division.{divided}
+use Rattle.crc_polynomial.specs.Polynomial.{bitsOfOctets, divided}
 use Rattle.crc_gdl90.proofs.Head.{take-none, take-one, take-two, one-octet, two-octets}
 use Rattle.crc_gdl90.proofs.head_check.Statement.{statement}
 use Rattle.crc_gdl90.proofs.head_check.Tie as tie

@@ -17,17 +17,17 @@ use Rattle.line_explainer.proofs.explain_block.Statement.{statement}
 use Rattle.line_explainer.proofs.explain_block.Tie as tie
 
 abbrev Inv-loop : tie.InvT-loop
-Inv-loop store₀ room₀ block text₀ rest₀ counts₀ taken₀ store room text rest counts taken =
-    Reached block (behindAll (stateOf rest₀ store₀) counts₀ block) (stateOf rest store) counts taken
+Inv-loop store₀ room₀ block text₀ receiver₀ taken₀ store room text receiver taken =
+    Reached block (behindAll (stateOf (receiver₀ .rest) store₀) (receiver₀ .counts) block) (stateOf (receiver .rest) store) (receiver .counts) taken
 
 abbrev μ-loop : tie.MeasureT-loop
-μ-loop store₀ room₀ block text₀ rest₀ counts₀ taken₀ store room text rest counts taken = length block - taken
+μ-loop store₀ room₀ block text₀ receiver₀ taken₀ store room text receiver taken = length block - taken
 
 -- what a turn explains, of the part of the block that is left
 explained : (c : tie.After-explain-next Inv-loop μ-loop)
     → let l = c .before .before .before .before .before .before .loop in
-    ExplainsAnswer (l .rest) (l .counts) (l .store) (l .room) (drop (l .taken) (now (c .before .before .before .before .before .before .before .before .args .block))) (l .text)
-    (c .explain-next .result) (c .explain-next .last .1 .1 .0) (c .explain-next .last .1 .1 .1 .0) (c .explain-next .last .1 .1 .1 .1 .1 .0)
+    ExplainsAnswer (l .receiver) (l .store) (l .room) (drop (l .taken) (now (c .before .before .before .before .before .before .before .before .args .block))) (l .text)
+    (c .explain-next .result) (c .explain-next .last .1 .0) (c .explain-next .last .1 .1 .0) (c .explain-next .last .1 .1 .1 .1 .0)
 explained c =
     let l = c .before .before .before .before .before .before .loop in
     let block = now (c .before .before .before .before .before .before .before .before .args .block) in
@@ -49,16 +49,16 @@ loop-holds : tie.Need-loop-holds Inv-loop μ-loop
 loop-holds c = reached-first (now (c .before .args .block)) _ _
 
 add-taken : tie.Need-add-taken Inv-loop μ-loop
-add-taken c = omega (arith, turn-within (c .before .before .before .before), c .before .before .before .before .before .before .before .before .before .before .before .before .good)
+add-taken c = omega (arith, turn-within (c .before .before .before), c .before .before .before .before .before .before .before .before .before .before .before .good)
 
 loop-less : tie.Need-loop-less Inv-loop μ-loop
-loop-less c = omega (arith, turn-within (c .before .before .before .before .before .before .before .before))
+loop-less c = omega (arith, turn-within (c .before .before .before .before .before .before .before))
 
 loop-again : tie.Need-loop-again Inv-loop μ-loop
 loop-again c =
-    let t = c .before .before .before .before .before .before .before .before in
-    let l = c .before .before .before .before .before .before .before .before .before .before .before .before .before .before .loop in
-    let block = now (c .before .before .before .before .before .before .before .before .before .before .before .before .before .before .before .before .args .block) in
+    let t = c .before .before .before .before .before .before .before in
+    let l = c .before .before .before .before .before .before .before .before .before .before .before .before .before .loop in
+    let block = now (c .before .before .before .before .before .before .before .before .before .before .before .before .before .before .before .args .block) in
     reached-more block _ _ _ (l .taken) (l .inv) _ _ (t .explain-next .result .taken .taken) (takes-within (explained t .takes) .0) (takes-onward (explained t .takes) (explained t .long))
 
 returns-2 : tie.Need-returns-2 Inv-loop μ-loop

@@ -16,17 +16,17 @@ use Rattle.line_lister.proofs.list_block.Statement.{statement}
 use Rattle.line_lister.proofs.list_block.Tie as tie
 
 abbrev Inv-loop : tie.InvT-loop
-Inv-loop store₀ room₀ block text₀ rest₀ counts₀ taken₀ store room text rest counts taken =
-    (length text ≡ length text₀) × Reached block (behindAll (stateOf rest₀ store₀) counts₀ block) (stateOf rest store) counts taken
+Inv-loop store₀ room₀ block text₀ receiver₀ taken₀ store room text receiver taken =
+    (length text ≡ length text₀) × Reached block (behindAll (stateOf (receiver₀ .rest) store₀) (receiver₀ .counts) block) (stateOf (receiver .rest) store) (receiver .counts) taken
 
 abbrev μ-loop : tie.MeasureT-loop
-μ-loop store₀ room₀ block text₀ rest₀ counts₀ taken₀ store room text rest counts taken = length block - taken
+μ-loop store₀ room₀ block text₀ receiver₀ taken₀ store room text receiver taken = length block - taken
 
 -- what a turn lists, of the part of the block that is left
 listed : (c : tie.After-list-some Inv-loop μ-loop)
     → let l = c .before .before .before .before .before .before .loop in
-    Lists (l .rest) (l .counts) (l .store) (l .room) (drop (l .taken) (now (c .before .before .before .before .before .before .before .before .before .args .block))) (l .text)
-    (c .list-some .result) (c .list-some .last .1 .1 .0) (c .list-some .last .1 .1 .1 .0) (c .list-some .last .1 .1 .1 .1 .1 .0)
+    Lists (l .receiver) (l .store) (l .room) (drop (l .taken) (now (c .before .before .before .before .before .before .before .before .before .args .block))) (l .text)
+    (c .list-some .result) (c .list-some .last .1 .0) (c .list-some .last .1 .1 .0) (c .list-some .last .1 .1 .1 .1 .0)
 listed c =
     let l = c .before .before .before .before .before .before .loop in
     let block = now (c .before .before .before .before .before .before .before .before .before .args .block) in
@@ -44,33 +44,33 @@ turn-within c =
     let more = lists-moves (listed c) (omega (arith, l .inv .0, c .before .before .before .before .before .before .before .before .before .pre)) (omega (arith, left, c .before .before .before .before .before .loop-test .taken)) in
     (omega (arith, lists-within (listed c), left), omega (arith, more))
 
-text-long : (c : tie.After-list-some Inv-loop μ-loop) → length (c .list-some .last .1 .1 .1 .1 .1 .0) ≡ length (now (c .before .before .before .before .before .before .before .before .before .args .text))
+text-long : (c : tie.After-list-some Inv-loop μ-loop) → length (c .list-some .last .1 .1 .1 .1 .0) ≡ length (now (c .before .before .before .before .before .before .before .before .before .args .text))
 text-long c = same-long (listed c .puts) ∙ c .before .before .before .before .before .before .loop .inv .0
 
-text-within : (c : tie.After-list-some Inv-loop μ-loop) → c .list-some .result .written ≤ length (c .list-some .last .1 .1 .1 .1 .1 .0)
+text-within : (c : tie.After-list-some Inv-loop μ-loop) → c .list-some .result .written ≤ length (c .list-some .last .1 .1 .1 .1 .0)
 text-within c = omega (arith, listed c .within, same-long (listed c .puts))
 
 loop-holds : tie.Need-loop-holds Inv-loop μ-loop
 loop-holds c = (refl, reached-first (now (c .before .before .args .block)) _ _)
 
 add-taken : tie.Need-add-taken Inv-loop μ-loop
-add-taken c = omega (arith, turn-within (c .before .before .before .before .before), c .before .before .before .before .before .before .before .before .before .before .before .before .before .before .good)
+add-taken c = omega (arith, turn-within (c .before .before .before .before), c .before .before .before .before .before .before .before .before .before .before .before .before .before .good)
 
 slice-reshare-prefix-write-out : tie.Need-slice-reshare-prefix-write-out Inv-loop μ-loop
-slice-reshare-prefix-write-out c = text-within (c .before .before .before .before .before)
+slice-reshare-prefix-write-out c = text-within (c .before .before .before .before)
 
 slice-aggregate-write-out : tie.Need-slice-aggregate-write-out Inv-loop μ-loop
-slice-aggregate-write-out c = sym (length-take-le _ _ (text-within (c .before .before .before .before .before .before)))
+slice-aggregate-write-out c = sym (length-take-le _ _ (text-within (c .before .before .before .before .before)))
 
 same-length : tie.Need-same-length Inv-loop μ-loop
-same-length c = text-long (c .before .before .before .before .before .before .before .before)
+same-length c = text-long (c .before .before .before .before .before .before .before)
 
 loop-less : tie.Need-loop-less Inv-loop μ-loop
-loop-less c = omega (arith, turn-within (c .before .before .before .before .before .before .before .before))
+loop-less c = omega (arith, turn-within (c .before .before .before .before .before .before .before))
 
 loop-again : tie.Need-loop-again Inv-loop μ-loop
 loop-again c =
-    let t = c .before .before .before .before .before .before .before .before in
+    let t = c .before .before .before .before .before .before .before in
     let l = t .before .before .before .before .before .before .loop in
     let block = now (t .before .before .before .before .before .before .before .before .before .args .block) in
     (text-long t, reached-more block _ _ _ (l .taken) (l .inv .1) _ _ (t .list-some .result .taken) (lists-within (listed t)) (lists-onward (listed t)))

@@ -75,8 +75,8 @@ loop-again c =
       next-frame (least .result) block (l .count) (l .left) within (l .inv .1) (explained (c .before .before .before .before .before .before)) (c .before .before .before .before .before .before .before .before .before .loop-test .taken) (c .before .if2 .left),
     )
 
-sub-told : tie.Need-sub-told Inv-loop μ-loop
-sub-told c = omega (arith, c .before .loop .inv .0)
+sub-progressed : tie.Need-sub-progressed Inv-loop μ-loop
+sub-progressed c = omega (arith, c .before .loop .inv .0)
 
 returns-3 : tie.Need-returns-3 Inv-loop μ-loop
 returns-3 c =
@@ -110,7 +110,7 @@ explain-block-spec =
     sub-left
     loop-less
     loop-again
-    sub-told
+    sub-progressed
     (λ c κs. search needs)
     (λ c κs. search needs)
     returns-3)

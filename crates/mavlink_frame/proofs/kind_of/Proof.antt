@@ -3,7 +3,7 @@ use mathlib.Core.Path.{_≡_, refl, sym, ap, _∙_}
 use Prim.Native.Nat.{_-_, _≤_}
 use borrow.Author.Needs.{needs}
 use lib.ListN.{drop, drop-of-length-le}
-use Rattle.mavlink_frame.specs.Kinds.{kinds, kindAmong, mavlinkKind}
+use Rattle.mavlink_frame.specs.Frame.{kinds, kindAmong, mavlinkKind}
 use Rattle.mavlink_frame.proofs.Search.{here, past}
 use Rattle.mavlink_frame.proofs.kind_of.Statement.{statement}
 use Rattle.mavlink_frame.proofs.kind_of.Tie as tie

@@ -13,8 +13,7 @@ use Rattle.mavlink_frame.specs.declared.Lookup.{Lookup}
 use Rattle.mavlink_frame.specs.declared.Lookup.the-variants.{Known, Unknown}
 use Rattle.mavlink_frame.specs.declared.Found.{Found}
 use Rattle.mavlink_frame.specs.declared.Found.the-variants.{Frame, Refused}
-use Rattle.mavlink_frame.specs.Kinds.{kinds, kindAmong, mavlinkKind}
-use Rattle.mavlink_frame.specs.Frame.{start}
+use Rattle.mavlink_frame.specs.Frame.{kinds, kindAmong, mavlinkKind, start}
 use Rattle.mavlink_frame.specs.Reader.{headerAt, checkAt, checkDue, foundOf, foundBy, found}
 
 pub record Accepted (s : List ℕ) (id : ℕ) (h : Header) (used : ℕ) : Type 0 where

@@ -7,7 +7,7 @@ use Rattle.ucp_receiver.specs.Slice.{sliceRun}
 use Rattle.text_ucp_listing.specs.Listing.{bodyRoom}
 use Rattle.text_output.proofs.Clipped.{all-fits}
 use Rattle.text_ucp_explanation.proofs.Longest.{line-most}
-use Rattle.text_ucp_explanation.proofs.Verdicts.{verdict-told, verdict-fits}
+use Rattle.text_ucp_explanation.proofs.Verdicts.{verdict-answer, verdict-fits}
 use denote.Ref.{now}
 use Rattle.text_ucp_explanation.proofs.explain_next.Statement.{statement}
 use Rattle.text_ucp_explanation.proofs.explain_next.Tie as tie
@@ -16,16 +16,16 @@ put-answer-requires : tie.Need-put-answer-requires
 put-answer-requires c κs =
     let t = c .before .before .before .receive-slice in
     let long = c .before .before .before .before .receive-slice-arg2 .given .0 .1 in
-    (t .kept .1 .1 .1 .1 .0 ∙ long, body-fits _ _ _ _ _ _ _ _ (t .ensures) long (t .kept .1 .1 .1 .1 .0))
+    (t .kept .1 .1 .1 .0 ∙ long, body-fits _ _ _ _ _ _ _ (t .ensures) long (t .kept .1 .1 .1 .0))
 
 returns : tie.Need-returns
 returns c =
     let a = c .before .before .before .before .before .before .before .before .args in
     let t = c .before .before .before .before .receive-slice in
     let long = c .before .before .before .before .before .receive-slice-arg2 .given .0 .1 in
-    let v = sliceRun (stateOf (a .rest) (now (a .store))) (a .counts) (now (a .line)) bodyRoom .verdict in
-    let few = line-most v (verdict-fits (t .ensures) long (t .kept .1 .1 .1 .1 .0)) in
-    let clips = rw (verdict-told (t .ensures) long) at (c .put-answer .ensures) in
+    let v = sliceRun (stateOf (a .receiver .rest) (now (a .store))) (a .receiver .counts) (now (a .line)) bodyRoom .verdict in
+    let few = line-most v (verdict-fits (t .ensures) long (t .kept .1 .1 .1 .0)) in
+    let clips = rw (verdict-answer (t .ensures) long) at (c .put-answer .ensures) in
     let ends = all-fits clips (omega (arith, few)) in
     record { long = long; takes = t .ensures; puts = record { ends = ends; leaves = clips .leaves }; within = omega (arith, few, ends) }
 

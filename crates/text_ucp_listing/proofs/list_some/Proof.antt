@@ -16,11 +16,11 @@ use Rattle.text_ucp_listing.proofs.list_some.Statement.{statement}
 use Rattle.text_ucp_listing.proofs.list_some.Tie as tie
 
 abbrev Inv-loop : tie.InvT-loop
-Inv-loop store₀ room₀ line text₀ rest₀ counts₀ taken₀ at₀ store room text rest counts taken at =
-    SoFar (lines (stateOf rest₀ store₀) counts₀ room₀ line (length text₀)) line text₀ (stateOf rest store) counts room text taken at
+Inv-loop store₀ room₀ line text₀ receiver₀ taken₀ at₀ store room text receiver taken at =
+    SoFar (lines (stateOf (receiver₀ .rest) store₀) (receiver₀ .counts) room₀ line (length text₀)) line text₀ (stateOf (receiver .rest) store) (receiver .counts) room text taken at
 
 abbrev μ-loop : tie.MeasureT-loop
-μ-loop store₀ room₀ line text₀ rest₀ counts₀ taken₀ at₀ store room text rest counts taken at = length line - taken
+μ-loop store₀ room₀ line text₀ receiver₀ taken₀ at₀ store room text receiver taken at = length line - taken
 
 text-long : (c : tie.At-loop Inv-loop μ-loop) → length (c .loop .text) ≡ length (now (c .before .before .before .args .text))
 text-long c = same-long (c .loop .inv .puts)
@@ -28,8 +28,8 @@ text-long c = same-long (c .loop .inv .puts)
 -- what a turn takes, of the part of the line that is left
 took : (c : tie.After-receive-slice Inv-loop μ-loop)
     → let l = c .before .before .before .before .before .before .loop in
-    Takes (l .rest) (l .counts) (l .store) (drop (l .taken) (now (c .before .before .before .before .before .before .before .before .before .args .line))) (l .room)
-    (c .receive-slice .result) (c .receive-slice .last .1 .1 .0) (c .receive-slice .last .1 .1 .1 .1 .0)
+    Takes (l .receiver) (l .store) (drop (l .taken) (now (c .before .before .before .before .before .before .before .before .before .args .line))) (l .room)
+    (c .receive-slice .result) (c .receive-slice .last .1 .0) (c .receive-slice .last .1 .1 .1 .0)
 took c =
     let l = c .before .before .before .before .before .before .loop in
     let line = now (c .before .before .before .before .before .before .before .before .before .args .line) in
@@ -52,28 +52,28 @@ loop-holds : tie.Need-loop-holds Inv-loop μ-loop
 loop-holds c =
     let s = c .before .before in
     let a = s .args in
-    none-so-far (stateOf (a .rest) (now (a .store))) (a .counts) (now (a .room)) (now (a .line)) (now (a .text))
+    none-so-far (stateOf (a .receiver .rest) (now (a .store))) (a .receiver .counts) (now (a .room)) (now (a .line)) (now (a .text))
 
 sub-if1 : tie.Need-sub-if1 Inv-loop μ-loop
 sub-if1 c = omega (arith, c .before .loop .inv .ends, same-long (c .before .loop .inv .puts))
 
 add-taken : tie.Need-add-taken Inv-loop μ-loop
-add-taken c = omega (arith, taken-within (c .before .before .before), c .before .before .before .before .before .before .before .before .before .before .before .before .good)
+add-taken c = omega (arith, taken-within (c .before .before), c .before .before .before .before .before .before .before .before .before .before .before .good)
 
 put-answer-requires : tie.Need-put-answer-requires Inv-loop μ-loop
 put-answer-requires c κs =
-    let t = c .before .before .before .before .before .before in
-    (omega (arith, text-long (t .before .before .before .before .before .before), t .before .before .before .before .if1 .left), t .receive-slice .kept .1 .1 .1 .1 .0 ∙ t .before .receive-slice-arg3 .given .0 .1, body-fits _ _ _ _ _ _ _ _ (took t) (t .before .receive-slice-arg3 .given .0 .1) (t .receive-slice .kept .1 .1 .1 .1 .0))
+    let t = c .before .before .before .before .before in
+    (omega (arith, text-long (t .before .before .before .before .before .before), t .before .before .before .before .if1 .left), t .receive-slice .kept .1 .1 .1 .0 ∙ t .before .receive-slice-arg3 .given .0 .1, body-fits _ _ _ _ _ _ _ (took t) (t .before .receive-slice-arg3 .given .0 .1) (t .receive-slice .kept .1 .1 .1 .0))
 
 loop-less : tie.Need-loop-less Inv-loop μ-loop
-loop-less c = omega (arith, taken-within (c .before .before .before .before .before .before .before .before .before), c .before .before .before .before .before .before .before .before .before .before .before .before .before .before .loop-test .taken)
+loop-less c = omega (arith, taken-within (c .before .before .before .before .before .before .before .before), c .before .before .before .before .before .before .before .before .before .before .before .before .before .loop-test .taken)
 
 loop-again : tie.Need-loop-again Inv-loop μ-loop
 loop-again c =
-    let l = c .before .before .before .before .before .before .before .before .before .before .before .before .before .before .before .loop in
-    let t = c .before .before .before .before .before .before .before .before .before .receive-slice in
-    more-so-far (l .rest) (l .counts) (l .store) (l .room) (l .taken) (l .at) (t .result) _ _
-    (l .inv) (omega (arith, l .inv .ends, c .before .before .before .before .before .before .before .before .before .before .before .before .before .if1 .left, text-long (c .before .before .before .before .before .before .before .before .before .before .before .before .before .before .before))) (took (c .before .before .before .before .before .before .before .before .before)) (c .before .before .before .before .before .before .before .before .before .before .receive-slice-arg3 .given .0 .1) (t .kept .1 .1 .1 .1 .0) (c .before .before .put-answer .ensures)
+    let l = c .before .before .before .before .before .before .before .before .before .before .before .before .before .before .loop in
+    let t = c .before .before .before .before .before .before .before .before .receive-slice in
+    more-so-far (l .receiver) (l .store) (l .room) (l .taken) (l .at) (t .result) _ _
+    (l .inv) (omega (arith, l .inv .ends, c .before .before .before .before .before .before .before .before .before .before .before .before .if1 .left, text-long (c .before .before .before .before .before .before .before .before .before .before .before .before .before .before))) (took (c .before .before .before .before .before .before .before .before)) (c .before .before .before .before .before .before .before .before .before .receive-slice-arg3 .given .0 .1) (t .kept .1 .1 .1 .0) (c .before .before .put-answer .ensures)
 
 same-length : tie.Need-same-length Inv-loop μ-loop
 same-length c = same-long (c .before .loop .inv .puts)
@@ -82,8 +82,8 @@ returns : tie.Need-returns Inv-loop μ-loop
 returns c =
     let s = c .before .before .before .before in
     let l = c .before .loop in
-    all-so-far (s .args .rest) (s .args .counts) (now (s .args .store)) (now (s .args .room)) (now (s .args .line)) (now (s .args .text)) _ (l .store) (l .room)
-    (l .inv) (slice-ends (stateOf (l .rest) (l .store)) (l .counts) (l .room) (now (s .args .line)) (l .taken) _ (c .loop-test .left))
+    all-so-far (s .args .receiver) (now (s .args .store)) (now (s .args .room)) (now (s .args .line)) (now (s .args .text)) _ (l .store) (l .room)
+    (l .inv) (slice-ends (stateOf (l .receiver .rest) (l .store)) (l .receiver .counts) (l .room) (now (s .args .line)) (l .taken) _ (c .loop-test .left))
 
 same-length-2 : tie.Need-same-length-2 Inv-loop μ-loop
 same-length-2 c = same-long (c .before .before .loop .inv .puts)
@@ -92,8 +92,8 @@ returns-2 : tie.Need-returns-2 Inv-loop μ-loop
 returns-2 c =
     let s = c .before .before .before .before .before in
     let l = c .before .before .loop in
-    all-so-far (s .args .rest) (s .args .counts) (now (s .args .store)) (now (s .args .room)) (now (s .args .line)) (now (s .args .text)) _ (l .store) (l .room)
-    (l .inv) (text-full (stateOf (l .rest) (l .store)) (l .counts) (l .room) _ _ (omega (arith, c .if1 .taken, text-long (c .before .before))))
+    all-so-far (s .args .receiver) (now (s .args .store)) (now (s .args .room)) (now (s .args .line)) (now (s .args .text)) _ (l .store) (l .room)
+    (l .inv) (text-full (stateOf (l .receiver .rest) (l .store)) (l .receiver .counts) (l .room) _ _ (omega (arith, c .if1 .taken, text-long (c .before .before))))
 
 pub list-some-spec : {M : Type 1} → statement M
 list-some-spec =

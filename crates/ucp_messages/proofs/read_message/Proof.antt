@@ -1,7 +1,7 @@
 -- `ucp_messages::read_message` meets its contract, kind by kind. Assumes nothing.
 use native.Mathlib.Omega.{arith}
 use denote.Ref.{now}
-use Rattle.ucp_messages.specs.Reads.{answerAs}
+use Rattle.ucp_messages.specs.Messages.{answerAs}
 use Rattle.ucp_messages.proofs.BodyKind.{kind-so, kind-none}
 use borrow.Author.Needs.{needs}
 use Rattle.ucp_messages.proofs.read_message.Statement.{statement}

@@ -1,6 +1,6 @@
 -- `ucp_messages::write_message` meets its contract, kind by kind: a kind that is found and its call, then what it leaves. Assumes
 -- nothing.
-use Rattle.ucp_messages.specs.Bodies.{messageFits, messageBody}
+use Rattle.ucp_messages.specs.Messages.{messageFits, messageBody}
 use borrow.Author.Needs.{needs}
 use Rattle.ucp_messages.proofs.write_message.Statement.{statement}
 use Rattle.ucp_messages.proofs.write_message.Tie as tie

@@ -52,10 +52,10 @@ module _ {store : List ℕ} {stored sent check : ℕ} (k : Computed store stored
 
 -- ---- what is put out
 
-told-is : (answer : Answer) (store : List ℕ) (room : ℕ) → HasRoom answer store room → receiverAnswer answer ≡ answerFor (verdictOf answer store)
-told-is Nothing store room h = refl
-told-is (Refused number) store room h = refl
-told-is (Delivered octets) store room h = ap body (sym (length-take-le octets store (h .0)))
+answer-is : (answer : Answer) (store : List ℕ) (room : ℕ) → HasRoom answer store room → receiverAnswer answer ≡ answerFor (verdictOf answer store)
+answer-is Nothing store room h = refl
+answer-is (Refused number) store room h = refl
+answer-is (Delivered octets) store room h = ap body (sym (length-take-le octets store (h .0)))
 
 pub put-out : (octets : ℕ) (store output : List ℕ) → octets ≤ length store
     → take octets store ++ drop octets output ≡ outputAtFlag (delivered (take octets store)) output
@@ -66,6 +66,6 @@ pub closes : (answer : Answer) (store output outputThen : List ℕ) (due : Verdi
 closes answer store output outputThen due j p =
     record {
       means = j .means;
-      answers = told-is answer store (length output) (j .hasRoom) ∙ ap answerFor (j .means);
+      answers = answer-is answer store (length output) (j .hasRoom) ∙ ap answerFor (j .means);
       puts = p ∙ ap (λ (v : Verdict). outputAtFlag v output) (j .means);
     }

@@ -5,16 +5,15 @@ use mathlib.Core.List.{List}
 use Prim.Native.Nat.{ℕ}
 use lib.Dec.{eqb}
 use borrow.Author.Tests.{ne-eqb}
-use Rattle.ucp_frame.specs.Stuffing.{flag}
+use Rattle.ucp_frame.specs.Frame.{flag}
 use Rattle.ucp_receiver.specs.Answers.{receiverAnswer}
-use Rattle.ucp_receiver.specs.declared.Counts.{Counts}
-use Rattle.ucp_receiver.specs.declared.Rest.{Rest}
+use Rattle.ucp_receiver.specs.declared.Record.{Record}
 use Rattle.ucp_receiver.specs.declared.Received.{Received}
 use Rattle.ucp_receiver.specs.Octet.{stateAfter, countsAfter, verdictDue, Receives, Advances}
 
 -- what it does is what a call with it does, whatever output is lent
-pub other-received : {rest : Rest} {counts : Counts} {store : List ℕ} {octet : ℕ} {given : Received} {storeAfter : List ℕ} → (octet ≡ flag → ⊥)
-    → Advances rest counts store octet given storeAfter → (output : List ℕ) → Receives rest counts store octet output given storeAfter output
+pub other-received : {receiver : Record} {store : List ℕ} {octet : ℕ} {given : Received} {storeAfter : List ℕ} → (octet ≡ flag → ⊥)
+    → Advances receiver store octet given storeAfter → (output : List ℕ) → Receives receiver store octet output given storeAfter output
 unfolding stateAfter countsAfter verdictDue
 other-received {octet = octet} other a output =
     let t : eqb octet flag ≡ false = ne-eqb octet flag other in

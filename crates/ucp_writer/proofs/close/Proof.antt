@@ -7,7 +7,7 @@ use borrow.Author.Needs.{needs}
 use denote.Ref.{now}
 use lib.ListN.{length, length-set}
 use lib.Seq.{sets}
-use Rattle.ucp_frame.specs.Stuffing.{flag, escaped}
+use Rattle.ucp_frame.specs.Frame.{flag, escaped}
 use Rattle.ucp_writer.specs.Steps.{frameEnd}
 use Rattle.output_writing.proofs.ToPut.{ToPut, all-to-put, first-room, first-put}
 use Rattle.ucp_writer.proofs.Rest.{closing-octets}

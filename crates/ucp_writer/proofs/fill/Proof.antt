@@ -7,10 +7,8 @@ use borrow.Author.Needs.{needs}
 use denote.Ref.{now}
 use lib.ListN.{length, set, take, drop, length-set}
 use lib.Seq.{sets}
-use Rattle.ucp_frame.specs.Stuffing.{flag, stuffed}
-use Rattle.ucp_frame.specs.Frame.{frame}
-use Rattle.crc_polynomial.specs.Bits.{bitsOfOctets}
-use Rattle.crc_polynomial.specs.Division.{divided}
+use Rattle.ucp_frame.specs.Frame.{flag, stuffed, frame}
+use Rattle.crc_polynomial.specs.Polynomial.{bitsOfOctets, divided}
 use Rattle.ucp_writer.specs.Steps.{frameRest}
 use Rattle.output_writing.specs.Puts.{Puts}
 use Rattle.output_writing.proofs.ToPut.{ToPut, all-to-put, first-room, first-put, last-room, last-put}

@@ -9,8 +9,7 @@ use denote.Ref.{now}
 use lib.ListN.{length, drop}
 use lib.Seq.{sets, length-sets}
 use Rattle.field_words.specs.Words.{octetsUp, octetsDown}
-use Rattle.crc_polynomial.specs.Bits.{bitsOfOctets}
-use Rattle.crc_polynomial.specs.Division.{divided}
+use Rattle.crc_polynomial.specs.Polynomial.{bitsOfOctets, divided}
 use Rattle.ucp_writer.specs.Steps.{frameRest}
 use Rattle.output_writing.proofs.ToPut.{ToPut, all-to-put, last-room, last-put}
 use Rattle.ucp_writer.proofs.Rest.{eight-room, eight-put}

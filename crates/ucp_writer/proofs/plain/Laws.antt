@@ -9,7 +9,7 @@ use lib.Dec.{eqb}
 use lib.Bits.{bitAnd, bitXor, and-block, xor-block, and-le-r, and-lt, xor-lt}
 use Rattle.crc_polynomial.proofs.Linear.{upFrom, everywhere}
 use Rattle.field_words.specs.Words.{octetsUp}
-use Rattle.ucp_frame.specs.Stuffing.{escaped, stuffed}
+use Rattle.ucp_frame.specs.Frame.{escaped, stuffed}
 
 -- an octet, k times
 abbrev repeated : ℕ → ℕ → ℕ

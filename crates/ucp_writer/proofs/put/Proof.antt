@@ -6,7 +6,7 @@ use native.Mathlib.Omega.{arith}
 use borrow.Author.Needs.{needs}
 use lib.Bits.{bitXor}
 use lib.ListN.{length, length-set}
-use Rattle.ucp_frame.specs.Stuffing.{escape, escaped}
+use Rattle.ucp_frame.specs.Frame.{escape, escaped}
 use Rattle.ucp_frame.proofs.Stuffing.{escaped-two, escaped-one}
 use Rattle.ucp_writer.proofs.put.Statement.{statement}
 use Rattle.ucp_writer.proofs.put.Tie as tie

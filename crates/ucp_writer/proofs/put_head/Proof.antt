@@ -6,7 +6,7 @@ use native.Mathlib.Omega.{arith}
 use borrow.Author.Needs.{needs}
 use denote.Ref.{now}
 use lib.ListN.{length, getD, take}
-use Rattle.ucp_frame.specs.Stuffing.{escaped, stuffed}
+use Rattle.ucp_frame.specs.Frame.{escaped, stuffed}
 use Rattle.ucp_writer.proofs.Head.{stuffed-none, stuffed-one, stuffed-two}
 use Rattle.ucp_writer.proofs.put_head.Statement.{statement}
 use Rattle.ucp_writer.proofs.put_head.Tie as tie

@@ -5,7 +5,7 @@ use Prim.Native.Nat.{ℕ, _+_}
 use denote.Ref.{now}
 use lib.ListN.{length}
 use lib.Seq.{sets}
-use Rattle.ucp_frame.specs.Stuffing.{escaped}
+use Rattle.ucp_frame.specs.Frame.{escaped}
 use Rattle.output_writing.proofs.ToPut.{ToPut, all-to-put, first-room, first-put, last-room, last-put}
 use Rattle.ucp_writer.proofs.put_pair.Statement.{statement}
 use Rattle.ucp_writer.proofs.put_pair.Tie as tie

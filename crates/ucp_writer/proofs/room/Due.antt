@@ -9,7 +9,7 @@ use lib.Dec.{eqb, ltb}
 use lib.ListN.{length}
 use borrow.Author.Tests.{eqb-true, eqb-false, ltb-true, ltb-false, eq-eqb, ne-eqb, lt-ltb, le-ltb}
 use Rattle.ucp_frame.specs.Frame.{frame, longestBody}
-use Rattle.output_writing.specs.Answers.{WriterAnswer, refused, wrote}
+use Rattle.output_writing.specs.Writing.{WriterAnswer, refused, wrote}
 use Rattle.ucp_writer.specs.Room.{frameDue, refusalNumber}
 
 data Due (body output : List ℕ) : WriterAnswer → Type 0 where

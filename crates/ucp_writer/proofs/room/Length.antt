@@ -7,8 +7,7 @@ use native.Mathlib.Omega.{arith}
 use lib.ListN.{length, getD, drop, length-append}
 use lib.Seq.{drop-cons}
 use Rattle.crc_gdl90.specs.Check.{frameCheck, frameCheckOctets}
-use Rattle.ucp_frame.specs.Stuffing.{escaped, stuffed}
-use Rattle.ucp_frame.specs.Frame.{frame}
+use Rattle.ucp_frame.specs.Frame.{escaped, stuffed, frame}
 use Rattle.ucp_frame.proofs.Stuffing.{stuffed-append}
 
 pub frame-length : (body : List ℕ) (check : ℕ) → check ≡ frameCheck body

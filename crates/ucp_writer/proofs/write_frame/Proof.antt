@@ -2,7 +2,7 @@
 use mathlib.Core.Path.{refl, ap, _∙_}
 use borrow.Author.Needs.{needs}
 use denote.Ref.{now}
-use Rattle.output_writing.specs.Answers.{wrote}
+use Rattle.output_writing.specs.Writing.{wrote}
 use Rattle.ucp_writer.proofs.room.Due.{refused-by, accepted-by, accepted-so}
 use Rattle.ucp_writer.proofs.write_frame.Statement.{statement}
 use Rattle.ucp_writer.proofs.write_frame.Tie as tie

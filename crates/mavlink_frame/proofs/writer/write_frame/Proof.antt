@@ -1,6 +1,6 @@
 -- `mavlink_frame::writer::write_frame` meets its contract, by what the table says of the ID. Assumes nothing.
 use mathlib.Core.Path.{_≡_, refl, sym, _∙_}
-use Rattle.mavlink_frame.specs.Kinds.{mavlinkKind}
+use Rattle.mavlink_frame.specs.Frame.{mavlinkKind}
 use Rattle.mavlink_frame.specs.declared.Lookup.the-variants.{Known, Unknown}
 use borrow.Author.Needs.{needs}
 use Rattle.mavlink_frame.proofs.writer.write_frame.Statement.{statement}

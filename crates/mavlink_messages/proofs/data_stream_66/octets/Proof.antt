@@ -1,6 +1,6 @@
 -- `mavlink_messages::data_stream_66::octets` meets its contract, run by run. Assumes nothing.
 use mathlib.Core.List.{[], _∷_, _++_}
-use Rattle.field_format.specs.Formats.{bodyOf}
+use Rattle.field_format.specs.Format.{bodyOf}
 use borrow.Author.Needs.{needs}
 use Rattle.mavlink_messages.proofs.data_stream_66.octets.Statement.{statement}
 use Rattle.mavlink_messages.proofs.data_stream_66.octets.Tie as tie

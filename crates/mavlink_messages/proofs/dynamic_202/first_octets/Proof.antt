@@ -1,6 +1,6 @@
 -- `mavlink_messages::dynamic_202::first_octets` meets its contract, run by run. Assumes nothing.
 use mathlib.Core.List.{_++_}
-use Rattle.field_format.specs.Formats.{bodyOf}
+use Rattle.field_format.specs.Format.{bodyOf}
 use Rattle.mavlink_messages.proofs.Signed.{put-32}
 use borrow.Author.Needs.{needs}
 use Rattle.mavlink_messages.proofs.dynamic_202.first_octets.Statement.{statement}

@@ -1,5 +1,5 @@
 -- `mavlink_messages::dynamic_202::octets` meets its contract: its two parts are the whole. Assumes nothing.
-use Rattle.field_format.specs.Formats.{bodyOf}
+use Rattle.field_format.specs.Format.{bodyOf}
 use Rattle.mavlink_messages.specs.Dynamic202.{dynamicFormat}
 use Rattle.mavlink_messages.proofs.Parts.{whole}
 use borrow.Author.Needs.{needs}

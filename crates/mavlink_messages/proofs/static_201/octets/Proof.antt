@@ -1,7 +1,7 @@
 -- `mavlink_messages::static_201::octets` meets its contract, run by run. Assumes nothing.
 use mathlib.Core.List.{[], _∷_, _++_}
-use Rattle.field_format.specs.Formats.{bodyOf}
-use Rattle.field_layout.specs.Texts.{textOctets}
+use Rattle.field_format.specs.Format.{bodyOf}
+use Rattle.field_layout.specs.Layout.{textOctets}
 use borrow.Author.Needs.{needs}
 use Rattle.mavlink_messages.proofs.static_201.octets.Statement.{statement}
 use Rattle.mavlink_messages.proofs.static_201.octets.Tie as tie

@@ -1,6 +1,6 @@
 -- `mavlink_messages::status_203::octets` meets its contract. Assumes nothing.
 use mathlib.Core.Path.{refl}
-use Rattle.field_format.specs.Formats.{bodyOf}
+use Rattle.field_format.specs.Format.{bodyOf}
 use Rattle.mavlink_messages.specs.Status203.{statusFormat}
 use Rattle.mavlink_messages.proofs.status_203.octets.Statement.{statement}
 use Rattle.mavlink_messages.proofs.status_203.octets.Tie as tie

@@ -1,7 +1,7 @@
 -- `mavlink_messages::traffic_246::last_octets` meets its contract, run by run. Assumes nothing.
 use mathlib.Core.List.{[], _∷_, _++_}
-use Rattle.field_format.specs.Formats.{bodyOf}
-use Rattle.field_layout.specs.Texts.{textOctets}
+use Rattle.field_format.specs.Format.{bodyOf}
+use Rattle.field_layout.specs.Layout.{textOctets}
 use Rattle.mavlink_messages.proofs.Signed.{put-16}
 use borrow.Author.Needs.{needs}
 use Rattle.mavlink_messages.proofs.traffic_246.last_octets.Statement.{statement}

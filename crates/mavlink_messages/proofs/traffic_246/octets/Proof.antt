@@ -1,5 +1,5 @@
 -- `mavlink_messages::traffic_246::octets` meets its contract: its two parts are the whole. Assumes nothing.
-use Rattle.field_format.specs.Formats.{bodyOf}
+use Rattle.field_format.specs.Format.{bodyOf}
 use Rattle.mavlink_messages.specs.Traffic246.{trafficFormat}
 use Rattle.mavlink_messages.proofs.Parts.{whole}
 use borrow.Author.Needs.{needs}

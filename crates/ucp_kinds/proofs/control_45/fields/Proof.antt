@@ -4,9 +4,9 @@ use Prim.Native.Nat.{ℕ, _/_, _%_}
 use denote.Ref.{now}
 use mir.Syntax.{w32}
 use mir.ValLaws.{toZ-ofZ}
-use Rattle.field_layout.specs.Digits.{isSet}
+use Rattle.field_layout.specs.Layout.{isSet}
 use Rattle.field_signed.specs.Signed.{signed}
-use Rattle.field_format.specs.Formats.{valueIn}
+use Rattle.field_format.specs.Format.{valueIn}
 use Rattle.field_format.proofs.ByOctets.{by-octets}
 use Rattle.ucp_kinds.specs.Control45.{controlFormat}
 use borrow.Author.Needs.{needs}

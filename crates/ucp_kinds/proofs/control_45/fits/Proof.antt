@@ -1,5 +1,5 @@
 -- `control_45::fits` meets its contract. Assumes nothing.
-use Rattle.field_format.specs.Formats.{fits}
+use Rattle.field_format.specs.Format.{fits}
 use borrow.Author.Needs.{needs}
 use Rattle.ucp_kinds.proofs.control_45.fits.Statement.{statement}
 use Rattle.ucp_kinds.proofs.control_45.fits.Tie as tie

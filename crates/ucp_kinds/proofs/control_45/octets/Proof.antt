@@ -1,5 +1,5 @@
 -- `control_45::octets` meets its contract. Assumes nothing.
-use Rattle.field_format.specs.Formats.{bodyOf}
+use Rattle.field_format.specs.Format.{bodyOf}
 use mir.Syntax.{w32}
 use mir.ValLaws.{toZ-ofZ}
 use borrow.Author.Needs.{needs}

@@ -1,5 +1,5 @@
 -- `control_45::state` meets its contract. Assumes nothing.
-use Rattle.field_format.specs.Formats.{bodyOf}
+use Rattle.field_format.specs.Format.{bodyOf}
 use borrow.Author.Needs.{needs}
 use Rattle.ucp_kinds.proofs.control_45.state.Statement.{statement}
 use Rattle.ucp_kinds.proofs.control_45.state.Tie as tie

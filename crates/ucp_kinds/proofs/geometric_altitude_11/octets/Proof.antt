@@ -2,7 +2,7 @@
 use mir.Syntax.{w16}
 use mir.Val.{SFits}
 use mir.ValLaws.{toZ-ofZ}
-use Rattle.field_format.specs.Formats.{bodyOf}
+use Rattle.field_format.specs.Format.{bodyOf}
 use borrow.Author.Needs.{needs}
 use Rattle.ucp_kinds.proofs.geometric_altitude_11.octets.Statement.{statement}
 use Rattle.ucp_kinds.proofs.geometric_altitude_11.octets.Tie as tie

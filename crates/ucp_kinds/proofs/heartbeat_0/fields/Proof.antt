@@ -1,7 +1,7 @@
 -- `heartbeat_0::fields` meets its contract, field by field. Assumes nothing.
 use mathlib.Core.Path.{_∙_}
 use denote.Ref.{now}
-use Rattle.field_format.specs.Formats.{valueIn}
+use Rattle.field_format.specs.Format.{valueIn}
 use Rattle.field_format.proofs.ByOctets.{by-octets}
 use Rattle.ucp_kinds.specs.Heartbeat0.{heartbeatFormat}
 use borrow.Author.Needs.{needs}

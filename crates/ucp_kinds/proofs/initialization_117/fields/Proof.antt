@@ -2,7 +2,7 @@
 use mathlib.Core.Path.{_∙_, ap}
 use Prim.Native.Nat.{ℕ, _/_, _%_}
 use denote.Ref.{now}
-use Rattle.field_format.specs.Formats.{valueIn}
+use Rattle.field_format.specs.Format.{valueIn}
 use Rattle.field_format.proofs.ByOctets.{by-octets}
 use Rattle.ucp_kinds.specs.Initialization117.{initializationFormat}
 use borrow.Author.Needs.{needs}

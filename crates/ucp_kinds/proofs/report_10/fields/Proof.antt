@@ -5,7 +5,7 @@ use denote.Ref.{now}
 use mir.Syntax.{w16, w32}
 use mir.ValLaws.{toZ-ofZ}
 use Rattle.field_signed.specs.Signed.{signed}
-use Rattle.field_format.specs.Formats.{valueIn}
+use Rattle.field_format.specs.Format.{valueIn}
 use Rattle.field_format.proofs.ByOctets.{by-octets}
 use Rattle.ucp_kinds.specs.Report10.{reportFormat}
 use borrow.Author.Needs.{needs}

@@ -1,7 +1,7 @@
 -- `report_10::fits` meets its contract. Assumes nothing.
 use mir.Syntax.{w16, w32}
 use mir.ValLaws.{toZ-ofZ}
-use Rattle.field_format.specs.Formats.{fits}
+use Rattle.field_format.specs.Format.{fits}
 use borrow.Author.Needs.{needs}
 use Rattle.ucp_kinds.proofs.report_10.fits.Statement.{statement}
 use Rattle.ucp_kinds.proofs.report_10.fits.Tie as tie

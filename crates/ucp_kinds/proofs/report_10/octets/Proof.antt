@@ -1,7 +1,7 @@
 -- `report_10::octets` meets its contract. Assumes nothing.
 use mir.Syntax.{w16, w32}
 use mir.ValLaws.{toZ-ofZ}
-use Rattle.field_format.specs.Formats.{bodyOf}
+use Rattle.field_format.specs.Format.{bodyOf}
 use Rattle.field_format.proofs.Formats.{bound}
 use Rattle.ucp_kinds.specs.Report10.{reportFormat}
 use Rattle.ucp_kinds.proofs.Formats.{report-right}

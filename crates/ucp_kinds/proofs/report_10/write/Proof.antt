@@ -1,7 +1,7 @@
 -- `report_10::write` meets its contract, by its two ways. Assumes nothing.
 use denote.Ref.{now}
 use Rattle.ucp_answers.proofs.Writers.{fitting, refused-13, body-put}
-use Rattle.field_format.specs.Formats.{bodyOf, fits}
+use Rattle.field_format.specs.Format.{bodyOf, fits}
 use Rattle.field_format.proofs.Formats.{fitting as bounds}
 use Rattle.ucp_kinds.specs.Report10.{reportFormat}
 use Rattle.ucp_kinds.proofs.Formats.{report-right}

@@ -1,6 +1,6 @@
 -- `request_44::octets` meets its contract. Assumes nothing.
 use mathlib.Core.Path.{refl}
-use Rattle.field_format.specs.Formats.{bodyOf}
+use Rattle.field_format.specs.Format.{bodyOf}
 use Rattle.ucp_kinds.proofs.request_44.octets.Statement.{statement}
 use Rattle.ucp_kinds.proofs.request_44.octets.Tie as tie
 

@@ -1,5 +1,5 @@
 -- `request_44::write` meets its contract: its octets are put. Assumes nothing.
-use Rattle.field_format.specs.Formats.{fits}
+use Rattle.field_format.specs.Format.{fits}
 use borrow.Author.Needs.{needs}
 use Rattle.ucp_kinds.proofs.request_44.write.Statement.{statement}
 use Rattle.ucp_kinds.proofs.request_44.write.Tie as tie

@@ -11,11 +11,11 @@ use Rattle.ucp_receiver.proofs.octet.receive_flag.Tie as tie
 returns : tie.Need-returns
 unfolding stateAfter countsAfter verdictDue
 returns c =
-    let a = c .before .before .before .before .before .before .before .before .args in
+    let a = c .before .before .before .before .before .before .before .before .before .before .args in
     let e = c .before .before .before .before .close .ensures in
     record {
       state = refl;
-      account = c .count-flag .ensures (now (a .store)) ∙ ap (λ (v : Verdict). countedFlag v (a .counts)) (e .means);
+      account = c .count-flag .ensures (now (a .store)) ∙ ap (λ (v : Verdict). countedFlag v (a .receiver .counts)) (e .means);
       answers = e .answers;
       puts = e .puts;
     }

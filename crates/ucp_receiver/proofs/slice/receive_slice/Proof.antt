@@ -16,77 +16,75 @@ use Rattle.ucp_receiver.proofs.slice.receive_slice.Statement.{statement
 use Rattle.ucp_receiver.proofs.slice.receive_slice.Tie as tie
 
 abbrev Inv-loop : tie.InvT-loop
-Inv-loop store₀ line output₀ rest₀ counts₀ i₀ store output rest counts i =
+Inv-loop store₀ line output₀ receiver₀ i₀ store output receiver i =
     (i ≤ length line) × (output ≡ output₀)
-    × (sliceRun (stateOf rest₀ store₀) counts₀ line (length output₀) ≡ laterBy i (sliceRun (stateOf rest store) counts (drop i line) (length output₀)))
+    × (sliceRun (stateOf (receiver₀ .rest) store₀) (receiver₀ .counts) line (length output₀) ≡ laterBy i (sliceRun (stateOf (receiver .rest) store) (receiver .counts) (drop i line) (length output₀)))
 
 abbrev μ-loop : tie.MeasureT-loop
-μ-loop store₀ line output₀ rest₀ counts₀ i₀ store output rest counts i = length line - i
+μ-loop store₀ line output₀ receiver₀ i₀ store output receiver i = length line - i
 
 -- behind a turn: what is known of it, with the output as at entry
 turned : (c : tie.After-turn Inv-loop μ-loop)
-    → Turns (c .before .before .before .before .loop .rest) (c .before .before .before .before .loop .counts) (c .before .before .before .before .loop .store)
+    → Turns (c .before .before .before .before .loop .receiver) (c .before .before .before .before .loop .store)
     (now (c .before .before .before .before .before .before .before .args .line)) (c .before .before .before .before .loop .i)
-    (now (c .before .before .before .before .before .before .before .args .output)) (c .turn .result) (c .turn .last .1 .1 .0)
-    (c .turn .last .1 .1 .1 .1 .1 .0)
+    (now (c .before .before .before .before .before .before .before .args .output)) (c .turn .result) (c .turn .last .1 .0)
+    (c .turn .last .1 .1 .1 .1 .0)
 turned c = rw (c .before .before .before .before .loop .inv .1) at (c .turn .ensures)
 
 kept-length : (c : tie.After-turn Inv-loop μ-loop)
-    → length (c .turn .last .1 .1 .1 .1 .1 .0) ≡ length (now (c .before .before .before .before .before .before .before .args .output))
-kept-length c = c .turn .kept .1 .1 .1 .1 .1 .0 ∙ ap length (c .before .before .before .before .loop .inv .1)
+    → length (c .turn .last .1 .1 .1 .1 .0) ≡ length (now (c .before .before .before .before .before .before .before .args .output))
+kept-length c = c .turn .kept .1 .1 .1 .1 .0 ∙ ap length (c .before .before .before .before .loop .inv .1)
 
 -- the turn's answer is the run's
 answers : (c : tie.After-turn Inv-loop μ-loop) → (nothing ≡ receiverAnswer (c .turn .result .answer) → ⊥)
-    → Takes (c .before .before .before .before .before .before .before .args .rest) (c .before .before .before .before .before .before .before .args .counts)
-    (now (c .before .before .before .before .before .before .before .args .store)) (now (c .before .before .before .before .before .before .before .args .line))
+    → Takes (c .before .before .before .before .before .before .before .args .receiver) (now (c .before .before .before .before .before .before .before .args .store)) (now (c .before .before .before .before .before .before .before .args .line))
     (now (c .before .before .before .before .before .before .before .args .output))
     (record {
-      rest = c .turn .result .rest;
-      counts = c .turn .result .counts;
+      receiver = c .turn .result .receiver;
       answer = c .turn .result .answer;
       taken = c .before .before .before .before .loop .i + c .turn .result .taken;
     })
-    (c .turn .last .1 .1 .0) (c .turn .last .1 .1 .1 .1 .1 .0)
+    (c .turn .last .1 .0) (c .turn .last .1 .1 .1 .1 .0)
 answers c h =
     let l = c .before .before .before .before .loop in
     let t = turned c in
-    takes _ _ _ _ _ _ _ _ (t .due) (turned-out _ _ _ _ _ (l .i) _ _ _ _ (l .inv .2) t h) (t .answers) (t .puts)
+    takes _ _ _ _ _ _ _ (t .due) (turned-out _ _ _ _ (l .i) _ _ _ _ (l .inv .2) t h) (t .answers) (t .puts)
 
 loop-holds : tie.Need-loop-holds Inv-loop μ-loop
 loop-holds c =
     let a = c .before .before .args in
-    (search needs, refl, none-taken _ (now (a .line)) 0 (a .counts) (length (now (a .output))))
+    (search needs, refl, none-taken _ (now (a .line)) 0 (a .receiver .counts) (length (now (a .output))))
 
 add-i : tie.Need-add-i Inv-loop μ-loop
 add-i c =
-    let turned = c .before .before .before .before .before in
+    let turned = c .before .before .before .before in
     omega (arith, turned .turn .ensures .within, turned .before .before .before .before .before .before .before .good)
 
 same-length : tie.Need-same-length Inv-loop μ-loop
-same-length c = kept-length (c .before .before .before .before .before .before .before)
+same-length c = kept-length (c .before .before .before .before .before .before)
 
 returns : tie.Need-returns Inv-loop μ-loop
 returns c =
-    let turn = c .before .before .before .before .before .before .before in
+    let turn = c .before .before .before .before .before .before in
     answers turn (some-answer (turn .turn .result .answer) (sym (c .before .answered .ensures) ∙ c .if1 .taken))
 
 loop-less : tie.Need-loop-less Inv-loop μ-loop
 loop-less c =
-    let e = c .before .before .before .before .before .before .before .turn .ensures in
+    let e = c .before .before .before .before .before .before .turn .ensures in
     omega (arith, e .within, e .moved)
 
 loop-again : tie.Need-loop-again Inv-loop μ-loop
 loop-again c =
-    let turn = c .before .before .before .before .before .before .before in
+    let turn = c .before .before .before .before .before .before in
     let l = turn .before .before .before .before .loop in
     let none = no-answer (turn .turn .result .answer) (sym (c .before .answered .ensures) ∙ c .if1 .left) in
-    let on = turned-on _ _ _ _ _ (l .i) _ _ _ _ (l .inv .2) (turned turn) none in
+    let on = turned-on _ _ _ _ (l .i) _ _ _ _ (l .inv .2) (turned turn) none in
     (turn .turn .ensures .within, on .0, on .1)
 
 returns-2 : tie.Need-returns-2 Inv-loop μ-loop
 returns-2 c =
     let l = c .before .loop in
-    takes _ _ _ _ _ _ _ _ silent (l .inv .2 ∙ used-up _ _ (now (c .before .before .before .before .args .line)) (l .i) _ (c .loop-test .left)) refl (l .inv .1)
+    takes _ _ _ _ _ _ _ silent (l .inv .2 ∙ used-up _ _ (now (c .before .before .before .before .args .line)) (l .i) _ (c .loop-test .left)) refl (l .inv .1)
 
 pub receive-slice-spec : {M : Type 1} → statement M
 receive-slice-spec =

@@ -2,7 +2,7 @@
 use mathlib.Core.Path.{_≡_}
 use Prim.Native.Nat.{ℕ, _+_, _-_, _<_, _≤_}
 use lib.ListN.{getD}
-use Rattle.ucp_frame.specs.Stuffing.{flag}
+use Rattle.ucp_frame.specs.Frame.{flag}
 use borrow.Author.Count.{below-more}
 use borrow.Author.Needs.{needs}
 use Rattle.ucp_receiver.proofs.slice.to_flag.Statement.{statement}

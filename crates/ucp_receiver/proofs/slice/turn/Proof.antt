@@ -11,22 +11,22 @@ use borrow.Author.Needs.{needs}
 use Rattle.ucp_receiver.proofs.slice.turn.Statement.{statement}
 use Rattle.ucp_receiver.proofs.slice.turn.Tie as tie
 
-add-t24 : tie.Need-add-t24
-add-t24 c =
-    let tested = c .before .before .before .before .before .before .before .before .before in
-    omega (arith, tested .if1 .taken, tested .before .before .before .before .before .before .before .before .good)
+add-t21 : tie.Need-add-t21
+add-t21 c =
+    let tested = c .before .before .before .before .before .before .before .before in
+    omega (arith, tested .if1 .taken, tested .before .before .before .before .before .before .before .good)
 
 returns : tie.Need-returns
 returns c =
-    let tested = c .before .before .before .before .before .before .before .before .before in
-    let passed = tested .before .before .before .before in
+    let tested = c .before .before .before .before .before .before .before .before in
+    let passed = tested .before .before .before in
     let a = passed .before .before .before .before .args in
     let line = now (a .line) in
     let room = length (now (a .output)) in
     let p = passed .pass in
-    let r = c .before .before .before .before .before .step .ensures in
+    let r = c .before .before .before .before .step .ensures in
     record {
-      due = verdictDue (stateOf (p .result .rest) (p .last .1 .1 .0)) (getD line (a .from + p .result .taken) 0) room;
+      due = verdictDue (stateOf (p .result .receiver .rest) (p .last .1 .0)) (getD line (a .from + p .result .taken) 0) room;
       moved = one-moved (p .result .taken);
       within = one-within (a .from) (p .result .taken) (tested .if1 .taken);
       answers = r .answers;
@@ -37,7 +37,7 @@ returns c =
 
 returns-2 : tie.Need-returns-2
 returns-2 c =
-    let passed = c .before .before .before .before in
+    let passed = c .before .before .before in
     let start = passed .before .before .before .before in
     record {
       due = silent;
@@ -51,5 +51,5 @@ returns-2 c =
 pub turn-spec : {M : Type 1} → statement M
 turn-spec =
     tie.close
-    (tie.spec (λ c κs. search needs) (λ c. search needs) (λ c. search needs) (λ c κs. search needs) add-t24
+    (tie.spec (λ c κs. search needs) (λ c. search needs) (λ c. search needs) (λ c κs. search needs) add-t21
     (λ c. search needs) returns returns-2)

@@ -7,8 +7,7 @@ use native.Mathlib.Omega.{arith}
 use borrow.Author.Needs.{needs}
 use denote.Ref.{now}
 use lib.ListN.{length, drop, drop-of-length-le}
-use Rattle.ucp_frame.specs.Stuffing.{stuffed}
-use Rattle.ucp_frame.specs.Frame.{frame}
+use Rattle.ucp_frame.specs.Frame.{stuffed, frame}
 use Rattle.ucp_frame.proofs.Stuffing.{escaped-length}
 use Rattle.ucp_frame.proofs.Frame.{frame-length-longest}
 use Rattle.ucp_writer.proofs.room.Length.{frame-length, stuffed-length}

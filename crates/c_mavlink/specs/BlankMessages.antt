@@ -1,6 +1,6 @@
 -- Structs with every field 0. Assumes nothing.
 use lib.IntN.{pos}
-use Rattle.field_layout.specs.Texts.{noText}
+use Rattle.field_layout.specs.Layout.{noText}
 use Rattle.mavlink_frame.specs.declared.Header.{Header}
 use Rattle.mavlink_messages.specs.declared.DataStream.{DataStream}
 use Rattle.mavlink_messages.specs.declared.Static.{Static}

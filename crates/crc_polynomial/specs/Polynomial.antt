@@ -1,12 +1,31 @@
--- Long division of binary polynomials by x^16 + x^12 + x^5 + 1 (document 01, "Check and stuffing").
--- A polynomial is a list of its coefficients, highest first, or a number whose bit i is the coefficient of x^i.
--- Over numbers the sum and the difference of two polynomials are both `bitXor`. Assumes nothing.
-use mathlib.Core.Path.{_≡_}
+-- Octets as bits, and long division of binary polynomials by x^16 + x^12 + x^5 + 1 (document 01, "Check and stuffing"). A polynomial
+-- is a list of its coefficients, highest first, or a number whose bit i is the coefficient of x^i. Over numbers the sum and the
+-- difference of two polynomials are both `bitXor`. Assumes nothing.
 use mathlib.Core.Bool.{Bool, true, false, cond}
-use mathlib.Core.List.{List, [], _∷_}
-use Prim.Native.Nat.{ℕ, _+_, _*_, _<_}
-use lib.Dec.{leb}
+use mathlib.Core.List.{List, [], _∷_, _++_}
+use Prim.Native.Nat.{ℕ, zero, suc, _/_, _%_, _^_, _<_, _+_, _*_}
+use lib.Dec.{eqb, leb}
+use lib.ListN.{getD}
+use mathlib.Core.Path.{_≡_}
 use lib.Bits.{bitXor}
+
+-- every element is an octet
+abbrev pub Octets : List ℕ → Type 0
+Octets xs = (i : ℕ) → getD xs i 0 < 256
+
+-- the bit that stands for x^0
+abbrev pub odd : ℕ → Bool
+odd n = eqb (n % 2) 1
+
+-- the w lowest bits of n, most significant first
+unfoldable pub bitsOf : ℕ → ℕ → List Bool
+bitsOf zero n = []
+bitsOf (suc w) n = odd (n / 2 ^ w) ∷ bitsOf w n
+
+-- the bits of a list of octets, in the order of the line: first octet first, its most significant bit first
+unfoldable pub bitsOfOctets : List ℕ → List Bool
+bitsOfOctets [] = []
+bitsOfOctets (x ∷ xs) = bitsOf 8 x ++ bitsOfOctets xs
 
 abbrev pub coefficient : Bool → ℕ
 coefficient true = 1

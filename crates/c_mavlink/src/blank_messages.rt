@@ -7,7 +7,7 @@ use mavlink_messages::Static;
 use mavlink_messages::Status;
 use mavlink_messages::Traffic;
 ghost use mathlib.Core.Path.{_≡_};
-ghost use Rattle.c_mavlink.specs.Blank.{noHeader, noDataStream, noStatic, noDynamic, noStatus, noTraffic};
+ghost use Rattle.c_mavlink.specs.BlankMessages.{noHeader, noDataStream, noStatic, noDynamic, noStatus, noTraffic};
 ghost use Rattle.c_mavlink.specs.Lowest.{lowestNumber};
 
 // The lowest failure, or 0 for none.
