@@ -17,7 +17,7 @@ ghost use Prim.Native.Nat.{_+_, min};
 ghost use lib.ListN.{length, getD};
 ghost use lib.IntN.{pos};
 ghost use Rattle.text_fields.specs.declared.Reading.the-variants.{Known};
-ghost use Rattle.field_layout.specs.Texts.{textOctets};
+ghost use Rattle.field_layout.specs.Layout.{textOctets};
 ghost use Rattle.text_output.specs.Clips.{Clips};
 ghost use Rattle.text_fields.specs.Fields.{unitShown, readingShown, quoted, truth, shown};
 ghost use Rattle.text_fields.specs.Templates.{scaleOf, unitOf, squawkValue, naturalValue, shortValue, longValue, naturalCode, shortCode, longCode, plainPiece, filled};
