@@ -1,4 +1,4 @@
-pub mod Marks
-pub mod Filled
+mod Marks
+mod Filled
 pub mod Longest
 pub mod Taken

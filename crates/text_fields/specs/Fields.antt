@@ -77,10 +77,6 @@ shown none = codes "none"
 abbrev pub quotedText : Text → Value
 quotedText t = quoted (textOctets t)
 
--- 65535 is no code
-abbrev pub squawkOrNone : ℕ → Value
-squawkOrNone n = cond (eqb n 65535) none (squawk n)
-
 -- ---- the raw numbers of messages 10, 11 and 20
 
 abbrev pub reportAltitude : ℕ → Value

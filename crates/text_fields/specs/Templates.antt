@@ -1,5 +1,9 @@
--- A template: the text of a message, with a code where a value stands. A code is four octets: which numbers its own is taken
--- from, what is shown, the scale or how many digits, and the mark for no data. Assumes nothing.
+-- A template: the text of a message, with a code where a value stands. Assumes nothing.
+--
+-- A code is four octets. The first says which numbers its own is the next of: '%' natural ones, '&' signed ones of 16 bits, '$'
+-- signed ones of 32. The second says what is shown; the third the scale, by its places behind the point, or how many
+-- hexadecimal digits; the fourth the mark for no data, '.' where there is none. '@' alone is for the octets that go with the
+-- numbers, quoted.
 use Prim.Native.String.{String}
 use mathlib.Core.Bool.{Bool, cond, _&&_}
 use mathlib.Core.List.{List, [], _∷_, _++_}
@@ -22,16 +26,18 @@ is c x = eqb x (getD (codes c) 0 0)
 
 -- ---- what the octets of a code mean
 
+-- any other octet of a scale is for wholes
 abbrev pub scaleOf : ℕ → Scale
 scaleOf x = cond (is "2" x) Hundredths (cond (is "3" x) Thousandths (cond (is "7" x) TenMillionths Ones))
 
+-- any other letter shows a bare number
 abbrev pub unitOf : ℕ → Unit
 unitOf x = cond (is "s" x) Seconds (cond (is "k" x) Knots (cond (is "m" x) Metres (cond (is "v" x) MetresPerSecond Bare)))
 
+-- any other letter is for the largest number
 abbrev pub markOf : ℕ → ℕ
 markOf x = cond (is "b" x) 255 (cond (is "k" x) 4095 (cond (is "w" x) 65535 4294967295))
 
--- a number whose mark is '.' has none
 abbrev pub naturalReading : ℕ → ℕ → Reading
 naturalReading mark n = cond (is "." mark) (Known (pos n)) (unless (markOf mark) (pos n))
 
@@ -45,7 +51,8 @@ longReading mark z = cond (is "." mark) (Known z) (unless 2147483647 z)
 abbrev pub squawkValue : ℕ → ℕ → Value
 squawkValue mark n = cond (is "w" mark && eqb n 65535) none (squawk n)
 
--- ---- the value of a code
+-- ---- the value of a code: 'n' a number, 'x' hexadecimal, 'q' a squawk, 'y' yes or no, and what messages 10, 11 and 20 mean by
+-- an altitude, a rate, a geometric altitude and an angle; else a reading in a unit
 
 abbrev pub naturalValue : ℕ → ℕ → ℕ → ℕ → Value
 naturalValue what scale mark n =
