@@ -77,7 +77,8 @@ fn put_static(text: &mut TextRoom, at: usize, message: Static) -> usize
     put_named(
         text,
         at,
-        b" address %x6. integrity %x2. stall speed %v2. callsign @ capability %x2. emitter %n0. size %n0. lateral %n0. longitudinal %n0.",
+        b" address %x6. integrity %x2. stall speed %v2. callsign @ capability %x2. emitter %n0. \
+        size %n0. lateral %n0. longitudinal %n0.",
         &naturals,
         &[],
         &[],
@@ -110,7 +111,10 @@ fn put_dynamic(text: &mut TextRoom, at: usize, message: Dynamic) -> usize
     put_fields(
         text,
         at,
-        b" utc time %s0m latitude $d7m longitude $d7m pressure altitude $m3m gnss altitude $m3m horizontal accuracy %m3m vertical accuracy %m2w velocity accuracy %v3w vertical speed &v2m north velocity &v2m east velocity &v2m state %x4. squawk %q4. fix %n0. satellites %c0b emergency %n0. control %x2.",
+        b" utc time %s0m latitude $d7m longitude $d7m pressure altitude $m3m gnss altitude $m3m \
+        horizontal accuracy %m3m vertical accuracy %m2w velocity accuracy %v3w vertical speed &v2m \
+        north velocity &v2m east velocity &v2m state %x4. squawk %q4. fix %n0. satellites %c0b \
+        emergency %n0. control %x2.",
         &naturals,
         &shorts,
         &longs,
@@ -180,7 +184,9 @@ fn put_traffic(text: &mut TextRoom, at: usize, message: Traffic) -> usize
     put_fields(
         text,
         at,
-        b" address %x8. latitude $d7. longitude $d7. altitude $m3. heading %d2. horizontal velocity %v2. vertical velocity &v2. valid %x4. squawk %q4w altitude type %n0. callsign @ emitter %n0. age %s0.",
+        b" address %x8. latitude $d7. longitude $d7. altitude $m3. heading %d2. \
+        horizontal velocity %v2. vertical velocity &v2. valid %x4. squawk %q4w altitude type %n0. \
+        callsign @ emitter %n0. age %s0.",
         &naturals,
         &shorts,
         &longs,

@@ -70,7 +70,9 @@ fn put_report(text: &mut TextRoom, at: usize, name: &[u8], message: Report) -> u
     put_named(
         text,
         at,
-        b" alert %n0. address type %n0. address %x6. latitude $a7. longitude $a7. altitude %a0. miscellaneous %n0. nic %n0. nacp %n0. speed %k0k vertical rate &r0. track $a7. emitter %n0. callsign @ emergency %n0. spare %n0.",
+        b" alert %n0. address type %n0. address %x6. latitude $a7. longitude $a7. altitude %a0. \
+        miscellaneous %n0. nic %n0. nacp %n0. speed %k0k vertical rate &r0. track $a7. emitter %n0. \
+        callsign @ emergency %n0. spare %n0.",
         &naturals,
         &shorts,
         &longs,
@@ -128,7 +130,8 @@ fn put_control(text: &mut TextRoom, at: usize, message: Control) -> usize
     put_named(
         text,
         at,
-        b" control 1090es %y0. mode s %y0. mode c %y0. mode a %y0. ident %y0. air ground %n0. barometer checked %y0. altitude $m3m squawk %q4. emergency %n0. identity @",
+        b" control 1090es %y0. mode s %y0. mode c %y0. mode a %y0. ident %y0. air ground %n0. \
+        barometer checked %y0. altitude $m3m squawk %q4. emergency %n0. identity @",
         &naturals,
         &[],
         &longs,
@@ -152,7 +155,8 @@ fn put_initialization(text: &mut TextRoom, at: usize, message: Initialization) -
     put_named(
         text,
         at,
-        b" initialization version %n0. address %x6. emitter %n0. callsign @ stall speed %k0k size %n0. lateral %n0. longitudinal %n0.",
+        b" initialization version %n0. address %x6. emitter %n0. callsign @ stall speed %k0k size %n0. \
+        lateral %n0. longitudinal %n0.",
         &naturals,
         &[],
         &[],
