@@ -1,16 +1,16 @@
 -- A template filled in, code by code. Assumes nothing.
 use mathlib.Core.Path.{_≡_, refl, sym, ap, _∙_}
-use mathlib.Core.Bool.{Bool, true, false}
+use mathlib.Core.Bool.{Bool, true, false, cond, _||_, false≢true}
 use mathlib.Core.List.{List, [], _∷_, _++_}
 use Prim.Native.Nat.{ℕ, zero, suc, _+_, _-_, _≤_, _<_, min}
 use native.Mathlib.Omega.{arith}
-use lib.Dec.{leb}
+use lib.Dec.{eqb, leb, ltb}
 use lib.IntN.{ℤ, pos}
 use lib.ListN.{length, getD, take, drop, drop-of-length-le, length-drop}
 use lib.Seq.{getD-drop, take-all, drop-drop}
 use borrow.Author.Tests.{eq-eqb, ne-eqb, leb-true, leb-false}
 use Rattle.text_output.proofs.Printed.{drop-next}
-use Rattle.text_fields.specs.Fields.{shown}
+use Rattle.text_fields.specs.Fields.{quoted, shown}
 use Rattle.text_fields.specs.Templates.{naturalCode, shortCode, longCode, plainPiece, piece, codeTail, filled}
 
 -- ---- places
@@ -93,6 +93,16 @@ module _ (template : List ℕ) (i : ℕ) (h : i < length template) (naturals : L
   unfolding filled
   filled-plain f g e =
       rw (drop-next template i h, ne-eqb (getD template i 0) 37 f, ne-eqb (getD template i 0) 38 g, ne-eqb (getD template i 0) 36 e)
+
+  -- a space, or an octet past '@'
+  pub filled-letter : (eqb (getD template i 0) 32 || ltb 64 (getD template i 0)) ≡ true
+      → filled 0 (drop i template) (drop n naturals) (drop s shorts) (drop l longs) octets
+        ≡ (getD template i 0 ∷ []) ++ filled 0 (drop (i + 1) template) (drop n naturals) (drop s shorts) (drop l longs) octets
+  filled-letter f =
+      let other : (k : ℕ) → (eqb k 32 || ltb 64 k) ≡ false → getD template i 0 ≡ k → ⊥ = λ k none e. false≢true (sym none ∙ (rw e at f)) in
+      filled-plain (other 37 refl) (other 38 refl) (other 36 refl)
+      ∙ ap (λ (xs : List ℕ). xs ++ filled 0 (drop (i + 1) template) (drop n naturals) (drop s shorts) (drop l longs) octets)
+      (ap (λ (b : Bool). cond b (shown (quoted octets)) (getD template i 0 ∷ [])) (ne-eqb (getD template i 0) 64 (other 64 refl)))
 
 pub filled-none : (ns : List ℕ) (ss ls : List ℤ) (octets : List ℕ) → filled 0 [] ns ss ls octets ≡ []
 unfolding filled

@@ -276,7 +276,8 @@ fn past_code(i: usize, end: usize) -> usize
     end
 }
 
-// A template filled in: its codes take the numbers in turn, each from its own kind, and the octets.
+// A template filled in: its codes take the numbers in turn, each from its own kind, and the octets. Labels are mostly spaces
+// and letters, which one test tells from codes.
 pub fn put_fields(
     text: &mut TextRoom,
     at: usize,
@@ -295,7 +296,10 @@ pub fn put_fields(
     let mut l = 0;
     while i < template.len() {
         let octet = template[i];
-        if octet == b'%' {
+        if (octet == b' ') | (b'@' < octet) {
+            at = put_octet(text, at, octet);
+            i += 1;
+        } else if octet == b'%' {
             at = put_natural_code(text, at, &template[i..], natural_at(naturals, n));
             i = past_code(i, template.len());
             n += 1;
