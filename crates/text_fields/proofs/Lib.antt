@@ -1,3 +1,4 @@
-pub mod Parts
-pub mod Marks
+mod Marks
+mod Filled
 pub mod Longest
+pub mod Taken

@@ -1,8 +1,11 @@
 -- A signed number against its mark, by its bits, and in more bits. Assumes nothing.
 use mathlib.Core.Path.{_≡_, refl}
-use Prim.Native.Nat.{ℕ, _+_, _<_, _≤_, _^_}
+use mathlib.Core.Bool.{Bool, true, false, cond}
+use Prim.Native.Nat.{ℕ, suc, _+_, _-_, _<_, _≤_, _^_}
 use native.Mathlib.Omega.{arith}
-use lib.IntN.{ℤ, pos, negsuc}
+use lib.Dec.{ltb}
+use lib.IntN.{ℤ, pos, negsuc, _-ℤ_}
+use lib.Signed.{mag}
 use borrow.Author.Tests.{eq-eqb, ne-eqb}
 use mir.Syntax.{Width, w64}
 use mir.Val.{SFits, ofZ, bits, hbits}
@@ -22,3 +25,11 @@ module _ (w : Width) (twice : 2 ^ bits w ≡ 2 ^ hbits w + 2 ^ hbits w) (mark : 
 -- what fits some bits fits 64
 pub wider : (w : Width) → 2 ^ hbits w ≤ 2 ^ hbits w64 → (z : ℤ) → SFits w z → SFits w64 z
 wider w h z f = record { sfits = omega (arith, f .sfits) }
+
+-- less 1000
+pub less-fits : (n : ℕ) → n < 2 ^ hbits w64 → SFits w64 (pos n -ℤ pos 1000)
+less-fits n h = record { sfits = go (ltb n 1000) }
+  where
+    go : (t : Bool) → mag (cond t (negsuc (1000 - suc n)) (pos (n - 1000))) < 2 ^ hbits w64
+    go true = omega arith
+    go false = omega arith

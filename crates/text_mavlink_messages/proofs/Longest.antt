@@ -12,8 +12,8 @@ use Rattle.mavlink_messages.specs.declared.Lowest.the-variants.{Bit, None}
 use Rattle.mavlink_messages.specs.declared.Failures.{Failures}
 use Rattle.mavlink_messages.specs.declared.Message.{Message}
 use Rattle.mavlink_messages.specs.declared.Message.the-variants.{DataStream, Static, Dynamic, Status, Traffic}
-use Rattle.text_mavlink_dynamic.specs.Dynamic202.{dynamicFields}
-use Rattle.text_mavlink_traffic.specs.Traffic246.{trafficFields}
+use Rattle.text_mavlink_messages.specs.Dynamic202.{dynamicFields}
+use Rattle.text_mavlink_messages.specs.Traffic246.{trafficFields}
 use Rattle.text_mavlink_messages.specs.Messages.{headerFields, dataStreamFields, staticFields, lowestShown, statusFields, mavlinkShown}
 
 lowest-most : (l : Lowest) → most (lowestShown l) ≤ 47

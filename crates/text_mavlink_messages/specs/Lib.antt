@@ -1,1 +1,3 @@
+pub mod Dynamic202
+pub mod Traffic246
 pub mod Messages

@@ -9,8 +9,8 @@ use Rattle.text_output.specs.Text.{codes}
 use Rattle.text_fields.specs.declared.Reading.the-variants.{Known}
 use Rattle.text_fields.specs.declared.Unit.the-variants.{Bare, MetresPerSecond}
 use Rattle.text_fields.specs.Fields.{Value, number, reading, hexadecimal, quotedText, none, Labelled, _is_, fieldsShown}
-use Rattle.text_mavlink_dynamic.specs.Dynamic202.{dynamicFields}
-use Rattle.text_mavlink_traffic.specs.Traffic246.{trafficFields}
+use Rattle.text_mavlink_messages.specs.Dynamic202.{dynamicFields}
+use Rattle.text_mavlink_messages.specs.Traffic246.{trafficFields}
 use Rattle.mavlink_frame.specs.declared.Header.{Header}
 use Rattle.mavlink_messages.specs.declared.DataStream.{DataStream}
 use Rattle.mavlink_messages.specs.declared.Static.{Static}

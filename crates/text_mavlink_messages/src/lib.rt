@@ -1,102 +1,197 @@
-// The MAVLink kinds, each by its name, its frame's header and its fields in users' units.
+// The MAVLink kinds, each by its template: its name, its frame's header and its fields in users' units.
 use mavlink_frame::Header;
 use mavlink_messages::DataStream;
+use mavlink_messages::Dynamic;
 use mavlink_messages::Failures;
 use mavlink_messages::Lowest;
 use mavlink_messages::Message;
 use mavlink_messages::Static;
 use mavlink_messages::Status;
-use text_fields::Unit;
-use text_fields::put_hexadecimal;
-use text_fields::put_none;
-use text_fields::put_number;
-use text_fields::put_reading;
-use text_fields::put_text;
-use text_output::Scale;
+use mavlink_messages::Traffic;
+use text_fields::put_fields;
+use text_fields::put_named;
 use text_output::TextRoom;
 use text_output::put_word;
 ghost use mathlib.Core.List.{_++_};
-ghost use lib.ListN.{take, drop};
 ghost use Rattle.text_output.specs.Clips.{Clips};
-ghost use Rattle.text_output.specs.Text.{codes};
-ghost use Rattle.text_fields.specs.Fields.{fieldShown, fieldsShown};
-ghost use Rattle.text_mavlink_messages.specs.Messages.{headerFields, dataStreamFields, staticFields, lowestShown, statusFields, mavlinkShown};
+ghost use Rattle.text_fields.specs.Fields.{fieldsShown};
+ghost use Rattle.text_mavlink_messages.specs.Dynamic202.{dynamicFields};
+ghost use Rattle.text_mavlink_messages.specs.Traffic246.{trafficFields};
+ghost use Rattle.text_mavlink_messages.specs.Messages.{headerFields, dataStreamFields, staticFields, statusFields, mavlinkShown};
 
 fn put_heading(text: &mut TextRoom, at: usize, name: &[u8], header: Header) -> usize
     ensures { λ r. ⌜ Clips (now (text .entry)) at (now (name .entry) ++ fieldsShown (headerFields header)) r (now (text .exit)) ⌝ }
 {
+    let naturals = [
+        header.sequence as u32,
+        header.system as u32,
+        header.component as u32,
+    ];
     let at = put_word(text, at, name);
-    let at = put_number(text, at, b"sequence", header.sequence);
-    let at = put_number(text, at, b"system", header.system);
-    put_number(text, at, b"component", header.component)
-}
-
-fn put_data_stream(text: &mut TextRoom, at: usize, data_stream: DataStream) -> usize
-    ensures { λ r. ⌜ Clips (now (text .entry)) at (fieldsShown (dataStreamFields data_stream)) r (now (text .exit)) ⌝ }
-{
-    let rate = text_fields::unsigned(data_stream.req_message_rate as u32);
-    let at = put_reading(text, at, b"rate", Scale::Ones, Unit::Bare, rate);
-    let at = put_number(text, at, b"target system", data_stream.target_system);
-    let at = put_number(text, at, b"target component", data_stream.target_component);
-    let at = put_number(text, at, b"stream", data_stream.req_stream_id);
-    put_number(text, at, b"start", data_stream.start_stop)
-}
-
-fn put_vehicle(text: &mut TextRoom, at: usize, static_data: Static) -> usize
-    ensures { λ r. ⌜ Clips (now (text .entry)) at (fieldsShown (take 4 (staticFields static_data))) r (now (text .exit)) ⌝ }
-{
-    let stall = text_fields::unsigned(static_data.stall_speed as u32);
-    let callsign = static_data.callsign;
-    let at = put_hexadecimal(text, at, b"address", 6, static_data.icao);
-    let at = put_hexadecimal(text, at, b"integrity", 2, static_data.integrity as u32);
-    let at = put_reading(
+    put_fields(
         text,
         at,
-        b"stall speed",
-        Scale::Hundredths,
-        Unit::MetresPerSecond,
-        stall,
-    );
-    put_text(text, at, b"callsign", callsign)
+        b" sequence %n0. system %n0. component %n0.",
+        &naturals,
+        &[],
+        &[],
+        &[],
+    )
 }
 
-fn put_airframe(text: &mut TextRoom, at: usize, static_data: Static) -> usize
-    ensures { λ r. ⌜ Clips (now (text .entry)) at (fieldsShown (drop 4 (staticFields static_data))) r (now (text .exit)) ⌝ }
+fn put_data_stream(text: &mut TextRoom, at: usize, message: DataStream) -> usize
+    ensures { λ r. ⌜ Clips (now (text .entry)) at (fieldsShown (dataStreamFields message)) r (now (text .exit)) ⌝ }
 {
-    let at = put_hexadecimal(text, at, b"capability", 2, static_data.capability as u32);
-    let at = put_number(text, at, b"emitter", static_data.emitter);
-    let at = put_number(text, at, b"size", static_data.alw_encode);
-    let at = put_number(text, at, b"lateral", static_data.gps_lat_offs);
-    put_number(text, at, b"longitudinal", static_data.gps_lon_offs)
+    let naturals = [
+        message.req_message_rate as u32,
+        message.target_system as u32,
+        message.target_component as u32,
+        message.req_stream_id as u32,
+        message.start_stop as u32,
+    ];
+    put_fields(
+        text,
+        at,
+        b" rate %c0. target system %n0. target component %n0. stream %n0. start %n0.",
+        &naturals,
+        &[],
+        &[],
+        &[],
+    )
 }
 
-fn put_static(text: &mut TextRoom, at: usize, static_data: Static) -> usize
-    ensures { λ r. ⌜ Clips (now (text .entry)) at (fieldsShown (staticFields static_data)) r (now (text .exit)) ⌝ }
+fn put_static(text: &mut TextRoom, at: usize, message: Static) -> usize
+    ensures { λ r. ⌜ Clips (now (text .entry)) at (fieldsShown (staticFields message)) r (now (text .exit)) ⌝ }
 {
-    let at = put_vehicle(text, at, static_data);
-    put_airframe(text, at, static_data)
+    let naturals = [
+        message.icao,
+        message.integrity as u32,
+        message.stall_speed as u32,
+        message.capability as u32,
+        message.emitter as u32,
+        message.alw_encode as u32,
+        message.gps_lat_offs as u32,
+        message.gps_lon_offs as u32,
+    ];
+    let callsign = message.callsign;
+    put_named(
+        text,
+        at,
+        b" address %x6. integrity %x2. stall speed %v2. callsign @ capability %x2. emitter %n0. \
+        size %n0. lateral %n0. longitudinal %n0.",
+        &naturals,
+        &[],
+        &[],
+        callsign,
+    )
 }
 
-fn put_lowest(text: &mut TextRoom, at: usize, lowest: Lowest) -> usize
-    ensures { λ r. ⌜ Clips (now (text .entry)) at (fieldShown (codes "lowest") (lowestShown lowest)) r (now (text .exit)) ⌝ }
+fn put_dynamic(text: &mut TextRoom, at: usize, message: Dynamic) -> usize
+    ensures { λ r. ⌜ Clips (now (text .entry)) at (fieldsShown (dynamicFields message)) r (now (text .exit)) ⌝ }
 {
+    let naturals = [
+        message.utc_time,
+        message.acc_horiz,
+        message.acc_vert as u32,
+        message.acc_vel as u32,
+        message.state as u32,
+        message.squawk as u32,
+        message.fix_type as u32,
+        message.num_sats as u32,
+        message.em_status as u32,
+        message.control as u32,
+    ];
+    let shorts = [message.vel_vert, message.ns_vog, message.ew_vog];
+    let longs = [
+        message.latitude,
+        message.longitude,
+        message.alt_pres,
+        message.alt_gnss,
+    ];
+    put_fields(
+        text,
+        at,
+        b" utc time %s0m latitude $d7m longitude $d7m pressure altitude $m3m gnss altitude $m3m \
+        horizontal accuracy %m3m vertical accuracy %m2w velocity accuracy %v3w vertical speed &v2m \
+        north velocity &v2m east velocity &v2m state %x4. squawk %q4. fix %n0. satellites %c0b \
+        emergency %n0. control %x2.",
+        &naturals,
+        &shorts,
+        &longs,
+        &[],
+    )
+}
+
+fn put_status(text: &mut TextRoom, at: usize, message: Status, failures: Failures) -> usize
+    ensures { λ r. ⌜ Clips (now (text .entry)) at (fieldsShown (statusFields message failures)) r (now (text .exit)) ⌝ }
+{
+    let lowest = failures.lowest;
     match lowest {
         Lowest::Bit(bit) => {
-            let bit = text_fields::unsigned(bit);
-            put_reading(text, at, b"lowest", Scale::Ones, Unit::Bare, bit)
+            let naturals = [message.status as u32, failures.count, bit];
+            put_fields(
+                text,
+                at,
+                b" status %x2. failures %c0. lowest %c0.",
+                &naturals,
+                &[],
+                &[],
+                &[],
+            )
         }
-        Lowest::None => put_none(text, at, b"lowest"),
+        Lowest::None => {
+            let naturals = [message.status as u32, failures.count];
+            put_fields(
+                text,
+                at,
+                b" status %x2. failures %c0. lowest none",
+                &naturals,
+                &[],
+                &[],
+                &[],
+            )
+        }
     }
 }
 
-fn put_status(text: &mut TextRoom, at: usize, status: Status, failures: Failures) -> usize
-    ensures { λ r. ⌜ Clips (now (text .entry)) at (fieldsShown (statusFields status failures)) r (now (text .exit)) ⌝ }
+fn put_traffic(text: &mut TextRoom, at: usize, message: Traffic) -> usize
+    ensures { λ r. ⌜ Clips (now (text .entry)) at (fieldsShown (trafficFields message)) r (now (text .exit)) ⌝ }
 {
-    let count = text_fields::unsigned(failures.count);
-    let lowest = failures.lowest;
-    let at = put_hexadecimal(text, at, b"status", 2, status.status as u32);
-    let at = put_reading(text, at, b"failures", Scale::Ones, Unit::Bare, count);
-    put_lowest(text, at, lowest)
+    let naturals = [
+        message.icao_address,
+        message.heading as u32,
+        message.hor_velocity as u32,
+        message.valid_flags as u32,
+        message.squawk as u32,
+        message.altitude_type as u32,
+        message.emitter_type as u32,
+        message.tslc as u32,
+    ];
+    let shorts = [message.ver_velocity];
+    let longs = [message.lat, message.lon, message.altitude];
+    let name = message.callsign;
+    let callsign = [
+        name.c0,
+        name.c1,
+        name.c2,
+        name.c3,
+        name.c4,
+        name.c5,
+        name.c6,
+        name.c7,
+        message.callsign_ninth,
+    ];
+    put_fields(
+        text,
+        at,
+        b" address %x8. latitude $d7. longitude $d7. altitude $m3. heading %d2. \
+        horizontal velocity %v2. vertical velocity &v2. valid %x4. squawk %q4w altitude type %n0. \
+        callsign @ emitter %n0. age %s0.",
+        &naturals,
+        &shorts,
+        &longs,
+        &callsign,
+    )
 }
 
 // A message behind the octets that its frame has.
@@ -120,7 +215,7 @@ pub fn put_message(
         }
         Message::Dynamic(dynamic_data) => {
             let at = put_heading(text, at, b" dynamic", header);
-            text_mavlink_dynamic::put_dynamic(text, at, dynamic_data)
+            put_dynamic(text, at, dynamic_data)
         }
         Message::Status(status) => {
             let at = put_heading(text, at, b" status", header);
@@ -128,7 +223,7 @@ pub fn put_message(
         }
         Message::Traffic(report) => {
             let at = put_heading(text, at, b" traffic report", header);
-            text_mavlink_traffic::put_traffic(text, at, report)
+            put_traffic(text, at, report)
         }
     }
 }

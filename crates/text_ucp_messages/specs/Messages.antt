@@ -9,7 +9,7 @@ use Rattle.text_output.specs.Text.{codes, printed}
 use Rattle.text_fields.specs.declared.Reading.the-variants.{Known}
 use Rattle.text_fields.specs.declared.Unit.the-variants.{Seconds, Metres}
 use Rattle.text_fields.specs.Fields.{unless, number, reading, squawk, hexadecimal, quotedText, truth, Labelled, _is_, fieldsShown}
-use Rattle.text_ucp_reports.specs.Reports.{knots, reportFields, geometricFields}
+use Rattle.text_ucp_messages.specs.Reports.{knots, reportFields, geometricFields}
 use Rattle.ucp_kinds.specs.declared.Heartbeat.{Heartbeat}
 use Rattle.ucp_kinds.specs.declared.Request.{Request}
 use Rattle.ucp_kinds.specs.declared.Control.{Control}

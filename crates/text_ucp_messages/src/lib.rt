@@ -1,43 +1,41 @@
-// The kinds of message on the UCP line, each by its name and its fields in users' units.
-use text_fields::Unit;
-use text_fields::put_hexadecimal;
-use text_fields::put_number;
-use text_fields::put_reading;
-use text_fields::put_squawk;
-use text_fields::put_text;
-use text_fields::put_truth;
+// The kinds of message on the UCP line, each by its template: its name, and its fields in users' units.
+use text_fields::put_fields;
+use text_fields::put_named;
 use text_output::Printing;
-use text_output::Scale;
 use text_output::TextRoom;
 use text_output::put_word;
 use ucp_kinds::Control;
+use ucp_kinds::GeometricAltitude;
 use ucp_kinds::Heartbeat;
 use ucp_kinds::Initialization;
+use ucp_kinds::Report;
 use ucp_kinds::Request;
 use ucp_messages::Message;
-ghost use mathlib.Core.Path.{_≡_};
-ghost use mathlib.Core.List.{[]};
-ghost use lib.ListN.{take, drop};
-ghost use Rattle.ucp_messages.specs.declared.Message.the-variants.{Heartbeat as HeartbeatMessage, Uplink as UplinkMessage, Request as RequestMessage, Control as ControlMessage, Initialization as InitializationMessage};
+ghost use mathlib.Core.List.{[], _++_};
+ghost use Rattle.ucp_messages.specs.declared.Message.the-variants.{Heartbeat as HeartbeatMessage, Uplink as UplinkMessage, GeometricAltitude as GeometricMessage, Request as RequestMessage, Control as ControlMessage, Initialization as InitializationMessage};
 ghost use Rattle.text_output.specs.Clips.{Clips};
 ghost use Rattle.text_fields.specs.Fields.{fieldsShown};
-ghost use Rattle.text_ucp_messages.specs.Messages.{seconds, controlFields, initializationFields, messageShown};
+ghost use Rattle.text_ucp_messages.specs.Reports.{reportFields};
+ghost use Rattle.text_ucp_messages.specs.Messages.{messageShown};
 
-fn since_midnight(heartbeat: Heartbeat) -> u32
-    ensures { λ r. ⌜ r ≡ seconds heartbeat ⌝ }
+fn put_heartbeat(text: &mut TextRoom, at: usize, message: Heartbeat) -> usize
+    ensures { λ r. ⌜ Clips (now (text .entry)) at (messageShown (HeartbeatMessage message) []) r (now (text .exit)) ⌝ }
 {
-    heartbeat.time_stamp as u32 + heartbeat.status_2 as u32 / 128 * 65536
-}
-
-fn put_heartbeat(text: &mut TextRoom, at: usize, heartbeat: Heartbeat) -> usize
-    ensures { λ r. ⌜ Clips (now (text .entry)) at (messageShown (HeartbeatMessage heartbeat) []) r (now (text .exit)) ⌝ }
-{
-    let time = text_fields::unsigned(since_midnight(heartbeat));
-    let at = put_word(text, at, b" heartbeat");
-    let at = put_hexadecimal(text, at, b"first status", 2, heartbeat.status_1 as u32);
-    let at = put_hexadecimal(text, at, b"second status", 2, heartbeat.status_2 as u32);
-    let at = put_reading(text, at, b"time", Scale::Ones, Unit::Seconds, time);
-    put_hexadecimal(text, at, b"counts", 4, heartbeat.counts as u32)
+    let naturals = [
+        message.status_1 as u32,
+        message.status_2 as u32,
+        message.time_stamp as u32 + message.status_2 as u32 / 128 * 65536,
+        message.counts as u32,
+    ];
+    put_fields(
+        text,
+        at,
+        b" heartbeat first status %x2. second status %x2. time %s0. counts %x4.",
+        &naturals,
+        &[],
+        &[],
+        &[],
+    )
 }
 
 fn put_uplink(text: &mut TextRoom, at: usize, body: &[u8]) -> usize
@@ -47,75 +45,123 @@ fn put_uplink(text: &mut TextRoom, at: usize, body: &[u8]) -> usize
     text_output::put_printed(text, at, Printing::Hex, body, 1)
 }
 
-fn put_request(text: &mut TextRoom, at: usize, request: Request) -> usize
-    ensures { λ r. ⌜ Clips (now (text .entry)) at (messageShown (RequestMessage request) []) r (now (text .exit)) ⌝ }
+// Ownship and traffic are told apart by the name. A track's step is 65536 of an angle's.
+fn put_report(text: &mut TextRoom, at: usize, name: &[u8], message: Report) -> usize
+    ensures { λ r. ⌜ Clips (now (text .entry)) at (now (name .entry) ++ fieldsShown (reportFields message)) r (now (text .exit)) ⌝ }
 {
-    let at = put_word(text, at, b" request");
-    put_number(text, at, b"requested", request.requested_id)
-}
-
-fn put_modes(text: &mut TextRoom, at: usize, control: Control) -> usize
-    ensures { λ r. ⌜ Clips (now (text .entry)) at (fieldsShown (take 5 (controlFields control))) r (now (text .exit)) ⌝ }
-{
-    let at = put_truth(text, at, b"1090es", control.es_enabled);
-    let at = put_truth(text, at, b"mode s", control.mode_s);
-    let at = put_truth(text, at, b"mode c", control.mode_c);
-    let at = put_truth(text, at, b"mode a", control.mode_a);
-    put_truth(text, at, b"ident", control.ident)
-}
-
-fn put_flight(text: &mut TextRoom, at: usize, control: Control) -> usize
-    ensures { λ r. ⌜ Clips (now (text .entry)) at (fieldsShown (drop 5 (controlFields control))) r (now (text .exit)) ⌝ }
-{
-    let identity = control.identity;
-    let altitude = text_fields::unless_signed_32(control.altitude);
-    let at = put_number(text, at, b"air ground", control.air_ground);
-    let at = put_truth(text, at, b"barometer checked", control.baro_checked);
-    let at = put_reading(
+    let naturals = [
+        message.alert as u32,
+        message.address_type as u32,
+        message.address,
+        message.altitude as u32,
+        message.miscellaneous as u32,
+        message.nic as u32,
+        message.nacp as u32,
+        message.speed as u32,
+        message.emitter as u32,
+        message.emergency as u32,
+        message.spare as u32,
+    ];
+    let steps = message.track as u32 * 65536;
+    let longs = [message.latitude, message.longitude, steps as i32];
+    let shorts = [message.vertical_rate];
+    let callsign = message.callsign;
+    let at = put_word(text, at, name);
+    put_named(
         text,
         at,
-        b"altitude",
-        Scale::Thousandths,
-        Unit::Metres,
-        altitude,
-    );
-    let at = put_squawk(text, at, b"squawk", control.squawk);
-    let at = put_number(text, at, b"emergency", control.emergency);
-    put_text(text, at, b"identity", identity)
+        b" alert %n0. address type %n0. address %x6. latitude $a7. longitude $a7. altitude %a0. \
+        miscellaneous %n0. nic %n0. nacp %n0. speed %k0k vertical rate &r0. track $a7. emitter %n0. \
+        callsign @ emergency %n0. spare %n0.",
+        &naturals,
+        &shorts,
+        &longs,
+        callsign,
+    )
 }
 
-fn put_control(text: &mut TextRoom, at: usize, control: Control) -> usize
-    ensures { λ r. ⌜ Clips (now (text .entry)) at (messageShown (ControlMessage control) []) r (now (text .exit)) ⌝ }
+fn put_geometric(text: &mut TextRoom, at: usize, message: GeometricAltitude) -> usize
+    ensures { λ r. ⌜ Clips (now (text .entry)) at (messageShown (GeometricMessage message) []) r (now (text .exit)) ⌝ }
 {
-    let at = put_word(text, at, b" control");
-    let at = put_modes(text, at, control);
-    put_flight(text, at, control)
-}
-
-fn put_airframe(text: &mut TextRoom, at: usize, initialization: Initialization) -> usize
-    ensures { λ r. ⌜ Clips (now (text .entry)) at (fieldsShown (drop 4 (initializationFields initialization))) r (now (text .exit)) ⌝ }
-{
-    let at = text_ucp_reports::put_knots(
+    let naturals = [message.metrics as u32];
+    let shorts = [message.altitude];
+    put_fields(
         text,
         at,
-        b"stall speed",
-        initialization.stall_speed as u16,
-    );
-    let at = put_number(text, at, b"size", initialization.size);
-    let at = put_number(text, at, b"lateral", initialization.lateral);
-    put_number(text, at, b"longitudinal", initialization.longitudinal)
+        b" geometric altitude altitude &g0. metrics %x4.",
+        &naturals,
+        &shorts,
+        &[],
+        &[],
+    )
 }
 
-fn put_initialization(text: &mut TextRoom, at: usize, initialization: Initialization) -> usize
-    ensures { λ r. ⌜ Clips (now (text .entry)) at (messageShown (InitializationMessage initialization) []) r (now (text .exit)) ⌝ }
+fn put_request(text: &mut TextRoom, at: usize, message: Request) -> usize
+    ensures { λ r. ⌜ Clips (now (text .entry)) at (messageShown (RequestMessage message) []) r (now (text .exit)) ⌝ }
 {
-    let callsign = initialization.callsign;
-    let at = put_word(text, at, b" initialization");
-    let at = put_number(text, at, b"version", initialization.version);
-    let at = put_hexadecimal(text, at, b"address", 6, initialization.address);
-    let at = put_number(text, at, b"emitter", initialization.emitter);
-    let at = put_text(text, at, b"callsign", callsign);
-    put_airframe(text, at, initialization)
+    let naturals = [message.requested_id as u32];
+    put_fields(
+        text,
+        at,
+        b" request requested %n0.",
+        &naturals,
+        &[],
+        &[],
+        &[],
+    )
+}
+
+fn put_control(text: &mut TextRoom, at: usize, message: Control) -> usize
+    ensures { λ r. ⌜ Clips (now (text .entry)) at (messageShown (ControlMessage message) []) r (now (text .exit)) ⌝ }
+{
+    let naturals = [
+        message.es_enabled as u32,
+        message.mode_s as u32,
+        message.mode_c as u32,
+        message.mode_a as u32,
+        message.ident as u32,
+        message.air_ground as u32,
+        message.baro_checked as u32,
+        message.squawk as u32,
+        message.emergency as u32,
+    ];
+    let longs = [message.altitude];
+    let identity = message.identity;
+    put_named(
+        text,
+        at,
+        b" control 1090es %y0. mode s %y0. mode c %y0. mode a %y0. ident %y0. air ground %n0. \
+        barometer checked %y0. altitude $m3m squawk %q4. emergency %n0. identity @",
+        &naturals,
+        &[],
+        &longs,
+        identity,
+    )
+}
+
+fn put_initialization(text: &mut TextRoom, at: usize, message: Initialization) -> usize
+    ensures { λ r. ⌜ Clips (now (text .entry)) at (messageShown (InitializationMessage message) []) r (now (text .exit)) ⌝ }
+{
+    let naturals = [
+        message.version as u32,
+        message.address,
+        message.emitter as u32,
+        message.stall_speed as u32,
+        message.size as u32,
+        message.lateral as u32,
+        message.longitudinal as u32,
+    ];
+    let callsign = message.callsign;
+    put_named(
+        text,
+        at,
+        b" initialization version %n0. address %x6. emitter %n0. callsign @ stall speed %k0k size %n0. \
+        lateral %n0. longitudinal %n0.",
+        &naturals,
+        &[],
+        &[],
+        callsign,
+    )
 }
 
 // A message by its kind's name and its fields. An uplink's payload stands in its body.
@@ -125,13 +171,9 @@ pub fn put_message(text: &mut TextRoom, at: usize, message: Message, body: &[u8]
     match message {
         Message::Heartbeat(heartbeat) => put_heartbeat(text, at, heartbeat),
         Message::Uplink => put_uplink(text, at, body),
-        Message::Ownship(report) => text_ucp_reports::put_report(text, at, b" ownship", report),
-        Message::GeometricAltitude(geometric) => text_ucp_reports::put_geometric(
-            text,
-            at,
-            geometric,
-        ),
-        Message::Traffic(report) => text_ucp_reports::put_report(text, at, b" traffic", report),
+        Message::Ownship(report) => put_report(text, at, b" ownship", report),
+        Message::GeometricAltitude(geometric) => put_geometric(text, at, geometric),
+        Message::Traffic(report) => put_report(text, at, b" traffic", report),
         Message::Request(request) => put_request(text, at, request),
         Message::Control(control) => put_control(text, at, control),
         Message::Initialization(initialization) => put_initialization(text, at, initialization),

@@ -1,14 +1,16 @@
--- `text_mavlink_messages::put_static` meets its contract. Assumes nothing.
-use Rattle.text_mavlink_messages.specs.Messages.{staticFields}
-use Rattle.text_fields.proofs.Parts.{fields-split}
-use Rattle.text_output.proofs.Clipped.{then}
+-- `text_mavlink_messages::put_static` meets its contract: its template over its numbers is its fields. Assumes nothing.
+use mathlib.Core.Path.{refl}
+use native.Mathlib.Omega.{arith}
+use Rattle.text_fields.specs.Fields.{fieldsShown}
+use Rattle.text_fields.specs.Templates.{filled}
 use Rattle.text_mavlink_messages.proofs.put_static.Statement.{statement}
 use Rattle.text_mavlink_messages.proofs.put_static.Tie as tie
 
 returns : tie.Need-returns
-returns c =
-    let parts = staticFields (c .before .before .before .before .args .static-data) in
-    rw (fields-split 4 parts) at (then (c .before .before .put-vehicle .ensures) (c .put-airframe .ensures))
+unfolding fieldsShown filled
+returns c = c .put-named .ensures
 
 pub put-static-spec : {M : Type 1} → statement M
-put-static-spec = tie.close (tie.spec (λ c κs. tt) (λ c κs. tt) returns)
+put-static-spec =
+    tie.close
+    (tie.spec (λ c. omega (arith, c .struct-known .given)) (λ c. omega (arith, c .struct-known2 .given)) (λ c. omega (arith, c .struct-known3 .given)) (λ c. omega (arith, c .struct-known4 .given)) (λ c. omega (arith, c .struct-known5 .given)) (λ c. omega (arith, c .struct-known6 .given)) (λ c. omega (arith, c .struct-known7 .given)) (λ c. refl) (λ c. refl) (λ c. refl) (λ c. refl) (λ c κs. tt) returns)

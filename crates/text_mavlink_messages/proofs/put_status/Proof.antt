@@ -1,25 +1,31 @@
--- `text_mavlink_messages::put_status` meets its contract. Assumes nothing.
-use Rattle.text_output.proofs.Clipped.{then, last-piece}
-use mathlib.Core.Path.{refl}
-use Rattle.text_fields.specs.Fields.{fieldsShown}
+-- `text_mavlink_messages::put_status` meets its contract: its template over its numbers is its fields. Assumes nothing.
+use mathlib.Core.Path.{refl, sym}
+use native.Mathlib.Omega.{arith}
+use Rattle.text_fields.specs.Fields.{fieldsShown, shown}
+use Rattle.text_fields.specs.Templates.{filled}
+use Rattle.text_fields.proofs.Taken.{put-as}
+use Rattle.text_mavlink_messages.specs.Messages.{statusFields}
 use borrow.Author.Needs.{needs}
 use Rattle.text_mavlink_messages.proofs.put_status.Statement.{statement}
 use Rattle.text_mavlink_messages.proofs.put_status.Tie as tie
 
-slice-aggregate-put-hexadecimal : tie.Need-slice-aggregate-put-hexadecimal
-slice-aggregate-put-hexadecimal c = refl
-
-slice-aggregate-put-reading : tie.Need-slice-aggregate-put-reading
-slice-aggregate-put-reading c = refl
-
 returns : tie.Need-returns
-unfolding fieldsShown
-returns c = then (c .before .before .before .before .before .put-hexadecimal .ensures)
-    (then (rw (c .before .before .before .before .before .before .before .before .before .unsigned .ensures) at (c .before .before .put-reading .ensures))
-    (last-piece (c .put-lowest .ensures)))
+unfolding fieldsShown filled
+returns c =
+    let m = c .before .before .before .before .before .before .before .before .before .before .before .args .message in
+    let f = c .before .before .before .before .before .before .before .before .before .before .before .args .failures in
+    let e = c .before .before .before .before .before .before .before .before .before .lowest .given .1 in
+    put-as (c .put-fields .ensures) (λ i. fieldsShown (statusFields m (record { count = f .count; lowest = sym e i })))
+
+returns-2 : tie.Need-returns-2
+unfolding fieldsShown filled shown
+returns-2 c =
+    let m = c .before .before .before .before .before .before .before .before .before .before .args .message in
+    let f = c .before .before .before .before .before .before .before .before .before .before .args .failures in
+    let e = c .before .before .before .before .before .before .before .before .enum-told .given .1 in
+    put-as (c .put-fields2 .ensures) (λ i. fieldsShown (statusFields m (record { count = f .count; lowest = sym e i })))
 
 pub put-status-spec : {M : Type 1} → statement M
 put-status-spec =
     tie.close
-    (tie.spec (λ c κs. tt) slice-aggregate-put-hexadecimal (λ c. search needs) (λ c κs. tt) slice-aggregate-put-reading
-    (λ c κs. tt) (λ c κs. tt) returns)
+    (tie.spec (λ c. search needs) (λ c. omega (arith, c .struct-known .given)) (λ c. refl) (λ c. refl) (λ c. refl) (λ c. refl) (λ c. refl) (λ c κs. tt) (λ c. search needs) (λ c. omega (arith, c .struct-known2 .given)) (λ c. refl) (λ c. refl) (λ c. refl) (λ c. refl) (λ c. refl) (λ c κs. tt) returns returns-2)

@@ -1,21 +1,17 @@
--- `text_ucp_messages::put_request` meets its contract. Assumes nothing.
+-- `text_ucp_messages::put_request` meets its contract: its template over its numbers is its fields. Assumes nothing.
 use mathlib.Core.Path.{refl}
+use native.Mathlib.Omega.{arith}
 use Rattle.text_fields.specs.Fields.{fieldsShown}
+use Rattle.text_fields.specs.Templates.{filled}
 use Rattle.text_ucp_messages.specs.Messages.{messageShown}
-use Rattle.text_output.proofs.Clipped.{then, last-piece}
 use Rattle.text_ucp_messages.proofs.put_request.Statement.{statement}
 use Rattle.text_ucp_messages.proofs.put_request.Tie as tie
 
-slice-aggregate-put-word : tie.Need-slice-aggregate-put-word
-slice-aggregate-put-word c = refl
-
-slice-aggregate-put-number : tie.Need-slice-aggregate-put-number
-slice-aggregate-put-number c = refl
-
 returns : tie.Need-returns
-unfolding messageShown fieldsShown
-returns c = then (c .before .before .before .put-word .ensures) (last-piece (c .put-number .ensures))
+unfolding messageShown fieldsShown filled
+returns c = c .put-fields .ensures
 
 pub put-request-spec : {M : Type 1} → statement M
 put-request-spec =
-    tie.close (tie.spec slice-aggregate-put-word (λ c κs. tt) slice-aggregate-put-number (λ c κs. tt) returns)
+    tie.close
+    (tie.spec (λ c. omega (arith, c .struct-known .given)) (λ c. refl) (λ c. refl) (λ c. refl) (λ c. refl) (λ c. refl) (λ c κs. tt) returns)
