@@ -97,7 +97,7 @@ module _ (template : List ℕ) (i : ℕ) (h : i < length template) (naturals : L
   -- a space, or an octet past '@'
   pub filled-letter : (eqb (getD template i 0) 32 || ltb 64 (getD template i 0)) ≡ true
       → filled 0 (drop i template) (drop n naturals) (drop s shorts) (drop l longs) octets
-        ≡ (getD template i 0 ∷ []) ++ filled 0 (drop (i + 1) template) (drop n naturals) (drop s shorts) (drop l longs) octets
+      ≡ (getD template i 0 ∷ []) ++ filled 0 (drop (i + 1) template) (drop n naturals) (drop s shorts) (drop l longs) octets
   filled-letter f =
       let other : (k : ℕ) → (eqb k 32 || ltb 64 k) ≡ false → getD template i 0 ≡ k → ⊥ = λ k none e. false≢true (sym none ∙ (rw e at f)) in
       filled-plain (other 37 refl) (other 38 refl) (other 36 refl)
