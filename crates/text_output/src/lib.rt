@@ -2,7 +2,7 @@
 // `Clips` says so, and where all fits it says that all is there.
 ghost use mathlib.Core.Path.{_≡_};
 ghost use mathlib.Core.List.{[], _∷_};
-ghost use Prim.Native.Nat.{_<_, _≤_, _^_};
+ghost use Prim.Native.Nat.{_/_, _%_, _<_, _≤_, _^_};
 ghost use lib.ListN.{length, drop};
 ghost use lib.IntN.{natAbs};
 ghost use Rattle.text_output.specs.Clips.{textRoom, Clips};
@@ -149,6 +149,33 @@ pub fn put_word(text: &mut TextRoom, at: usize, word: &[u8]) -> usize
 
 // ---- numbers
 
+// By a constant where the base is one of ours: a division by a variable takes many times as long.
+fn quotient(n: u64, base: u64) -> u64
+    requires { ⌜ 0 < base ⌝ }
+    ensures { λ r. ⌜ r ≡ n / base ⌝ }
+{
+    if base == 10 {
+        return n / 10;
+    }
+    if base == 16 {
+        return n / 16;
+    }
+    n / base
+}
+
+fn remainder(n: u64, base: u64) -> u64
+    requires { ⌜ 0 < base ⌝ }
+    ensures { λ r. ⌜ r ≡ n % base ⌝ }
+{
+    if base == 10 {
+        return n % 10;
+    }
+    if base == 16 {
+        return n % 16;
+    }
+    n % base
+}
+
 fn put_numeral(text: &mut TextRoom, at: usize, padded: bool, base: u64, most: u8, n: u64) -> usize
     requires { ⌜ (0 < base) × (base ≤ 16) ⌝ }
     ensures { λ r. ⌜ Clips (now (text .entry)) at (numeral padded base most n) r (now (text .exit)) ⌝ }
@@ -159,8 +186,8 @@ fn put_numeral(text: &mut TextRoom, at: usize, padded: bool, base: u64, most: u8
     if !padded & (n < base) {
         return put_octet(text, at, digit(n));
     }
-    let at = put_numeral(text, at, padded, base, most - 1, n / base);
-    put_octet(text, at, digit(n % base))
+    let at = put_numeral(text, at, padded, base, most - 1, quotient(n, base));
+    put_octet(text, at, digit(remainder(n, base)))
 }
 
 pub fn put_natural(text: &mut TextRoom, at: usize, n: u64) -> usize

@@ -5,27 +5,10 @@ use borrow.Author.Needs.{needs}
 use Rattle.text_fields.proofs.put_long_code.Statement.{statement}
 use Rattle.text_fields.proofs.put_long_code.Tie as tie
 
-octet-at-requires : tie.Need-octet-at-requires
-octet-at-requires c κs = search needs
-
-octet-at-requires-2 : tie.Need-octet-at-requires-2
-octet-at-requires-2 c κs = search needs
-
-octet-at-requires-3 : tie.Need-octet-at-requires-3
-octet-at-requires-3 c κs = search needs
-
-put-long-value-requires : tie.Need-put-long-value-requires
-put-long-value-requires c κs = search needs
-
 returns : tie.Need-returns
 returns c = rw (c .before .before .before .before .octet-at .ensures, c .before .before .before .octet-at2 .ensures, c .before .before .octet-at3 .ensures, toZ-ofZ w32 (c .before .before .before .before .before .before .args .n) (c .before .before .before .before .before .before .fits .n)) at (c .put-long-value .ensures)
 
 pub put-long-code-spec : {M : Type 1} → statement M
 put-long-code-spec =
     tie.close
-    (tie.spec
-    octet-at-requires
-    octet-at-requires-2
-    octet-at-requires-3
-    put-long-value-requires
-    returns)
+    (tie.spec (λ c κs. search needs) (λ c κs. search needs) (λ c κs. search needs) (λ c κs. search needs) returns)

@@ -7,27 +7,9 @@ use borrow.Author.Needs.{needs}
 use Rattle.text_fields.proofs.put_long_value.Statement.{statement}
 use Rattle.text_fields.proofs.put_long_value.Tie as tie
 
-angle-requires : tie.Need-angle-requires
-angle-requires c κs = search needs
-
-put-reading-requires : tie.Need-put-reading-requires
-put-reading-requires c κs = search needs
-
 returns : tie.Need-returns
 unfolding shown
 returns c = rw (eq-eqb (c .before .before .before .before .args .what) 97 (c .before .before .before .if1 .taken)) (rw (c .before .angle .ensures, toZ-ofZ w32 (c .before .before .before .before .args .n) (c .before .before .before .before .fits .n)) at (c .put-reading .ensures))
-
-long-reading-requires : tie.Need-long-reading-requires
-long-reading-requires c κs = search needs
-
-scale-of-requires : tie.Need-scale-of-requires
-scale-of-requires c κs = search needs
-
-unit-of-requires : tie.Need-unit-of-requires
-unit-of-requires c κs = search needs
-
-put-reading-requires-2 : tie.Need-put-reading-requires-2
-put-reading-requires-2 c κs = search needs
 
 returns-2 : tie.Need-returns-2
 unfolding shown
@@ -36,12 +18,5 @@ returns-2 c = rw (ne-eqb (c .before .before .before .before .before .before .arg
 pub put-long-value-spec : {M : Type 1} → statement M
 put-long-value-spec =
     tie.close
-    (tie.spec
-    angle-requires
-    put-reading-requires
-    returns
-    long-reading-requires
-    scale-of-requires
-    unit-of-requires
-    put-reading-requires-2
-    returns-2)
+    (tie.spec (λ c κs. search needs) (λ c κs. search needs) returns (λ c κs. search needs) (λ c κs. search needs)
+    (λ c κs. search needs) (λ c κs. search needs) returns-2)

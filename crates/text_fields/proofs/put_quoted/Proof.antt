@@ -5,19 +5,9 @@ use borrow.Author.Needs.{needs}
 use Rattle.text_fields.proofs.put_quoted.Statement.{statement}
 use Rattle.text_fields.proofs.put_quoted.Tie as tie
 
-put-octet-requires : tie.Need-put-octet-requires
-put-octet-requires c κs = search needs
-
-put-printed-requires : tie.Need-put-printed-requires
-put-printed-requires c κs = search needs
-
-put-octet-requires-2 : tie.Need-put-octet-requires-2
-put-octet-requires-2 c κs = search needs
-
 returns : tie.Need-returns
 unfolding shown
 returns c = then (c .before .before .before .before .put-octet .ensures) (then (c .before .before .put-printed .ensures) (c .put-octet2 .ensures))
 
 pub put-quoted-spec : {M : Type 1} → statement M
-put-quoted-spec =
-    tie.close (tie.spec put-octet-requires put-printed-requires put-octet-requires-2 returns)
+put-quoted-spec = tie.close (tie.spec (λ c κs. search needs) (λ c κs. search needs) (λ c κs. search needs) returns)

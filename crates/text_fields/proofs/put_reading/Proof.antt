@@ -6,21 +6,6 @@ use borrow.Author.Needs.{needs}
 use Rattle.text_fields.proofs.put_reading.Statement.{statement}
 use Rattle.text_fields.proofs.put_reading.Tie as tie
 
-enum-told : tie.Need-enum-told
-enum-told c = search needs
-
-slice-aggregate-put-word : tie.Need-slice-aggregate-put-word
-slice-aggregate-put-word c = search needs
-
-put-word-requires : tie.Need-put-word-requires
-put-word-requires c κs = search needs
-
-enum-known-reading : tie.Need-enum-known-reading
-enum-known-reading c = search needs
-
-put-known-requires : tie.Need-put-known-requires
-put-known-requires c κs = search needs
-
 returns : tie.Need-returns
 returns c = rw (c .before .before .before .enum-told .given .1) (c .put-word .ensures)
 
@@ -30,11 +15,5 @@ returns-2 c = let z = c .before .before .before .reading .given .0 .0 in rw (c .
 pub put-reading-spec : {M : Type 1} → statement M
 put-reading-spec =
     tie.close
-    (tie.spec
-    enum-told
-    slice-aggregate-put-word
-    put-word-requires
-    enum-known-reading
-    put-known-requires
-    returns
-    returns-2)
+    (tie.spec (λ c. search needs) (λ c. search needs) (λ c κs. search needs) (λ c. search needs) (λ c κs. search needs)
+    returns returns-2)

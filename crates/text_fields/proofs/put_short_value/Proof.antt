@@ -7,37 +7,13 @@ use borrow.Author.Needs.{needs}
 use Rattle.text_fields.proofs.put_short_value.Statement.{statement}
 use Rattle.text_fields.proofs.put_short_value.Tie as tie
 
-rate-requires : tie.Need-rate-requires
-rate-requires c κs = search needs
-
-put-reading-requires : tie.Need-put-reading-requires
-put-reading-requires c κs = search needs
-
 returns : tie.Need-returns
 unfolding shown
 returns c = rw (eq-eqb (c .before .before .before .before .args .what) 114 (c .before .before .before .if1 .taken)) (rw (c .before .rate .ensures, toZ-ofZ w16 (c .before .before .before .before .args .n) (c .before .before .before .before .fits .n)) at (c .put-reading .ensures))
 
-geometric-requires : tie.Need-geometric-requires
-geometric-requires c κs = search needs
-
-put-reading-requires-2 : tie.Need-put-reading-requires-2
-put-reading-requires-2 c κs = search needs
-
 returns-2 : tie.Need-returns-2
 unfolding shown
 returns-2 c = rw (ne-eqb (c .before .before .before .before .before .args .what) 114 (c .before .before .before .before .if1 .left), eq-eqb (c .before .before .before .before .before .args .what) 103 (c .before .before .before .if2 .taken)) (rw (c .before .geometric .ensures, toZ-ofZ w16 (c .before .before .before .before .before .args .n) (c .before .before .before .before .before .fits .n)) at (c .put-reading2 .ensures))
-
-short-reading-requires : tie.Need-short-reading-requires
-short-reading-requires c κs = search needs
-
-scale-of-requires : tie.Need-scale-of-requires
-scale-of-requires c κs = search needs
-
-unit-of-requires : tie.Need-unit-of-requires
-unit-of-requires c κs = search needs
-
-put-reading-requires-3 : tie.Need-put-reading-requires-3
-put-reading-requires-3 c κs = search needs
 
 returns-3 : tie.Need-returns-3
 unfolding shown
@@ -46,15 +22,5 @@ returns-3 c = rw (ne-eqb (c .before .before .before .before .before .before .bef
 pub put-short-value-spec : {M : Type 1} → statement M
 put-short-value-spec =
     tie.close
-    (tie.spec
-    rate-requires
-    put-reading-requires
-    returns
-    geometric-requires
-    put-reading-requires-2
-    returns-2
-    short-reading-requires
-    scale-of-requires
-    unit-of-requires
-    put-reading-requires-3
-    returns-3)
+    (tie.spec (λ c κs. search needs) (λ c κs. search needs) returns (λ c κs. search needs) (λ c κs. search needs)
+    returns-2 (λ c κs. search needs) (λ c κs. search needs) (λ c κs. search needs) (λ c κs. search needs) returns-3)

@@ -13,6 +13,8 @@ use Rattle.text_output.proofs.+put_numeral.Lts-put_numeral as put-numer
 use Rattle.text_output.proofs.digit.Reads as digit-reads
 use Rattle.text_output.proofs.put_nothing.Reads as put-nothing-reads
 use Rattle.text_output.proofs.put_octet.Reads as put-octet-reads
+use Rattle.text_output.proofs.quotient.Reads as quotient-reads
+use Rattle.text_output.proofs.remainder.Reads as remainder-reads
 use Rattle.text_output.proofs.+put_numeral.{statement}
 use Rattle.text_output.proofs.+put_numeral.Tie.{close}
 
@@ -27,44 +29,44 @@ abbrev put-numeral-below : ℕ → In 1 put-numeral-kinds.ps
 put-numeral-below t =
     and 1 put-numeral-kinds.ps (falls 1 put-numeral-kinds.ps _<_ μ-put-numeral t) put-numeral.Pre
 
-put-numeral-returns : (t : ℕ) → put-numeral-lts.Need-returns (put-nothing-reads.Asked, put-nothing-reads.Learnt, digit-reads.Asked, digit-reads.Learnt, put-octet-reads.Asked, put-octet-reads.Learnt, put-numeral-below t, put-numeral.Post) (put-numeral-at t) put-numeral.Post
+put-numeral-returns : (t : ℕ) → put-numeral-lts.Need-returns (put-nothing-reads.Asked, put-nothing-reads.Learnt, digit-reads.Asked, digit-reads.Learnt, put-octet-reads.Asked, put-octet-reads.Learnt, quotient-reads.Asked, quotient-reads.Learnt, put-numeral-below t, put-numeral.Post, remainder-reads.Asked, remainder-reads.Learnt) (put-numeral-at t) put-numeral.Post
 put-numeral-returns t c =
     let s = c .before .before .before in
     rw (no-digit (s .args .padded) (s .args .base) (s .args .most) (s .args .n) (c .before .before .if1 .taken)) (c .put-nothing .ensures)
 
-put-numeral-digit-requires : (t : ℕ) → put-numeral-lts.Need-digit-requires (put-nothing-reads.Asked, put-nothing-reads.Learnt, digit-reads.Asked, digit-reads.Learnt, put-octet-reads.Asked, put-octet-reads.Learnt, put-numeral-below t, put-numeral.Post) (put-numeral-at t) put-numeral.Post
+put-numeral-digit-requires : (t : ℕ) → put-numeral-lts.Need-digit-requires (put-nothing-reads.Asked, put-nothing-reads.Learnt, digit-reads.Asked, digit-reads.Learnt, put-octet-reads.Asked, put-octet-reads.Learnt, quotient-reads.Asked, quotient-reads.Learnt, put-numeral-below t, put-numeral.Post, remainder-reads.Asked, remainder-reads.Learnt) (put-numeral-at t) put-numeral.Post
 put-numeral-digit-requires t c κs =
     let s = c .before .before .before in
     omega (arith, last-small (s .args .padded) (s .args .n) (s .args .base) (c .before .if2 .taken), s .pre .1 .1)
 
-put-numeral-returns-2 : (t : ℕ) → put-numeral-lts.Need-returns-2 (put-nothing-reads.Asked, put-nothing-reads.Learnt, digit-reads.Asked, digit-reads.Learnt, put-octet-reads.Asked, put-octet-reads.Learnt, put-numeral-below t, put-numeral.Post) (put-numeral-at t) put-numeral.Post
+put-numeral-returns-2 : (t : ℕ) → put-numeral-lts.Need-returns-2 (put-nothing-reads.Asked, put-nothing-reads.Learnt, digit-reads.Asked, digit-reads.Learnt, put-octet-reads.Asked, put-octet-reads.Learnt, quotient-reads.Asked, quotient-reads.Learnt, put-numeral-below t, put-numeral.Post, remainder-reads.Asked, remainder-reads.Learnt) (put-numeral-at t) put-numeral.Post
 put-numeral-returns-2 t c =
     let s = c .before .before .before .before .before in
     rw (one-digit (s .args .padded) (s .args .base) (s .args .most) (s .args .n) (c .before .before .before .before .if1 .left) (c .before .before .before .if2 .taken), ← c .before .digit .ensures) (c .put-octet .ensures)
 
-put-numeral-div-put-numeral : (t : ℕ) → put-numeral-lts.Need-div-put-numeral (put-nothing-reads.Asked, put-nothing-reads.Learnt, digit-reads.Asked, digit-reads.Learnt, put-octet-reads.Asked, put-octet-reads.Learnt, put-numeral-below t, put-numeral.Post) (put-numeral-at t) put-numeral.Post
-put-numeral-div-put-numeral t c = c .before .before .before .pre .1 .0
+put-numeral-quotient-requires : (t : ℕ) → put-numeral-lts.Need-quotient-requires (put-nothing-reads.Asked, put-nothing-reads.Learnt, digit-reads.Asked, digit-reads.Learnt, put-octet-reads.Asked, put-octet-reads.Learnt, quotient-reads.Asked, quotient-reads.Learnt, put-numeral-below t, put-numeral.Post, remainder-reads.Asked, remainder-reads.Learnt) (put-numeral-at t) put-numeral.Post
+put-numeral-quotient-requires t c κs = c .before .before .before .pre .1 .0
 
-put-numeral-put-numeral-requires : (t : ℕ) → put-numeral-lts.Need-put-numeral-requires (put-nothing-reads.Asked, put-nothing-reads.Learnt, digit-reads.Asked, digit-reads.Learnt, put-octet-reads.Asked, put-octet-reads.Learnt, put-numeral-below t, put-numeral.Post) (put-numeral-at t) put-numeral.Post
+put-numeral-put-numeral-requires : (t : ℕ) → put-numeral-lts.Need-put-numeral-requires (put-nothing-reads.Asked, put-nothing-reads.Learnt, digit-reads.Asked, digit-reads.Learnt, put-octet-reads.Asked, put-octet-reads.Learnt, quotient-reads.Asked, quotient-reads.Learnt, put-numeral-below t, put-numeral.Post, remainder-reads.Asked, remainder-reads.Learnt) (put-numeral-at t) put-numeral.Post
 put-numeral-put-numeral-requires t c κs =
-    let s = c .before .before .before in
-    (omega (arith, s .pre .0, c .before .before .if1 .left), s .pre .1)
+    let s = c .before .before .before .before in
+    (omega (arith, s .pre .0, c .before .before .before .if1 .left), s .pre .1)
 
-put-numeral-rem-digit : (t : ℕ) → put-numeral-lts.Need-rem-digit (put-nothing-reads.Asked, put-nothing-reads.Learnt, digit-reads.Asked, digit-reads.Learnt, put-octet-reads.Asked, put-octet-reads.Learnt, put-numeral-below t, put-numeral.Post) (put-numeral-at t) put-numeral.Post
-put-numeral-rem-digit t c = c .before .before .before .before .before .pre .1 .0
+put-numeral-remainder-requires : (t : ℕ) → put-numeral-lts.Need-remainder-requires (put-nothing-reads.Asked, put-nothing-reads.Learnt, digit-reads.Asked, digit-reads.Learnt, put-octet-reads.Asked, put-octet-reads.Learnt, quotient-reads.Asked, quotient-reads.Learnt, put-numeral-below t, put-numeral.Post, remainder-reads.Asked, remainder-reads.Learnt) (put-numeral-at t) put-numeral.Post
+put-numeral-remainder-requires t c κs = c .before .before .before .before .before .before .pre .1 .0
 
-put-numeral-digit-requires-2 : (t : ℕ) → put-numeral-lts.Need-digit-requires-2 (put-nothing-reads.Asked, put-nothing-reads.Learnt, digit-reads.Asked, digit-reads.Learnt, put-octet-reads.Asked, put-octet-reads.Learnt, put-numeral-below t, put-numeral.Post) (put-numeral-at t) put-numeral.Post
+put-numeral-digit-requires-2 : (t : ℕ) → put-numeral-lts.Need-digit-requires-2 (put-nothing-reads.Asked, put-nothing-reads.Learnt, digit-reads.Asked, digit-reads.Learnt, put-octet-reads.Asked, put-octet-reads.Learnt, quotient-reads.Asked, quotient-reads.Learnt, put-numeral-below t, put-numeral.Post, remainder-reads.Asked, remainder-reads.Learnt) (put-numeral-at t) put-numeral.Post
 put-numeral-digit-requires-2 t c κs =
-    let s = c .before .before .before .before .before in
-    omega (arith, mod-lt (s .args .n) (s .pre .1 .0), s .pre .1 .1)
-
-put-numeral-returns-3 : (t : ℕ) → put-numeral-lts.Need-returns-3 (put-nothing-reads.Asked, put-nothing-reads.Learnt, digit-reads.Asked, digit-reads.Learnt, put-octet-reads.Asked, put-octet-reads.Learnt, put-numeral-below t, put-numeral.Post) (put-numeral-at t) put-numeral.Post
-put-numeral-returns-3 t c =
     let s = c .before .before .before .before .before .before .before in
-    rw (more-digits (s .args .padded) (s .args .base) (s .args .most) (s .args .n) (c .before .before .before .before .before .before .if1 .left) (c .before .before .before .before .before .if2 .left), ← c .before .digit2 .ensures) (then (c .before .before .before .put-numeral .ensures) (c .put-octet2 .ensures))
+    omega (arith, c .remainder .ensures, mod-lt (s .args .n) (s .pre .1 .0), s .pre .1 .1)
+
+put-numeral-returns-3 : (t : ℕ) → put-numeral-lts.Need-returns-3 (put-nothing-reads.Asked, put-nothing-reads.Learnt, digit-reads.Asked, digit-reads.Learnt, put-octet-reads.Asked, put-octet-reads.Learnt, quotient-reads.Asked, quotient-reads.Learnt, put-numeral-below t, put-numeral.Post, remainder-reads.Asked, remainder-reads.Learnt) (put-numeral-at t) put-numeral.Post
+put-numeral-returns-3 t c =
+    let s = c .before .before .before .before .before .before .before .before .before in
+    rw (more-digits (s .args .padded) (s .args .base) (s .args .most) (s .args .n) (c .before .before .before .before .before .before .before .before .if1 .left) (c .before .before .before .before .before .before .before .if2 .left), ← c .before .before .remainder .ensures, ← c .before .digit2 .ensures, ← c .before .before .before .before .before .quotient .ensures) (then (c .before .before .before .before .put-numeral .ensures) (c .put-octet2 .ensures))
 
 pub +put-numeral-spec : {M : Type 1} → statement M
-+put-numeral-spec = close μ-put-numeral λ t. put-numeral-lts.spec (put-nothing-reads.Asked, put-nothing-reads.Learnt, digit-reads.Asked, digit-reads.Learnt, put-octet-reads.Asked, put-octet-reads.Learnt, put-numeral-below t, put-numeral.Post)
++put-numeral-spec = close μ-put-numeral λ t. put-numeral-lts.spec (put-nothing-reads.Asked, put-nothing-reads.Learnt, digit-reads.Asked, digit-reads.Learnt, put-octet-reads.Asked, put-octet-reads.Learnt, quotient-reads.Asked, quotient-reads.Learnt, put-numeral-below t, put-numeral.Post, remainder-reads.Asked, remainder-reads.Learnt)
     (put-numeral-at t)
     put-numeral.Post
     (λ c κs. search needs)
@@ -73,9 +75,9 @@ pub +put-numeral-spec : {M : Type 1} → statement M
     (λ c κs. search needs)
     (put-numeral-returns-2 t)
     (λ c. search needs)
-    (put-numeral-div-put-numeral t)
+    (put-numeral-quotient-requires t)
     (put-numeral-put-numeral-requires t)
-    (put-numeral-rem-digit t)
+    (put-numeral-remainder-requires t)
     (put-numeral-digit-requires-2 t)
     (λ c κs. search needs)
     (put-numeral-returns-3 t)

@@ -7,21 +7,12 @@ use borrow.Author.Needs.{needs}
 use Rattle.text_fields.proofs.readings.natural_reading.Statement.{statement}
 use Rattle.text_fields.proofs.readings.natural_reading.Tie as tie
 
-cast-t4 : tie.Need-cast-t4
-cast-t4 c = search needs
-
 returns : tie.Need-returns
 returns c = rw (eq-eqb (c .before .args .mark) 46 (c .if1 .taken), toZ-pos w64 (c .before .args .n) (omega arith))
-
-mark-of-requires : tie.Need-mark-of-requires
-mark-of-requires c κs = search needs
-
-unless-unsigned-requires : tie.Need-unless-unsigned-requires
-unless-unsigned-requires c κs = search needs
 
 returns-2 : tie.Need-returns-2
 returns-2 c = rw (ne-eqb (c .before .before .before .args .mark) 46 (c .before .before .if1 .left)) (rw (c .before .mark-of .ensures) at (c .unless-unsigned .ensures))
 
 pub natural-reading-spec : {M : Type 1} → statement M
 natural-reading-spec =
-    tie.close (tie.spec cast-t4 returns mark-of-requires unless-unsigned-requires returns-2)
+    tie.close (tie.spec (λ c. search needs) returns (λ c κs. search needs) (λ c κs. search needs) returns-2)
