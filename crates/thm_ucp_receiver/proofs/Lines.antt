@@ -14,15 +14,15 @@ use Rattle.ucp_receiver.specs.Octet.{State, fresh, stateAfter, verdictDue, coun
 use Rattle.thm_ucp_receiver.specs.Line.{Observed, Runs}
 use Rattle.thm_ucp_receiver.specs.Lines.{Handed, handedTo, EveryLine}
 
-abbrev answerOf : Verdict → Answer
-answerOf silent = Nothing
-answerOf (refused number) = Refused number
-answerOf (delivered octets) = Delivered (length octets)
+abbrev answerGiven : Verdict → Answer
+answerGiven silent = Nothing
+answerGiven (refused number) = Refused number
+answerGiven (delivered octets) = Delivered (length octets)
 
-told : (v : Verdict) → receiverAnswer (answerOf v) ≡ answerFor v
-told silent = refl
-told (refused number) = refl
-told (delivered octets) = refl
+answer-same : (v : Verdict) → receiverAnswer (answerGiven v) ≡ answerFor v
+answer-same silent = refl
+answer-same (refused number) = refl
+answer-same (delivered octets) = refl
 
 -- the call that the contract asks for
 abbrev called : State → Counts → Handed → Observed
@@ -31,9 +31,8 @@ called s c h =
       octet = h .octet;
       output = h .output;
       given = record {
-        rest = stateAfter s (h .octet) .rest;
-        counts = countsAfter c s (h .octet) (length (h .output));
-        answer = answerOf (verdictDue s (h .octet) (length (h .output)));
+        receiver = record { rest = stateAfter s (h .octet) .rest; counts = countsAfter c s (h .octet) (length (h .output)) };
+        answer = answerGiven (verdictDue s (h .octet) (length (h .output)));
       };
       storeAfter = stateAfter s (h .octet) .store;
       outputThen = outputAtFlag (verdictDue s (h .octet) (length (h .output))) (h .output);
@@ -43,11 +42,11 @@ abbrev run : State → Counts → List Handed → List Observed
 run s c [] = []
 run s c (h ∷ hs) = called s c h ∷ run (stateAfter s (h .octet)) (countsAfter c s (h .octet) (length (h .output))) hs
 
-runs : (s : State) (c : Counts) (hs : List Handed) → Octets (map (λ (h : Handed). h .octet) hs) → Runs (s .rest) c (s .store) (run s c hs)
+runs : (s : State) (c : Counts) (hs : List Handed) → Octets (map (λ (h : Handed). h .octet) hs) → Runs (record { rest = s .rest; counts = c }) (s .store) (run s c hs)
 runs s c [] o = tt
 runs s c (h ∷ hs) o = (
   o 0,
-  record { state = refl; account = refl; answers = told (verdictDue s (h .octet) (length (h .output))); puts = refl },
+  record { state = refl; account = refl; answers = answer-same (verdictDue s (h .octet) (length (h .output))); puts = refl },
   runs (stateAfter s (h .octet)) (countsAfter c s (h .octet) (length (h .output))) hs (λ i. o (suc i)),
 )
 
