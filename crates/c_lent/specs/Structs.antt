@@ -1,4 +1,5 @@
--- A message as the octets of its C struct: one more layout of a kind's columns, by the ABI's offsets. Assumes nothing.
+-- A message as the octets of its C struct: one more layout of a kind's columns, by the offsets
+-- of the System V ABI for x86-64, numbers little-endian. Assumes nothing.
 use mathlib.Core.Path.{_≡_}
 use mathlib.Core.Bool.{Bool, true, not}
 use mathlib.Core.List.{List, [], _∷_, _++_}

@@ -1,4 +1,4 @@
-// What a reader of one kind answers, and what it leaves in the struct that it is lent: definitions alone.
+// What the calls of one kind answer and leave in what they are lent: definitions, and the numbers that they answer with.
 
 // The refusals' numbers as C has them.
 pub const OUTPUT_LENGTH: u32 = refusals::OUTPUT_LENGTH as u32;

@@ -1,7 +1,7 @@
 // The frame check sequence of GDL90: by a table of 256 entries, and by shifts.
 ghost use mathlib.Core.Path.{_≡_};
 ghost use mathlib.Core.List.{[], _++_};
-ghost use Prim.Native.Nat.{_-_, _%_, _<_, _≤_};
+ghost use Prim.Native.Nat.{_+_, _-_, _%_, _<_, _≤_};
 ghost use lib.ListN.{length, take, drop};
 ghost use Rattle.field_words.specs.Words.{octetsDown};
 ghost use Rattle.crc_gdl90.specs.Check.{frameCheck, IsTable};
@@ -339,7 +339,7 @@ pub fn frame_check_by_shifts(body: &[u8]) -> u16
 
 // How many octets to take first, of so many: one or two, so that an even number is left.
 pub fn head_length(octets: usize) -> usize
-    ensures { λ r. ⌜ (r ≤ 2) × (r ≤ octets) × ((octets - r) % 2 ≡ 0) ⌝ }
+    ensures { λ r. ⌜ (r ≤ 2) × (r ≤ octets) × ((octets - r) % 2 ≡ 0) × (octets ≡ 0 → r ≡ 0) × (0 < octets → r + octets % 2 ≡ 2) ⌝ }
 {
     if octets == 0 { 0 } else { 2 - octets % 2 }
 }

@@ -1,5 +1,5 @@
--- The X.25 check as document 001 computes it ("CRC Code"), line by line: C widens what it computes with, and cuts what it stores.
--- Assumes nothing.
+-- The X.25 check as document 001 computes it ("CRC Code"), line by line: C widens what it computes with, and cuts what it stores. Its
+-- `length` is a uint16_t, which every frame is far below; here a list may have any length. Assumes nothing.
 use mathlib.Core.List.{List, [], _∷_}
 use Prim.Native.Nat.{ℕ, _*_, _/_, _%_, _^_}
 use lib.Bits.{bitAnd, bitXor}

@@ -34,7 +34,7 @@ use Rattle.thm_ucp_receiver.proofs.Promises.{answers, counts, every-octet-count
 use Rattle.thm_ucp_receiver.proofs.Slice.{line-of-slices, slice-is-call}
 use Rattle.thm_ucp_receiver.proofs.Stretch.{stretch-is-answered}
 use Rattle.thm_ucp_receiver.proofs.Frames.{put-out-is-frame, frame-is-put-out, wrong-check-refused}
-use Rattle.demands.specs.Demands.{Demand1, Demand2, Demand3, ReceiverLists}
+use Rattle.demands.specs.Demands.{TableNumbers, Demand1, Demand2, Demand3, ReceiverLists}
 use Rattle.demands.proofs.Refusals.{Tabled, quiet, numbered, whole, tabled}
 
 -- an answer that is the one due is a refusal when that is
@@ -63,9 +63,19 @@ answer-nothing silent output e = refl
 answer-nothing (refused n) output e = let z : _≡_ {A = ℕ} 0 1 = cc in absurd (omega arith)
 answer-nothing (delivered octets) output e = let z : _≡_ {A = ℕ} 0 1 = cc in absurd (omega arith)
 
+table-numbers : TableNumbers
+table-numbers =
+    record {
+      receiver = (refl, refl, refl, refl, refl, refl);
+      writers = (refl, refl);
+      messages = (refl, refl, refl, refl);
+      mavlink = (refl, refl, refl, refl, refl, refl);
+    }
+
 pub demand1 : Demand1
 demand1 =
     record {
+      numbers = table-numbers;
       writerRefuses7 = λ body output after r w. rw (w .answers) (refused-7 body output);
       writerRefuses8 = λ body output after r w. rw (w .answers) (refused-8 body output);
       writerRefuses = λ body output after r number w e.

@@ -2,8 +2,8 @@
 -- definitions that their contracts cite, so it holds of what runs: `WritesFrame` of `ucp_writer::write_frame`, `Receives` of
 -- `ucp_receiver::octet::receive` and `Takes` of `receive_slice`; of the messages `Reads`, `WritesBody` and `Sends` (ucp_messages,
 -- ucp_answers, ucp_send); of MAVLink `readDue` and `writeDue` (mavlink_messages). That every call on every input returns,
--- with no undefined step, is what proving a Rattle function means, and no public function asks anything of its caller. Proved
--- in proofs/Demands.antt. Assumes nothing.
+-- with no undefined step, is what proving a Rattle function means; no call for C or Rust, and none that is named here, asks anything
+-- of its caller. Proved in proofs/Demands.antt. Assumes nothing.
 use mathlib.Core.Path.{_≡_}
 use mathlib.Core.Bool.{true, false}
 use mathlib.Core.List.{List, [], _∷_, _++_, map}
@@ -48,11 +48,23 @@ use Rattle.thm_ucp_receiver.specs.Line.{Observed, callOf, upTo, Line}
 use Rattle.thm_ucp_receiver.specs.Slice.{LineOfSlices, SliceIsCall}
 use Rattle.thm_ucp_receiver.specs.Promises.{AnswersAs, AnswersByHistory, StretchIsAnswered, CountsByHistory, EveryOctetCounted, StoreClean, FlagClears, LaterOnly, PutOutIsFrame, FrameIsPutOut, EndsIn, carrying}
 
+-- The numbers that stand behind the refusals' names are those of document 01's table.
+pub record TableNumbers : Type 0 where
+  pub receiver :
+      (because.badEscape ≡ 1) × (because.escapeBeforeFlag ≡ 2) × (because.tooLong ≡ 3) × (because.tooShort ≡ 4)
+      × (because.wrongCheck ≡ 5) × (because.room ≡ 6)
+  pub writers : (because.bodyLength ≡ 7) × (because.outputLength ≡ 8)
+  pub messages : (because.unknownId ≡ 10) × (because.messageLength ≡ 11) × (because.fixed ≡ 12) × (because.field ≡ 13)
+  pub mavlink :
+      (because.mavlinkShort ≡ 20) × (because.mavlinkStart ≡ 21) × (because.mavlinkUnknownId ≡ 22) × (because.mavlinkLength ≡ 23)
+      × (because.mavlinkWrongCheck ≡ 24) × (because.mavlinkField ≡ 25)
+
 -- Demand 1. Bad input gets a numbered refusal under the conditions of document 01 and no others (the receiver's conditions are
 -- `answersByHistory` of demand 2; each of the readers' is spelled in its room's specs/Refusals.antt), and a refusal changes no
 -- octet of the lent output, whichever writer gives it. At every flag, counts excepted, the store is all zero, the rest of the
 -- record is one fixed value, and what the line answers from there on depends only on later octets, for the same room lent.
 pub record Demand1 : Type 0 where
+  pub numbers : TableNumbers
   pub writerRefuses7 :
       (body output after : List ℕ) (r : Written) → WritesFrame body output r after
       → (writerAnswer r ≡ refused because.bodyLength) ↔ ((length body ≡ 0) ⊎ (longestBody < length body))

@@ -23,7 +23,7 @@ pub record Closed (counts : Counts) (before : List ℕ) (written : Bool) (after 
   pub line : PutsClosing before 0 counts next after
   pub tells : WrittenIfEmpty next written
 
--- how a program closes, by how far the input is input
+-- how a program closes, by how its reading ended
 abbrev pub Ends : Input → Counts → List ℕ → Bool → List ℕ → Type 0
 Ends More counts before written after = (written ≡ false) × (after ≡ before)
 Ends Ended counts before written after = Closed counts before written after

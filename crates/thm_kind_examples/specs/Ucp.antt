@@ -1,5 +1,5 @@
--- Worked examples of the eight kinds of the UCP line (document 01, "Message kinds on the UCP line"): octets and their values, and each
--- edge from both sides. Assumes nothing.
+-- Worked examples of the eight kinds of the UCP line (document 01, "Message kinds on the UCP line"): octets and their values, and both
+-- sides of each range that 01 names. Assumes nothing.
 use mathlib.Core.Path.{_≡_}
 use mathlib.Core.Bool.{Bool, true, false}
 use mathlib.Core.List.{List, [], _∷_}
@@ -45,8 +45,8 @@ heartbeatValue = record { «status_1» = 0x81; «status_2» = 0x41; «time_stamp
 abbrev pub uplinkOf : ℕ → List ℕ
 uplinkOf octets = 7 ∷ replicate octets 0
 
--- ---- 10 and 20: the traffic report that the GDL90 public ICD works out, and an ownship report with every field at an edge: altitude
--- FFF, rate 800, latitude the least and longitude the greatest. Octet 13 has the NIC first
+-- ---- 10 and 20: the traffic report that the GDL90 public ICD works out, and an ownship report with altitude FFF, rate 800,
+-- latitude the least and longitude the greatest. Octet 13 has the NIC first
 abbrev pub trafficBody : List ℕ
 trafficBody = 0x14 ∷ 0x00 ∷ 0xAB ∷ 0x45 ∷ 0x49 ∷ 0x1F ∷ 0xEF ∷ 0x15 ∷ 0xA8 ∷ 0x89 ∷ 0x78 ∷ 0x0F ∷ 0x09 ∷ 0xA9 ∷ 0x07 ∷ 0xB0 ∷ 0x01 ∷ 0x20 ∷ 0x01 ∷ 0x4E ∷ 0x38 ∷ 0x32 ∷ 0x35 ∷ 0x56 ∷ 0x20 ∷ 0x20 ∷ 0x20 ∷ 0x00 ∷ []
 
@@ -129,7 +129,7 @@ controlValue =
       identity = letters 0x4E 0x39 0x30 0x31 0x20 0x20 0x20 0x20;
     }
 
--- each bit of octet 2 alone, with an altitude that is not known, squawk 1200 and an identity of spaces
+-- the bits of octet 2 one by one, its two of the air-ground state together, with an altitude that is not known, squawk 1200 and an identity of spaces
 abbrev pub bitsBody : ℕ → List ℕ
 bitsBody bits = 0x2D ∷ 0x01 ∷ bits ∷ 0xFF ∷ 0xFF ∷ 0xFF ∷ 0x7F ∷ 0xB0 ∷ 0x04 ∷ 0x00 ∷ 0x20 ∷ 0x20 ∷ 0x20 ∷ 0x20 ∷ 0x20 ∷ 0x20 ∷ 0x20 ∷ 0x20 ∷ []
 

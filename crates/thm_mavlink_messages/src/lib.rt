@@ -1,5 +1,5 @@
 // What holds of MAVLink's reader and writers together, and worked examples: stated in specs/, proved in proofs/. The functions do
-// nothing: their contracts say that every message that a program holds meets what the theorems ask of it.
+// nothing: their contracts say that every message in range that a program holds meets what the theorems ask of it.
 use mavlink_messages::DataStream;
 use mavlink_messages::Dynamic;
 use mavlink_messages::Message;

@@ -1,4 +1,5 @@
--- The frames of document 01, "Frames to try", that are marked P. Assumes nothing.
+-- The frames of document 01, "Frames to try", that are marked P, as one list; and with them that demand 3's premises are met by some
+-- bodies. Assumes nothing.
 use mathlib.Core.Path.{_≡_}
 use mathlib.Core.List.{List, [], _∷_, _++_}
 use Prim.Native.Nat.{ℕ}
@@ -13,17 +14,17 @@ use Rattle.crc_gdl90_strength.specs.Limits.{FourBitsUnseen}
 use Rattle.crc_gdl90_strength.specs.Premises.{PremisesMet}
 
 -- the answers of a line, those that are given, with 436 octets of room lent to each call
-abbrev pub callsOf : Verdict → List Verdict
-callsOf silent = []
-callsOf (refused number) = refused number ∷ []
-callsOf (delivered body) = delivered body ∷ []
+abbrev pub answersGiven : Verdict → List Verdict
+answersGiven silent = []
+answersGiven (refused number) = refused number ∷ []
+answersGiven (delivered body) = delivered body ∷ []
 
 abbrev pub call : ℕ → Call
 call octet = record { octet = octet; room = 436 }
 
 unfoldable pub answersAfter : List Call → List ℕ → List Verdict
 answersAfter before [] = []
-answersAfter before (x ∷ xs) = callsOf (answer before (call x)) ++ answersAfter (before ++ (call x ∷ [])) xs
+answersAfter before (x ∷ xs) = answersGiven (answer before (call x)) ++ answersAfter (before ++ (call x ∷ [])) xs
 
 abbrev pub answers : List ℕ → List Verdict
 answers line = answersAfter [] line

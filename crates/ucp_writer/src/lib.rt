@@ -1,5 +1,5 @@
 // The frame writer: one call makes a frame of a body.
-pub mod plain;
+mod plain;
 pub mod room;
 
 use output_writing::Written;
