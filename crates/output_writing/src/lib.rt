@@ -2,7 +2,7 @@
 ghost use mathlib.Core.Path.{_≡_};
 ghost use Rattle.output_writing.specs.Writing.{writerAnswer, writtenNumbers};
 
-// A writer's answer. `writerAnswer` of specs/Answers.antt gives the paper's number and values of each case.
+// A writer's answer. `writerAnswer` of specs/Writing.antt gives the paper's number and values of each case.
 pub enum Written {
     // Accepted: how many octets were written.
     Wrote(usize),
