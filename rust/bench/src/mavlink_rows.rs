@@ -1,14 +1,18 @@
-//! The rows of the MAVLink frames.
+//! The rows of the MAVLink frames: every kind read and written through the
+//! caller's structs, by the proved calls and by Rust in the same shape.
 
 use std::hint::black_box;
 
 use compare::generator::Generator;
 use compare::mavlink::{frame_of, Kind};
 use compare::mavlink_sides::our_message;
-use ostrogosz::mavlink::{read_frame, write_frame, Header, Message, LONGEST_FRAME};
+use ostrogosz::mavlink::{
+    DataStream, Dynamic, Header, Message, Static, Status, Traffic, LONGEST_FRAME,
+};
+use ostrogosz::Refusal;
 use second::mavlink as second;
 
-use crate::mavlink;
+use crate::mavlink::{of_201, of_202, of_203, of_246, of_66};
 use crate::table::{Row, Unit};
 use crate::timing::best_times;
 
@@ -25,39 +29,78 @@ const HEADER: Header = Header {
 /// The same for the second program.
 const SECOND_HEADER: [u8; 3] = [HEADER.sequence, HEADER.system, HEADER.component];
 
-/// Prints the rows of the frames.
-pub fn print() {
-    print_rows(Kind::Dynamic);
+/// One side's calls on a kind's struct.
+struct Calls<T> {
+    read: fn(&[u8], &mut Header, &mut T) -> Result<(), Refusal>,
+    write: fn(&T, &Header, &mut [u8]) -> Result<usize, Refusal>,
 }
 
-fn print_rows(kind: Kind) {
+/// Both sides of a kind.
+macro_rules! rows_of {
+    ($kind:ident, $type:ident, $rust:ident) => {
+        print_rows(
+            Kind::$kind,
+            |message| match message {
+                Message::$type(of) => of,
+                other => panic!("{other:?} for another kind"),
+            },
+            &Calls::<$type> {
+                read: |input, header, message| {
+                    message.read_from(header, input).map_err(Refusal::from)
+                },
+                write: |message, header, output| {
+                    message.write_to(header, output).map_err(Refusal::from)
+                },
+            },
+            &Calls {
+                read: $rust::read,
+                write: $rust::write,
+            },
+        )
+    };
+}
+
+/// Prints the rows of the frames.
+pub fn print() {
+    rows_of!(DataStream, DataStream, of_66);
+    rows_of!(Static, Static, of_201);
+    rows_of!(Dynamic, Dynamic, of_202);
+    rows_of!(Status, Status, of_203);
+    rows_of!(Traffic, Traffic, of_246);
+}
+
+fn print_rows<T: Copy + Default + PartialEq>(
+    kind: Kind,
+    field: fn(Message) -> T,
+    ours: &Calls<T>,
+    rust: &Calls<T>,
+) {
     let mut generator = Generator::new(63);
     let theirs: Vec<_> = (0..FRAMES).map(|_| kind.message(&mut generator)).collect();
-    let ours: Vec<_> = theirs.iter().map(our_message).collect();
+    let structs: Vec<T> = theirs.iter().map(|of| field(our_message(of))).collect();
     let frames: Vec<_> = theirs
         .iter()
         .map(|of| frame_of(SECOND_HEADER, of))
         .collect();
-    for (message, frame) in ours.iter().zip(&frames) {
-        assert_same_work(message, frame);
+    for (message, frame) in structs.iter().zip(&frames) {
+        assert_same_work(message, frame, ours);
+        assert_same_work(message, frame, rust);
     }
-    print_row("read", kind, read_times(&frames));
-    print_row("write", kind, write_times(&ours, &theirs));
+    print_row("read", kind, read_times(&frames, ours, rust));
+    print_row("write", kind, write_times(&structs, &theirs, ours, rust));
 }
 
-/// All sides read the message from the frame and write it back.
-fn assert_same_work(message: &Message, frame: &[u8]) {
-    let read = read_frame(frame);
+/// A side reads the message from the frame and writes it back.
+fn assert_same_work<T: Copy + Default + PartialEq>(message: &T, frame: &[u8], calls: &Calls<T>) {
+    let (mut header, mut read) = (Header::default(), T::default());
+    assert_eq!((calls.read)(frame, &mut header, &mut read), Ok(()));
+    assert!(read == *message && header == HEADER);
+    let mut output = [0; LONGEST_FRAME];
     assert_eq!(
-        read.map(|of| (of.message, of.header)),
-        Ok((*message, HEADER))
+        (calls.write)(message, &HEADER, &mut output),
+        Ok(frame.len())
     );
-    assert_eq!(mavlink::read(frame), read);
-    let mut outputs = [[0; LONGEST_FRAME]; 2];
-    let written = write_frame(message, HEADER, &mut outputs[0]);
-    assert_eq!(written, Ok(frame.len()));
-    assert_eq!(mavlink::write(message, HEADER, &mut outputs[1]), written);
-    assert!(outputs.iter().all(|output| output.starts_with(frame)));
+    assert!(output.starts_with(frame));
 }
 
 fn print_row(verb: &str, kind: Kind, times: [f64; 3]) {
@@ -72,27 +115,30 @@ fn print_row(verb: &str, kind: Kind, times: [f64; 3]) {
     .print();
 }
 
-fn read_times(frames: &[Vec<u8>]) -> [f64; 3] {
+fn read_times<T: Default>(frames: &[Vec<u8>], ours: &Calls<T>, rust: &Calls<T>) -> [f64; 3] {
     best_times([
-        &mut reader(frames, |frame| {
-            read_frame(frame).map_or(0, |of| value(&of.message))
-        }),
-        &mut reader(frames, |frame| {
-            mavlink::read(frame).map_or(0, |of| value(&of.message))
-        }),
-        &mut reader(frames, |frame| {
-            second::read(frame).map_or(0, |of| second_value(&of.message))
-        }),
+        &mut reader(frames, ours.read),
+        &mut reader(frames, rust.read),
+        &mut || {
+            for frame in frames {
+                let _ = black_box(second::read(black_box(frame)));
+            }
+        },
     ])
 }
 
-fn write_times(ours: &[Message], theirs: &[second::Message]) -> [f64; 3] {
+fn write_times<T>(
+    structs: &[T],
+    theirs: &[second::Message],
+    ours: &Calls<T>,
+    rust: &Calls<T>,
+) -> [f64; 3] {
     best_times([
-        &mut writer(ours, |message, output| {
-            write_frame(message, HEADER, output).unwrap_or(0)
+        &mut writer(structs, |message, output| {
+            (ours.write)(message, black_box(&HEADER), output).unwrap_or(0)
         }),
-        &mut writer(ours, |message, output| {
-            mavlink::write(message, HEADER, output).unwrap_or(0)
+        &mut writer(structs, |message, output| {
+            (rust.write)(message, black_box(&HEADER), output).unwrap_or(0)
         }),
         &mut writer(theirs, |message, output| {
             let [sequence, system, component] = SECOND_HEADER;
@@ -101,11 +147,20 @@ fn write_times(ours: &[Message], theirs: &[second::Message]) -> [f64; 3] {
     ])
 }
 
-/// Reads every frame once.
-fn reader<'a>(frames: &'a [Vec<u8>], read: impl Fn(&[u8]) -> i32 + 'a) -> impl FnMut() + 'a {
+/// Reads every frame once, into one struct.
+fn reader<'a, T: Default + 'a>(
+    frames: &'a [Vec<u8>],
+    read: fn(&[u8], &mut Header, &mut T) -> Result<(), Refusal>,
+) -> impl FnMut() + 'a {
+    let (mut header, mut message) = (Header::default(), T::default());
     move || {
-        let values = frames.iter().map(|frame| read(black_box(frame)));
-        black_box(values.fold(0, i32::wrapping_add));
+        for frame in frames {
+            let _ = black_box(read(
+                black_box(frame),
+                black_box(&mut header),
+                black_box(&mut message),
+            ));
+        }
     }
 }
 
@@ -120,22 +175,5 @@ fn writer<'a, M>(
             .iter()
             .map(|message| write(black_box(message), black_box(&mut output)));
         black_box(lengths.sum::<usize>());
-    }
-}
-
-/// Looks at a message as a caller would; a black box around it would have it
-/// copied once more.
-fn value(message: &Message) -> i32 {
-    match message {
-        Message::Dynamic(dynamic) => dynamic.latitude ^ dynamic.longitude,
-        _ => 0,
-    }
-}
-
-/// The same look at a message of the second program.
-fn second_value(message: &second::Message) -> i32 {
-    match message {
-        second::Message::Dynamic(dynamic) => dynamic.latitude ^ dynamic.longitude,
-        _ => 0,
     }
 }

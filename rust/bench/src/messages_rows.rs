@@ -1,127 +1,246 @@
-//! The rows of the messages.
+//! The rows of the messages: every kind read, written and sent through the
+//! caller's struct, by the proved calls and by Rust in the same shape.
 
 use std::hint::black_box;
 
 use compare::both_sides::our_message;
 use compare::generator::Generator;
 use compare::messages::{body_of, Kind};
-use ostrogosz::messages::{read_message, write_message, Message};
-use ostrogosz::LONGEST_BODY;
+use ostrogosz::messages::{
+    write_message, Control, GeometricAltitude, Heartbeat, Initialization, Message, Report, Request,
+};
+use ostrogosz::{Refusal, LONGEST_BODY, LONGEST_FRAME};
 use second::messages as second;
 
-use crate::messages;
+use crate::messages::{self, of_0, of_10, of_11, of_117, of_20, of_44, of_45};
 use crate::table::{Row, Unit};
 use crate::timing::best_times;
 
 /// Messages in turn, so that no branch predictor learns one by heart.
 const MESSAGES: usize = 64;
 
-/// Prints the rows of the messages.
-pub fn print() {
-    for kind in [Kind::Ownship, Kind::Control] {
-        print_rows(kind);
-    }
+/// One side's calls on a kind's struct.
+struct Calls<T> {
+    read: fn(&[u8], &mut T) -> Result<(), Refusal>,
+    write: fn(&T, &mut [u8]) -> Result<usize, Refusal>,
+    send: fn(&T, &mut [u8; LONGEST_FRAME]) -> Result<usize, Refusal>,
 }
 
-fn print_rows(kind: Kind) {
+/// Both sides of a kind.
+macro_rules! rows_of {
+    ($kind:ident, $message:ident, $type:ident, $rust:ident, $read:ident, $write:ident, $send:ident) => {
+        print_rows(
+            Kind::$kind,
+            |message| match message {
+                Message::$message(of) => of,
+                other => panic!("{other:?} for another kind"),
+            },
+            &Calls::<$type> {
+                read: |body, message| message.$read(body).map_err(Refusal::from),
+                write: |message, output| message.$write(output).map_err(Refusal::from),
+                send: |message, buffer| message.$send(buffer).map_err(Refusal::from),
+            },
+            &Calls {
+                read: $rust::read,
+                write: $rust::write,
+                send: $rust::send,
+            },
+        )
+    };
+}
+
+/// Prints the rows of the messages.
+pub fn print() {
+    rows_of!(Heartbeat, Heartbeat, Heartbeat, of_0, read_from, write_to, send_to);
+    rows_of!(
+        Ownship,
+        Ownship,
+        Report,
+        of_10,
+        read_ownship_from,
+        write_ownship_to,
+        send_ownship_to
+    );
+    rows_of!(
+        GeometricAltitude,
+        GeometricAltitude,
+        GeometricAltitude,
+        of_11,
+        read_from,
+        write_to,
+        send_to
+    );
+    rows_of!(
+        Traffic,
+        Traffic,
+        Report,
+        of_20,
+        read_traffic_from,
+        write_traffic_to,
+        send_traffic_to
+    );
+    rows_of!(Request, Request, Request, of_44, read_from, write_to, send_to);
+    rows_of!(Control, Control, Control, of_45, read_from, write_to, send_to);
+    rows_of!(
+        Initialization,
+        Initialization,
+        Initialization,
+        of_117,
+        read_from,
+        write_to,
+        send_to
+    );
+    print_uplink();
+}
+
+fn print_rows<T: Copy + Default + PartialEq>(
+    kind: Kind,
+    field: fn(Message<'_>) -> T,
+    ours: &Calls<T>,
+    rust: &Calls<T>,
+) {
     let mut generator = Generator::new(33);
     let theirs: Vec<_> = (0..MESSAGES)
         .map(|_| kind.message(&mut generator))
         .collect();
-    let ours: Vec<_> = theirs.iter().map(our_message).collect();
+    let structs: Vec<T> = theirs.iter().map(|of| field(our_message(of))).collect();
     let bodies: Vec<_> = theirs.iter().map(body_of).collect();
-    for (message, body) in ours.iter().zip(&bodies) {
-        assert_same_work(message, body);
+    for (message, body) in structs.iter().zip(&bodies) {
+        assert_same_work(message, body, ours, rust);
     }
-    print_row("read", kind, read_times(&bodies));
-    print_row("write", kind, write_times(&ours, &theirs));
+    print_row("read", kind, read_times(&bodies, ours, rust));
+    print_row("write", kind, write_times(&structs, &theirs, ours, rust));
+    print_row("send", kind, send_times(&structs, ours, rust));
 }
 
-/// All sides read the message from the body and write it back.
-fn assert_same_work(message: &Message<'_>, body: &[u8]) {
-    assert_eq!(read_message(body), Ok(*message));
-    assert_eq!(messages::read(body), Ok(*message));
-    let mut outputs = [[0; LONGEST_BODY]; 2];
-    assert_eq!(write_message(message, &mut outputs[0]), Ok(body.len()));
-    assert_eq!(messages::write(message, &mut outputs[1]), Ok(body.len()));
-    assert!(outputs.iter().all(|output| output.starts_with(body)));
+/// Both sides read the message from the body, write it back and send it.
+fn assert_same_work<T: Copy + Default + PartialEq>(
+    message: &T,
+    body: &[u8],
+    ours: &Calls<T>,
+    rust: &Calls<T>,
+) {
+    let mut frames = [[0; LONGEST_FRAME]; 2];
+    for (calls, frame) in [ours, rust].into_iter().zip(&mut frames) {
+        let mut read = T::default();
+        assert_eq!((calls.read)(body, &mut read), Ok(()));
+        assert!(read == *message);
+        let mut output = [0; LONGEST_BODY];
+        assert_eq!((calls.write)(message, &mut output), Ok(body.len()));
+        assert!(output.starts_with(body));
+        assert!((calls.send)(message, frame).is_ok());
+    }
+    assert_eq!(frames[0], frames[1]);
 }
 
-fn print_row(verb: &str, kind: Kind, times: [f64; 3]) {
-    let [ours, rust, second] = times.map(|turn| turn / MESSAGES as f64);
+fn print_row(verb: &str, kind: Kind, times: [Option<f64>; 3]) {
+    let [ours, rust, second] = times.map(|turn| turn.map(|time| time / MESSAGES as f64));
     Row {
         work: format!("{verb} message {}", kind.name()),
         unit: Unit::Nanoseconds,
-        ours,
-        rust,
-        second: Some(second),
+        ours: ours.expect("ours is timed"),
+        rust: rust.expect("Rust is timed"),
+        second,
     }
     .print();
 }
 
-fn read_times(bodies: &[Vec<u8>]) -> [f64; 3] {
+fn read_times<T: Default>(
+    bodies: &[Vec<u8>],
+    ours: &Calls<T>,
+    rust: &Calls<T>,
+) -> [Option<f64>; 3] {
     best_times([
-        &mut reader(bodies, |body| read_message(body).map_or(0, |of| value(&of))),
-        &mut reader(bodies, |body| {
-            messages::read(body).map_or(0, |of| value(&of))
-        }),
-        &mut reader(bodies, |body| {
-            second::read(body).map_or(0, |of| second_value(&of))
-        }),
+        &mut reader(bodies, ours.read),
+        &mut reader(bodies, rust.read),
+        &mut || {
+            for body in bodies {
+                let _ = black_box(second::read(black_box(body)));
+            }
+        },
     ])
+    .map(Some)
 }
 
-fn write_times(ours: &[Message<'_>], theirs: &[second::Message]) -> [f64; 3] {
+fn write_times<T>(
+    structs: &[T],
+    theirs: &[second::Message],
+    ours: &Calls<T>,
+    rust: &Calls<T>,
+) -> [Option<f64>; 3] {
     best_times([
-        &mut writer(ours, |message, output| {
-            write_message(message, output).unwrap_or(0)
-        }),
-        &mut writer(ours, |message, output| {
-            messages::write(message, output).unwrap_or(0)
-        }),
+        &mut writer(structs, ours.write),
+        &mut writer(structs, rust.write),
         &mut writer(theirs, |message, output| {
-            second::write(message, output).unwrap_or(0)
+            second::write(message, output).map_err(|_| Refusal::Field)
         }),
     ])
+    .map(Some)
 }
 
-/// Reads every body once.
-fn reader<'a>(bodies: &'a [Vec<u8>], read: impl Fn(&[u8]) -> i32 + 'a) -> impl FnMut() + 'a {
+fn send_times<T>(structs: &[T], ours: &Calls<T>, rust: &Calls<T>) -> [Option<f64>; 3] {
+    let [ours, rust] = best_times([
+        &mut sender(structs, ours.send),
+        &mut sender(structs, rust.send),
+    ]);
+    [Some(ours), Some(rust), None]
+}
+
+/// Reads every body once, into one struct.
+fn reader<'a, T: Default + 'a>(
+    bodies: &'a [Vec<u8>],
+    read: fn(&[u8], &mut T) -> Result<(), Refusal>,
+) -> impl FnMut() + 'a {
+    let mut message = T::default();
     move || {
-        let values = bodies.iter().map(|body| read(black_box(body)));
-        black_box(values.fold(0, i32::wrapping_add));
+        for body in bodies {
+            let _ = black_box(read(black_box(body), black_box(&mut message)));
+        }
     }
 }
 
 /// Writes every message once, each contender into an output of its own.
 fn writer<'a, M>(
     messages: &'a [M],
-    write: impl Fn(&M, &mut [u8]) -> usize + 'a,
+    write: impl Fn(&M, &mut [u8]) -> Result<usize, Refusal> + 'a,
 ) -> impl FnMut() + 'a {
     let mut output = [0; LONGEST_BODY];
     move || {
-        let lengths = messages
-            .iter()
-            .map(|message| write(black_box(message), black_box(&mut output)));
-        black_box(lengths.sum::<usize>());
+        for message in messages {
+            let _ = black_box(write(black_box(message), black_box(&mut output)));
+        }
     }
 }
 
-/// Looks at a message as a caller would; a black box around it would have it
-/// copied once more.
-fn value(message: &Message<'_>) -> i32 {
-    match message {
-        Message::Ownship(report) => report.latitude ^ report.longitude,
-        Message::Control(control) => control.altitude ^ i32::from(control.squawk),
-        _ => 0,
+/// Sends every message once, each contender in a buffer of its own.
+fn sender<'a, M>(
+    messages: &'a [M],
+    send: impl Fn(&M, &mut [u8; LONGEST_FRAME]) -> Result<usize, Refusal> + 'a,
+) -> impl FnMut() + 'a {
+    let mut buffer = [0; LONGEST_FRAME];
+    move || {
+        for message in messages {
+            let _ = black_box(send(black_box(message), black_box(&mut buffer)));
+        }
     }
 }
 
-/// The same look at a message of the second program.
-fn second_value(message: &second::Message) -> i32 {
-    match message {
-        second::Message::Ownship(report) => report.latitude ^ report.longitude,
-        second::Message::Control(control) => control.pressure_altitude ^ i32::from(control.squawk),
-        _ => 0,
-    }
+/// An uplink has no struct: its payload is written and sent.
+fn print_uplink() {
+    let mut generator = Generator::new(34);
+    let theirs: Vec<_> = (0..MESSAGES)
+        .map(|_| Kind::Uplink.message(&mut generator))
+        .collect();
+    let ours: Vec<_> = theirs.iter().map(our_message).collect();
+    let times = best_times([
+        &mut writer(&ours, |message, output| {
+            write_message(message, output).map_err(Refusal::from)
+        }),
+        &mut writer(&ours, |message, output| messages::write(message, output)),
+    ]);
+    print_row(
+        "write",
+        Kind::Uplink,
+        [Some(times[0]), Some(times[1]), None],
+    );
 }
