@@ -1,12 +1,12 @@
 -- `c_ucp_meanings::ostrogosz_altitude_in_feet` meets its contract, case by case. Assumes nothing.
 use mathlib.Core.Path.{_∙_, ap}
-use Rattle.c_ucp_meanings.specs.Measures.{inFeet}
+use Rattle.c_ucp_meanings.specs.Measures.{measureOf}
 use borrow.Author.Needs.{needs}
 use Rattle.c_ucp_meanings.proofs.ostrogosz_altitude_in_feet.Statement.{statement}
 use Rattle.c_ucp_meanings.proofs.ostrogosz_altitude_in_feet.Tie as tie
 
 returns : tie.Need-returns
-returns c = c .feet .ensures ∙ ap inFeet (c .before .altitude-in-feet .ensures)
+returns c = c .feet .ensures ∙ ap measureOf (c .before .altitude-in-feet .ensures)
 
 pub ostrogosz-altitude-in-feet-spec : {M : Type 1} → statement M
 ostrogosz-altitude-in-feet-spec = tie.close (tie.spec (λ c κs. search needs) (λ c κs. search needs) returns)

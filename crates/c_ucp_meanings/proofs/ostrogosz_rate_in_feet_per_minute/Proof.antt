@@ -3,7 +3,7 @@ use mathlib.Core.Path.{_∙_, ap}
 use mir.Syntax.{w16}
 use mir.ValLaws.{toZ-ofZ}
 use Rattle.ucp_meanings.specs.Meanings.{rateMeans}
-use Rattle.c_ucp_meanings.specs.Measures.{inFeetPerMinute}
+use Rattle.c_ucp_meanings.specs.Measures.{measureOf}
 use borrow.Author.Needs.{needs}
 use Rattle.c_ucp_meanings.proofs.ostrogosz_rate_in_feet_per_minute.Statement.{
   statement,
@@ -14,7 +14,7 @@ returns : tie.Need-returns
 returns c =
     let z = c .before .before .args .vertical-rate in
     c .feet-per-minute .ensures
-    ∙ ap inFeetPerMinute (c .before .rate-in-feet-per-minute .ensures ∙ ap rateMeans (toZ-ofZ w16 z (c .before .before .fits .vertical-rate)))
+    ∙ ap measureOf (c .before .rate-in-feet-per-minute .ensures ∙ ap rateMeans (toZ-ofZ w16 z (c .before .before .fits .vertical-rate)))
 
 pub ostrogosz-rate-in-feet-per-minute-spec : {M : Type 1} → statement M
 ostrogosz-rate-in-feet-per-minute-spec = tie.close (tie.spec (λ c κs. search needs) (λ c κs. search needs) returns)
