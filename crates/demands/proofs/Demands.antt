@@ -34,6 +34,9 @@ use Rattle.thm_ucp_receiver.proofs.Promises.{answers, counts, every-octet-count
 use Rattle.thm_ucp_receiver.proofs.Slice.{line-of-slices, slice-is-call}
 use Rattle.thm_ucp_receiver.proofs.Stretch.{stretch-is-answered}
 use Rattle.thm_ucp_receiver.proofs.Frames.{put-out-is-frame, frame-is-put-out, wrong-check-refused}
+use Rattle.thm_c_ucp.proofs.Receiver.{linked-lines, linked-answers, linked-counts, linked-receiver-lists}
+use Rattle.thm_c_ucp.proofs.Slices.{linked-slice-lines}
+use Rattle.thm_c_ucp.proofs.Writer.{linked-writer, linked-writer-lists}
 use Rattle.demands.specs.Demands.{TableNumbers, Demand1, Demand2, Demand3, ReceiverLists}
 use Rattle.demands.proofs.Refusals.{Tabled, quiet, numbered, whole, tabled}
 
@@ -104,6 +107,9 @@ demand1 =
       flagClears = flag-clears;
       storeClean = store-clean;
       laterOnly = later-only;
+      linkedReceiverIsLine = linked-lines;
+      linkedSlicesAreLine = linked-slice-lines;
+      linkedWriterIsWriter = linked-writer;
     }
 
 pub demand2 : Demand2
@@ -122,6 +128,8 @@ demand2 =
       everyOctetCounted = every-octet-counted;
       slicesAreCalls = line-of-slices;
       sliceEndsAsCall = slice-is-call;
+      linkedAnswersByHistory = linked-answers;
+      linkedCountsByHistory = linked-counts;
       messageReadsBack = message-read.written-reads-back;
       messageWritesBack = message-write.accepted-writes-back;
       uplinkReadsBack = message-read.uplink-reads-back;
@@ -138,4 +146,11 @@ receiver-lists calls l = (
 )
 
 pub demand3 : Demand3
-demand3 = record { check = strength; receiver = receiver-lists; writer = writer-lists }
+demand3 =
+    record {
+      check = strength;
+      receiver = receiver-lists;
+      writer = writer-lists;
+      linkedReceiver = linked-receiver-lists;
+      linkedWriter = linked-writer-lists;
+    }
