@@ -35,7 +35,7 @@ use Rattle.thm_ucp_receiver.proofs.Slice.{line-of-slices, slice-is-call}
 use Rattle.thm_ucp_receiver.proofs.Stretch.{stretch-is-answered}
 use Rattle.thm_ucp_receiver.proofs.Frames.{put-out-is-frame, frame-is-put-out, wrong-check-refused}
 use Rattle.thm_c_ucp.proofs.Receiver.{linked-lines, linked-answers, linked-counts, linked-receiver-lists}
-use Rattle.thm_c_ucp.proofs.Slices.{linked-slice-lines}
+use Rattle.thm_c_ucp.proofs.Slices.{linked-slice-lines, linked-slice-is-call}
 use Rattle.thm_c_ucp.proofs.Writer.{linked-writer, linked-writer-lists}
 use Rattle.demands.specs.Demands.{TableNumbers, Demand1, Demand2, Demand3, ReceiverLists}
 use Rattle.demands.proofs.Refusals.{Tabled, quiet, numbered, whole, tabled}
@@ -130,6 +130,7 @@ demand2 =
       sliceEndsAsCall = slice-is-call;
       linkedAnswersByHistory = linked-answers;
       linkedCountsByHistory = linked-counts;
+      linkedSliceEndsAsCall = linked-slice-is-call;
       messageReadsBack = message-read.written-reads-back;
       messageWritesBack = message-write.accepted-writes-back;
       uplinkReadsBack = message-read.uplink-reads-back;

@@ -3,7 +3,6 @@ use mathlib.Core.Path.{_≡_, refl, sym, ap, subst, _∙_}
 use mathlib.Core.List.{List, [], _∷_, _++_, map, map-append}
 use Prim.Native.Nat.{ℕ}
 use native.Mathlib.Omega.{arith}
-use lib.ListN.{length}
 use Rattle.refusals.specs.Numbers as because
 use Rattle.ucp_frame.specs.Stretch.{Verdict, silent, refused, delivered}
 use Rattle.ucp_history.specs.History.{Call, answer}
@@ -13,13 +12,13 @@ use Rattle.ucp_receiver.specs.declared.Record.{Record}
 use Rattle.ucp_receiver.specs.Answers.{ReceiverAnswer, nothing, refusal, body, receiverAnswer, answerFor}
 use Rattle.ucp_receiver.specs.Octet.{freshRecord, noOctets, Receives}
 use Rattle.crc_gdl90_strength.proofs.Caught.{strength}
-use Rattle.c_ucp_receiver.specs.Numbers.{recordIn, recordNumbers, answerIn, answerKind, answerValue, OwnNumbers, StartsNumbers}
+use Rattle.c_ucp_receiver.specs.Numbers.{recordIn, recordNumbers, answerIn, answerKind, answerValue, OwnNumbers}
 use Rattle.c_ucp_receiver.proofs.Numbers.{record-back, receives}
 use Rattle.thm_ucp_receiver.specs.Line.{Observed, callOf, Runs, Line}
 use Rattle.thm_ucp_receiver.specs.Promises.{AnswersAs, CountsAs, EndsIn, carrying}
 use Rattle.thm_ucp_receiver.proofs.Promises.{answers, counts}
 use Rattle.thm_ucp_receiver.proofs.Frames.{wrong-check-refused}
-use Rattle.thm_c_ucp.specs.Receiver.{LinkedCall, MeetsLinked, LinkedRuns, LinkedLine, inNumbers, IsLine, LinkedLines, linkedCallOf, linkedUpTo, kindDue, valueDue, LinkedAnswersAs, LinkedAnswersByHistory, LinkedCountsByHistory, LinkedReceiverLists}
+use Rattle.thm_c_ucp.specs.Receiver.{LinkedCall, LinkedRuns, LinkedLine, inNumbers, LinkedLines, linkedCallOf, kindDue, valueDue, LinkedAnswersAs, LinkedAnswersByHistory, LinkedCountsByHistory, LinkedReceiverLists}
 
 -- ---- the calls that the numbers stand for
 
@@ -70,8 +69,8 @@ numbered receiver store line (o ∷ os) e r = (
   (
     r .0,
     receives (recordNumbers (o .given .receiver)) (answerKind (o .given .answer)) (answerValue (o .given .answer)) (o .given .receiver)
-    (o .given .answer) refl refl refl line store (o .octet) (o .output) (o .storeAfter) (o .outputThen)
-    (subst (λ (k : Record). Receives k store (o .octet) (o .output) (o .given) (o .storeAfter) (o .outputThen)) (sym e) (r .1)),
+        (o .given .answer) refl refl refl line store (o .octet) (o .output) (o .storeAfter) (o .outputThen)
+        (subst (λ (k : Record). Receives k store (o .octet) (o .output) (o .given) (o .storeAfter) (o .outputThen)) (sym e) (r .1)),
   ),
   numbered (o .given .receiver) (o .storeAfter) (recordNumbers (o .given .receiver)) os (record-back (o .given .receiver)) (r .2),
 )
@@ -105,44 +104,39 @@ history : (cs : List LinkedCall) → map callOf (map observedIn cs) ≡ map link
 history [] = refl
 history (c ∷ cs) = ap (λ (h : List Call). linkedCallOf c ∷ h) (history cs)
 
--- the numbers of an answer that says what is due
-told : (a : Answer) (v : Verdict) → receiverAnswer a ≡ answerFor v → (answerKind a ≡ kindDue v) × (answerValue a ≡ valueDue v)
-told a v e = (by-kind a ∙ ap kindTold e ∙ due-kind v, by-value a ∙ ap valueTold e ∙ due-value v)
-  where
-    kindTold : ReceiverAnswer → ℕ
-    kindTold nothing = 0
-    kindTold (body octets) = 1
-    kindTold (refusal number) = 2
+-- the numbers of an answer that says this
+abbrev kindTold : ReceiverAnswer → ℕ
+kindTold nothing = 0
+kindTold (body octets) = 1
+kindTold (refusal number) = 2
 
-    valueTold : ReceiverAnswer → ℕ
-    valueTold nothing = 0
-    valueTold (body octets) = octets
-    valueTold (refusal number) = number
+abbrev valueTold : ReceiverAnswer → ℕ
+valueTold nothing = 0
+valueTold (body octets) = octets
+valueTold (refusal number) = number
 
-    by-kind : (b : Answer) → answerKind b ≡ kindTold (receiverAnswer b)
-    by-kind Nothing = refl
-    by-kind (Delivered octets) = refl
-    by-kind (Refused number) = refl
+told : (a : Answer) → (answerKind a ≡ kindTold (receiverAnswer a)) × (answerValue a ≡ valueTold (receiverAnswer a))
+told Nothing = (refl, refl)
+told (Delivered octets) = (refl, refl)
+told (Refused number) = (refl, refl)
 
-    by-value : (b : Answer) → answerValue b ≡ valueTold (receiverAnswer b)
-    by-value Nothing = refl
-    by-value (Delivered octets) = refl
-    by-value (Refused number) = refl
+told-due : (v : Verdict) → (kindTold (answerFor v) ≡ kindDue v) × (valueTold (answerFor v) ≡ valueDue v)
+told-due silent = (refl, refl)
+told-due (delivered octets) = (refl, refl)
+told-due (refused number) = (refl, refl)
 
-    due-kind : (w : Verdict) → kindTold (answerFor w) ≡ kindDue w
-    due-kind silent = refl
-    due-kind (delivered octets) = refl
-    due-kind (refused number) = refl
-
-    due-value : (w : Verdict) → valueTold (answerFor w) ≡ valueDue w
-    due-value silent = refl
-    due-value (delivered octets) = refl
-    due-value (refused number) = refl
+pub answer-numbers : (a b : Answer) → receiverAnswer a ≡ receiverAnswer b → (answerKind a ≡ answerKind b) × (answerValue a ≡ answerValue b)
+answer-numbers a b e =
+    (told a .0 ∙ ap kindTold e ∙ sym (told b .0), told a .1 ∙ ap valueTold e ∙ sym (told b .1))
 
 linked-as : (c : LinkedCall) (v : Verdict) → OwnNumbers (c .lineAfter) (c .kind) (c .value) → AnswersAs v (observedIn c) → LinkedAnswersAs v c
 linked-as c v own a =
-    let t = told (answerIn (c .kind) (c .value)) v (a .tells) in
-    record { kind = own .kind ∙ t .0; value = own .value ∙ t .1; puts = a .puts }
+    let t = told (answerIn (c .kind) (c .value)) in
+    record {
+      kind = own .kind ∙ t .0 ∙ ap kindTold (a .tells) ∙ told-due v .0;
+      value = own .value ∙ t .1 ∙ ap valueTold (a .tells) ∙ told-due v .1;
+      puts = a .puts;
+    }
 
 pub linked-answers : LinkedAnswersByHistory
 linked-answers before after c l =

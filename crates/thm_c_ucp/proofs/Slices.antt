@@ -1,6 +1,6 @@
 -- A line of linked calls, by the octet and by the slice, is a line driven by slices in numbers. Assumes nothing.
-use mathlib.Core.Path.{_≡_, refl, sym, ap, subst, _∙_}
-use mathlib.Core.List.{List, [], _∷_, map}
+use mathlib.Core.Path.{_≡_, refl, sym, ap, ap₂, subst, _∙_}
+use mathlib.Core.List.{List, [], _∷_, _++_, map, map-append}
 use Prim.Native.Nat.{ℕ, zero, suc, _<_}
 use native.Mathlib.Omega.{arith}
 use lib.ListN.{length}
@@ -11,11 +11,15 @@ use Rattle.ucp_receiver.specs.declared.Received.{Received}
 use Rattle.ucp_receiver.specs.declared.Record.{Record}
 use Rattle.ucp_receiver.specs.Answers.{answerFor, outputAtFlag}
 use Rattle.ucp_receiver.specs.Octet.{State, stateAfter, verdictDue, countsAfter, freshRecord, noOctets, Receives}
-use Rattle.ucp_receiver.specs.Slice.{SliceRun, sliceRun, endAt, later, Takes}
+use Rattle.ucp_receiver.specs.Slice.{SliceRun, sliceRun, endAt, Takes}
 use Rattle.c_ucp_receiver.specs.Numbers.{recordIn, recordNumbers, answerIn, answerKind, answerValue, OwnNumbers}
 use Rattle.c_ucp_receiver.proofs.Numbers.{record-back, takes}
-use Rattle.thm_ucp_receiver.specs.Slice.{ObservedSlice, SlicesRun, SliceLine}
-use Rattle.thm_c_ucp.specs.Slices.{LinkedSlice, LinkedTake, byOctet, bySlice, LinkedTakes, LinkedSliceLine, sliceInNumbers, asSlice, IsSliceLine, LinkedSliceLines}
+use Rattle.thm_ucp_receiver.specs.Line.{Observed}
+use Rattle.thm_ucp_receiver.specs.Slice.{ObservedSlice, SlicesRun, SliceLine, gathered, sliceOctets, roomsOf, EndsAsSlice}
+use Rattle.thm_ucp_receiver.proofs.Slice.{slice-is-call}
+use Rattle.thm_c_ucp.specs.Receiver.{LinkedCall, LinkedLine, inNumbers}
+use Rattle.thm_c_ucp.specs.Slices.{LinkedSlice, LinkedTake, byOctet, bySlice, LinkedTakes, LinkedSliceLine, sliceInNumbers, asSlice, LinkedSliceLines, linkedTaken, linkedRooms, LinkedSliceIsCall}
+use Rattle.thm_c_ucp.proofs.Receiver.{linked-lines, answer-numbers}
 
 -- ---- an octet is a slice of one
 
@@ -70,7 +74,7 @@ takes-in store line (byOctet c ∷ ts) r = (
   (
     one-small (c .octet) (r .0 .0),
     octet-taken (recordIn line) store (c .octet) (c .output)
-    (record { receiver = recordIn (c .lineAfter); answer = answerIn (c .kind) (c .value) }) (c .storeAfter) (c .outputThen) (r .0 .1 .received),
+        (record { receiver = recordIn (c .lineAfter); answer = answerIn (c .kind) (c .value) }) (c .storeAfter) (c .outputThen) (r .0 .1 .received),
   ),
   takes-in (c .storeAfter) (c .lineAfter) ts (r .1),
 )
@@ -98,16 +102,11 @@ same-slices store line (byOctet c ∷ ts) r =
 same-slices store line (bySlice s ∷ ts) r =
     λ i. slice-back s (r .0 .1 .written) i ∷ same-slices (s .storeAfter) (s .lineAfter) ts (r .1) i
 
-is-slice-line : (ts : List LinkedTake) → LinkedSliceLine ts → IsSliceLine ts
-is-slice-line ts l =
-    record {
-      slices = map takeIn ts;
-      line =
-          subst (λ (store : List ℕ). SlicesRun freshRecord store (map takeIn ts)) (l .starts .0)
-          (subst (λ (receiver : Record). SlicesRun receiver (l .store) (map takeIn ts)) (ap recordIn (l .starts .1))
-          (takes-in (l .store) (l .line) ts (l .takes)));
-      same = same-slices (l .store) (l .line) ts (l .takes);
-    }
+slice-line-in : (ts : List LinkedTake) → LinkedSliceLine ts → SliceLine (map takeIn ts)
+slice-line-in ts l =
+    subst (λ (store : List ℕ). SlicesRun freshRecord store (map takeIn ts)) (l .starts .0)
+    (subst (λ (receiver : Record). SlicesRun receiver (l .store) (map takeIn ts)) (ap recordIn (l .starts .1))
+    (takes-in (l .store) (l .line) ts (l .takes)))
 
 -- ---- a line in numbers
 
@@ -121,8 +120,8 @@ numbered receiver store line (s ∷ ss) e r = (
   (
     r .0 .0,
     takes (recordNumbers (s .given .receiver)) (answerKind (s .given .answer)) (answerValue (s .given .answer)) (s .given .receiver)
-    (s .given .answer) refl refl refl line store (s .line) (s .output) (s .given .taken) (s .storeAfter) (s .outputThen)
-    (subst (λ (k : Record). Takes k store (s .line) (s .output) (s .given) (s .storeAfter) (s .outputThen)) (sym e) (r .0 .1)),
+        (s .given .answer) refl refl refl line store (s .line) (s .output) (s .given .taken) (s .storeAfter) (s .outputThen)
+        (subst (λ (k : Record). Takes k store (s .line) (s .output) (s .given) (s .storeAfter) (s .outputThen)) (sym e) (r .0 .1)),
   ),
   numbered (s .given .receiver) (s .storeAfter) (recordNumbers (s .given .receiver)) ss (record-back (s .given .receiver)) (r .1),
 )
@@ -130,7 +129,8 @@ numbered receiver store line (s ∷ ss) e r = (
 pub linked-slice-lines : LinkedSliceLines
 linked-slice-lines =
     record {
-      isLine = is-slice-line;
+      isLine = λ ts l.
+          record { slices = map takeIn ts; line = slice-line-in ts l; same = same-slices (l .store) (l .line) ts (l .takes) };
       ofLine = λ ss l.
           record {
             store = noOctets;
@@ -139,3 +139,59 @@ linked-slice-lines =
             takes = numbered freshRecord noOctets (recordNumbers freshRecord) ss refl l;
           };
     }
+
+-- ---- a call that took an octet
+
+own-slice : (before after : List LinkedTake) (t : LinkedTake) (store line : List ℕ) → LinkedTakes store line (before ++ t ∷ after)
+    → OwnNumbers (asSlice t .lineAfter) (asSlice t .kind) (asSlice t .value)
+own-slice [] after (byOctet c) store line r = r .0 .1 .written
+own-slice [] after (bySlice s) store line r = r .0 .1 .written
+own-slice (byOctet c ∷ before) after t store line r = own-slice before after t (c .storeAfter) (c .lineAfter) (r .1)
+own-slice (bySlice s ∷ before) after t store line r = own-slice before after t (s .storeAfter) (s .lineAfter) (r .1)
+
+gathered-in : (f : ObservedSlice → List ℕ) (g : LinkedTake → List ℕ) → ((t : LinkedTake) → f (takeIn t) ≡ g t) → (ts : List LinkedTake)
+    → gathered f (map takeIn ts) ≡ gathered g ts
+gathered-in f g same [] = refl
+gathered-in f g same (t ∷ ts) = ap₂ (λ (a b : List ℕ). a ++ b) (same t) (gathered-in f g same ts)
+
+map-numbers : (f : LinkedCall → ℕ) (os : List Observed) → map f (map inNumbers os) ≡ map (λ (o : Observed). f (inNumbers o)) os
+map-numbers f [] = refl
+map-numbers f (o ∷ os) = ap (λ (l : List ℕ). f (inNumbers o) ∷ l) (map-numbers f os)
+
+pub linked-slice-is-call : LinkedSliceIsCall
+linked-slice-is-call before after t l some =
+    record {
+      earlier = map inNumbers (e .earlier);
+      last = inNumbers (e .last);
+      line = subst LinkedLine parts (linked-lines .ofLine (e .earlier ++ e .last ∷ []) (e .line));
+      octets =
+          gather (λ (c : LinkedCall). c .octet) ∙ e .octets
+          ∙ ap (λ (h : List ℕ). h ++ linkedTaken t) (gathered-in sliceOctets linkedTaken (λ u. refl) before);
+      rooms =
+          gather (λ (c : LinkedCall). length (c .output)) ∙ e .rooms
+          ∙ ap (λ (h : List ℕ). h ++ linkedRooms t) (gathered-in roomsOf linkedRooms (λ u. refl) before);
+      kind = told .0 ∙ sym (own .kind);
+      value = told .1 ∙ sym (own .value);
+      storeAfter = e .storeAfter;
+      lineAfter = ap recordNumbers (e .receiver) ∙ sym (own .line);
+      outputThen = e .outputThen;
+    }
+  where
+    e : EndsAsSlice (map takeIn before) (takeIn t)
+    e =
+        slice-is-call (map takeIn before) (map takeIn after) (takeIn t)
+        (subst SliceLine (map-append takeIn before (t ∷ after)) (slice-line-in (before ++ t ∷ after) l)) some
+
+    own : OwnNumbers (asSlice t .lineAfter) (asSlice t .kind) (asSlice t .value)
+    own = own-slice before after t (l .store) (l .line) (l .takes)
+
+    told : (answerKind (e .last .given .answer) ≡ answerKind (takeIn t .given .answer))
+        × (answerValue (e .last .given .answer) ≡ answerValue (takeIn t .given .answer))
+    told = answer-numbers (e .last .given .answer) (takeIn t .given .answer) (e .answer)
+
+    parts : map inNumbers (e .earlier ++ e .last ∷ []) ≡ map inNumbers (e .earlier) ++ inNumbers (e .last) ∷ []
+    parts = map-append inNumbers (e .earlier) (e .last ∷ [])
+
+    gather : (f : LinkedCall → ℕ)
+        → map f (map inNumbers (e .earlier) ++ inNumbers (e .last) ∷ []) ≡ map (λ (o : Observed). f (inNumbers o)) (e .earlier ++ e .last ∷ [])
+    gather f = ap (map f) (sym parts) ∙ map-numbers f (e .earlier ++ e .last ∷ [])

@@ -1,5 +1,5 @@
 -- Lists of linked calls of the frame writer are the frame writer's lists in numbers. Assumes nothing.
-use mathlib.Core.Path.{_≡_, refl, sym, ap, ap₂, subst, _∙_}
+use mathlib.Core.Path.{_≡_, refl, sym, ap, ap₂, _∙_}
 use mathlib.Core.List.{List, [], _∷_, _++_, map}
 use mathlib.Core.Logic.{_⊎_, inl, inr}
 use Prim.Native.Nat.{ℕ}
@@ -14,7 +14,7 @@ use Rattle.ucp_writer.specs.Room.{frameDue}
 use Rattle.ucp_writer.specs.Writes.{WritesFrame}
 use Rattle.ucp_writer.proofs.room.Due.{refused-so}
 use Rattle.c_ucp_frames.specs.Frames.{WritesFrameNumbers}
-use Rattle.thm_ucp_writer.specs.Calls.{WriterCall, adds, accepts, lineOctets, acceptedBodies, DifferInNumberOrOctet}
+use Rattle.thm_ucp_writer.specs.Calls.{WriterCall, adds, accepts, lineOctets, acceptedBodies}
 use Rattle.thm_ucp_writer.proofs.Calls.{writer-lists}
 use Rattle.thm_c_ucp.specs.Writer.{LinkedWrite, LinkedWrites, writeInNumbers, AreWrites, LinkedWriter, linkedAdds, linkedAccepts, linkedOctets, linkedBodies, LinkedWriterLists}
 

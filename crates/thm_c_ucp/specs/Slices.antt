@@ -1,12 +1,13 @@
 -- A line of linked calls by the octet and by the slice, in any order, on one store and line: `ostrogosz_receive` and
 -- `ostrogosz_receive_slice`. It is a line driven by slices in C's numbers. Assumes nothing.
 use mathlib.Core.Path.{_≡_}
-use mathlib.Core.List.{List, [], _∷_, map}
-use Prim.Native.Nat.{ℕ}
+use mathlib.Core.List.{List, [], _∷_, _++_, map}
+use Prim.Native.Nat.{ℕ, _≤_}
+use lib.ListN.{length, take, replicate}
 use Rattle.crc_polynomial.specs.Polynomial.{Octets}
 use Rattle.c_ucp_receiver.specs.Numbers.{recordNumbers, answerKind, answerValue, TakesNumbers, StartsNumbers}
-use Rattle.thm_ucp_receiver.specs.Slice.{ObservedSlice, SliceLine}
-use Rattle.thm_c_ucp.specs.Receiver.{LinkedCall, MeetsLinked}
+use Rattle.thm_ucp_receiver.specs.Slice.{ObservedSlice, SliceLine, gathered}
+use Rattle.thm_c_ucp.specs.Receiver.{LinkedCall, MeetsLinked, LinkedLine}
 
 -- one call with a slice: the slice and the output as at entry; the answer's three numbers; what was lent as at return
 pub record LinkedSlice : Type 0 where
@@ -80,3 +81,31 @@ pub record IsSliceLine (calls : List LinkedTake) : Type 0 where
 pub record LinkedSliceLines : Type 0 where
   pub isLine : (calls : List LinkedTake) → LinkedSliceLine calls → IsSliceLine calls
   pub ofLine : (slices : List ObservedSlice) → SliceLine slices → LinkedSliceLine (map (λ (s : ObservedSlice). bySlice (sliceInNumbers s)) slices)
+
+-- ---- and so a linked line by the octet
+
+-- the octets that a call took, and the rooms lent to a call for each of them
+abbrev pub linkedTaken : LinkedTake → List ℕ
+linkedTaken t = take (asSlice t .taken) (asSlice t .octets)
+
+abbrev pub linkedRooms : LinkedTake → List ℕ
+linkedRooms t = replicate (asSlice t .taken) (length (asSlice t .output))
+
+-- a linked line by the octet that ends in a call which gives back what this call does
+pub record EndsAsLinked (before : List LinkedTake) (t : LinkedTake) : Type 0 where
+  pub earlier : List LinkedCall
+  pub last : LinkedCall
+  pub line : LinkedLine (earlier ++ last ∷ [])
+  pub octets : map (λ (c : LinkedCall). c .octet) (earlier ++ last ∷ []) ≡ gathered linkedTaken before ++ linkedTaken t
+  pub rooms : map (λ (c : LinkedCall). length (c .output)) (earlier ++ last ∷ []) ≡ gathered linkedRooms before ++ linkedRooms t
+  pub kind : last .kind ≡ asSlice t .kind
+  pub value : last .value ≡ asSlice t .value
+  pub storeAfter : last .storeAfter ≡ asSlice t .storeAfter
+  pub lineAfter : last .lineAfter ≡ asSlice t .lineAfter
+  pub outputThen : last .outputThen ≡ asSlice t .outputThen
+
+-- so every promise of a linked line's call holds of a call with a slice that took an octet
+abbrev pub LinkedSliceIsCall : Type 0
+LinkedSliceIsCall =
+    (before after : List LinkedTake) (t : LinkedTake) → LinkedSliceLine (before ++ t ∷ after) → 1 ≤ asSlice t .taken
+    → EndsAsLinked before t
