@@ -48,10 +48,10 @@ use Rattle.ucp_answers.specs.Writes as Message
 use Rattle.thm_ucp_writer.specs.Calls.{WriterLists}
 use Rattle.thm_ucp_receiver.specs.Line.{Observed, callOf, upTo, Line}
 use Rattle.thm_ucp_receiver.specs.Slice.{LineOfSlices, SliceIsCall}
-use Rattle.thm_c_ucp.specs.Receiver.{LinkedLines, LinkedAnswersByHistory, LinkedCountsByHistory, LinkedReceiverLists}
+use Rattle.thm_c_ucp.specs.Receiver.{LinkedLines, LinkedAnswersByHistory, LinkedCountsByHistory, LinkedStoreByHistory, LinkedReceiverLists}
 use Rattle.thm_c_ucp.specs.Slices.{LinkedSliceLines, LinkedSliceIsCall}
 use Rattle.thm_c_ucp.specs.Writer.{LinkedWriter, LinkedWriterLists}
-use Rattle.thm_ucp_receiver.specs.Promises.{AnswersAs, AnswersByHistory, StretchIsAnswered, CountsByHistory, EveryOctetCounted, StoreClean, FlagClears, LaterOnly, PutOutIsFrame, FrameIsPutOut, EndsIn, carrying}
+use Rattle.thm_ucp_receiver.specs.Promises.{AnswersAs, AnswersByHistory, StretchIsAnswered, CountsByHistory, EveryOctetCounted, StoreClean, StoreByHistory, HuntingStoresNothing, FlagClears, LaterOnly, PutOutIsFrame, FrameIsPutOut, EndsIn, carrying}
 
 -- The numbers that stand behind the refusals' names are those of document 01's table.
 pub record TableNumbers : Type 0 where
@@ -66,7 +66,8 @@ pub record TableNumbers : Type 0 where
 
 -- Demand 1. Bad input gets a numbered refusal under the conditions of document 01 and no others (the receiver's conditions are
 -- `answersByHistory` of demand 2; each of the readers' is spelled in its room's specs/Refusals.antt), and a refusal changes no
--- octet of the lent output, whichever writer gives it. At every flag, counts excepted, the store is all zero, the rest of the
+-- octet of the lent output, whichever writer gives it. The store is the history's: before the first flag nothing is stored, then
+-- the open stretch unstuffed as far as its first fault, and zero behind. At every flag, counts excepted, the store is all zero, the rest of the
 -- record is one fixed value, and what the line answers from there on depends only on later octets, for the same room lent. The
 -- calls that are linked are these calls in C's numbers: lists of them are lines, lines driven by slices, and the writer's lists.
 pub record Demand1 : Type 0 where
@@ -137,10 +138,13 @@ pub record Demand1 : Type 0 where
       → Receives receiver store octet output given storeAfter outputThen
       → receiver-answers.receiverAnswer (given .answer) ≡ nothing → outputThen ≡ output
   pub flagClears : FlagClears
+  pub storeByHistory : StoreByHistory
+  pub huntingStoresNothing : HuntingStoresNothing
   pub storeClean : StoreClean
   pub laterOnly : LaterOnly
   pub linkedReceiverIsLine : LinkedLines
   pub linkedSlicesAreLine : LinkedSliceLines
+  pub linkedStoreByHistory : LinkedStoreByHistory
   pub linkedWriterIsWriter : LinkedWriter
 
 -- Demand 2. The check of every body is the remainder: the body as a polynomial is the quotient times the generator plus it, and

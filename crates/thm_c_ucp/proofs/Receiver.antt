@@ -15,10 +15,10 @@ use Rattle.crc_gdl90_strength.proofs.Caught.{strength}
 use Rattle.c_ucp_receiver.specs.Numbers.{recordIn, recordNumbers, answerIn, answerKind, answerValue, OwnNumbers}
 use Rattle.c_ucp_receiver.proofs.Numbers.{record-back, receives}
 use Rattle.thm_ucp_receiver.specs.Line.{Observed, callOf, Runs, Line}
-use Rattle.thm_ucp_receiver.specs.Promises.{AnswersAs, CountsAs, EndsIn, carrying}
-use Rattle.thm_ucp_receiver.proofs.Promises.{answers, counts}
+use Rattle.thm_ucp_receiver.specs.Promises.{AnswersAs, CountsAs, StoreAs, EndsIn, carrying}
+use Rattle.thm_ucp_receiver.proofs.Promises.{answers, counts, store-by-history}
 use Rattle.thm_ucp_receiver.proofs.Frames.{wrong-check-refused}
-use Rattle.thm_c_ucp.specs.Receiver.{LinkedCall, LinkedRuns, LinkedLine, inNumbers, LinkedLines, linkedCallOf, kindDue, valueDue, LinkedAnswersAs, LinkedAnswersByHistory, LinkedCountsByHistory, LinkedReceiverLists}
+use Rattle.thm_c_ucp.specs.Receiver.{LinkedCall, LinkedRuns, LinkedLine, inNumbers, LinkedLines, linkedCallOf, kindDue, valueDue, LinkedAnswersAs, LinkedAnswersByHistory, LinkedCountsByHistory, LinkedStoreByHistory, LinkedReceiverLists}
 
 -- ---- the calls that the numbers stand for
 
@@ -148,6 +148,11 @@ pub linked-counts : LinkedCountsByHistory
 linked-counts before after c l =
     subst (λ (h : List Call). CountsAs (h ++ (linkedCallOf c ∷ [])) (observedIn c .given .receiver .counts)) (history before)
     (counts (map observedIn before) (map observedIn after) (observedIn c) (split-line before after c l))
+
+pub linked-store : LinkedStoreByHistory
+linked-store before after c l =
+    subst (λ (h : List Call). StoreAs (h ++ (linkedCallOf c ∷ [])) (observedIn c .given .receiver .rest .stored) (c .storeAfter)) (history before)
+    (store-by-history (map observedIn before) (map observedIn after) (observedIn c) (split-line before after c l))
 
 -- an answer that is told as a refusal is due as that
 refusal-due : (v : Verdict) (number : ℕ) → answerFor v ≡ refusal number → v ≡ refused number

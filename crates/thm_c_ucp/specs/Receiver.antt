@@ -12,9 +12,9 @@ use Rattle.ucp_frame.specs.Stretch.{Verdict, silent, refused, delivered}
 use Rattle.ucp_history.specs.History.{Call, answer}
 use Rattle.ucp_receiver.specs.Answers.{outputAtFlag}
 use Rattle.crc_gdl90_strength.specs.Strength.{TwoBodies, AtMostThreeBits, Within16Bits}
-use Rattle.c_ucp_receiver.specs.Numbers.{countsIn, recordNumbers, answerKind, answerValue, ReceivesNumbers, StartsNumbers}
+use Rattle.c_ucp_receiver.specs.Numbers.{restIn, countsIn, recordNumbers, answerKind, answerValue, ReceivesNumbers, StartsNumbers}
 use Rattle.thm_ucp_receiver.specs.Line.{Observed, Line}
-use Rattle.thm_ucp_receiver.specs.Promises.{CountsAs, EndsIn, carrying}
+use Rattle.thm_ucp_receiver.specs.Promises.{CountsAs, StoreAs, EndsIn, carrying}
 
 -- one call: the octet and the output as at entry; the answer's two numbers; the store, the line and the output as at return
 pub record LinkedCall : Type 0 where
@@ -104,6 +104,12 @@ abbrev pub LinkedCountsByHistory : Type 0
 LinkedCountsByHistory =
     (before after : List LinkedCall) (c : LinkedCall) → LinkedLine (before ++ c ∷ after)
     → CountsAs (linkedUpTo before c) (countsIn (c .lineAfter))
+
+-- and the store is the history's, with the number of octets in it among the line's numbers
+abbrev pub LinkedStoreByHistory : Type 0
+LinkedStoreByHistory =
+    (before after : List LinkedCall) (c : LinkedCall) → LinkedLine (before ++ c ∷ after)
+    → StoreAs (linkedUpTo before c) (restIn (c .lineAfter) .stored) (c .storeAfter)
 
 -- demand 3, the receiver, one claim about whole lists of linked calls: every call answers as the rules say, and where the list ends
 -- in the frame carrying one of two such bodies with the other's check, the last call answers 5
