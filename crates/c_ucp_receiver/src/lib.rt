@@ -12,8 +12,7 @@ ghost use mathlib.Core.Path.{_≡_};
 ghost use mathlib.Core.List.{List};
 ghost use Prim.Native.Nat.{ℕ, _<_, _^_};
 ghost use lib.ListN.{length, getD};
-ghost use Rattle.ucp_receiver.specs.Octet.{freshRecord, noOctets};
-ghost use Rattle.c_ucp_receiver.specs.Numbers.{phaseOf, phaseNumber, restIn, countsIn, recordIn, recordNumbers, answerKind, answerValue, ReceivesFitting, TakesFitting, ReceivesNumbers, TakesNumbers};
+ghost use Rattle.c_ucp_receiver.specs.Numbers.{phaseOf, phaseNumber, restIn, countsIn, recordIn, recordNumbers, answerKind, answerValue, ReceivesFitting, TakesFitting, ReceivesNumbers, TakesNumbers, StartsNumbers};
 
 // The record besides the store, as C has it: phase, octets stored, and the five counts.
 pub type RecordNumbers = [u32; 7];
@@ -164,7 +163,7 @@ fn value_of(answer: Answer) -> u32
 // A fresh receiver.
 #[no_mangle]
 pub extern "C" fn ostrogosz_receiver_start(store: &mut Store, line: &mut RecordNumbers)
-    ensures { λ r. ⌜ (now (store .exit) ≡ noOctets) × (now (line .exit) ≡ recordNumbers freshRecord) ⌝ }
+    ensures { λ r. ⌜ StartsNumbers (now (store .exit)) (now (line .exit)) ⌝ }
 {
     *store = [0; ucp_receiver::STORE_OCTETS];
     put_line(line, ucp_receiver::octet::fresh_record());

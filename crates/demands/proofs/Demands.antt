@@ -30,10 +30,13 @@ use Rattle.ucp_receiver.specs.Octet.{verdictDue}
 use Rattle.crc_gdl90_strength.proofs.Caught.{strength}
 use Rattle.thm_ucp_writer.proofs.Calls.{writer-lists}
 use Rattle.thm_ucp_receiver.specs.Line.{Line}
-use Rattle.thm_ucp_receiver.proofs.Promises.{answers, counts, every-octet-counted, store-clean, flag-clears, later-only}
+use Rattle.thm_ucp_receiver.proofs.Promises.{answers, counts, every-octet-counted, store-clean, store-by-history, hunting-stores-nothing, flag-clears, later-only}
 use Rattle.thm_ucp_receiver.proofs.Slice.{line-of-slices, slice-is-call}
 use Rattle.thm_ucp_receiver.proofs.Stretch.{stretch-is-answered}
 use Rattle.thm_ucp_receiver.proofs.Frames.{put-out-is-frame, frame-is-put-out, wrong-check-refused}
+use Rattle.thm_c_ucp.proofs.Receiver.{linked-lines, linked-answers, linked-counts, linked-store, linked-receiver-lists}
+use Rattle.thm_c_ucp.proofs.Slices.{linked-slice-lines, linked-slice-is-call}
+use Rattle.thm_c_ucp.proofs.Writer.{linked-writer, linked-writer-lists}
 use Rattle.demands.specs.Demands.{TableNumbers, Demand1, Demand2, Demand3, ReceiverLists}
 use Rattle.demands.proofs.Refusals.{Tabled, quiet, numbered, whole, tabled}
 
@@ -102,8 +105,14 @@ demand1 =
       receiverIsSilent = λ receiver store octet output given storeAfter outputThen m e.
           m .puts ∙ answer-nothing (verdictDue (record { rest = receiver .rest; store = store }) octet (length output)) output (sym (m .answers) ∙ e);
       flagClears = flag-clears;
+      storeByHistory = store-by-history;
+      huntingStoresNothing = hunting-stores-nothing;
       storeClean = store-clean;
       laterOnly = later-only;
+      linkedReceiverIsLine = linked-lines;
+      linkedSlicesAreLine = linked-slice-lines;
+      linkedStoreByHistory = linked-store;
+      linkedWriterIsWriter = linked-writer;
     }
 
 pub demand2 : Demand2
@@ -122,6 +131,9 @@ demand2 =
       everyOctetCounted = every-octet-counted;
       slicesAreCalls = line-of-slices;
       sliceEndsAsCall = slice-is-call;
+      linkedAnswersByHistory = linked-answers;
+      linkedCountsByHistory = linked-counts;
+      linkedSliceEndsAsCall = linked-slice-is-call;
       messageReadsBack = message-read.written-reads-back;
       messageWritesBack = message-write.accepted-writes-back;
       uplinkReadsBack = message-read.uplink-reads-back;
@@ -138,4 +150,11 @@ receiver-lists calls l = (
 )
 
 pub demand3 : Demand3
-demand3 = record { check = strength; receiver = receiver-lists; writer = writer-lists }
+demand3 =
+    record {
+      check = strength;
+      receiver = receiver-lists;
+      writer = writer-lists;
+      linkedReceiver = linked-receiver-lists;
+      linkedWriter = linked-writer-lists;
+    }

@@ -1,9 +1,11 @@
 -- The tender's demands 1 to 3, in one place. Each is a statement over what the running functions ensure of a call, or over the
 -- definitions that their contracts cite, so it holds of what runs: `WritesFrame` of `ucp_writer::write_frame`, `Receives` of
 -- `ucp_receiver::octet::receive` and `Takes` of `receive_slice`; of the messages `Reads`, `WritesBody` and `Sends` (ucp_messages,
--- ucp_answers, ucp_send); of MAVLink `readDue` and `writeDue` (mavlink_messages). That every call on every input returns,
--- with no undefined step, is what proving a Rattle function means; no call for C or Rust, and none that is named here, asks anything
--- of its caller. Proved in proofs/Demands.antt. Assumes nothing.
+-- ucp_answers, ucp_send); of MAVLink `readDue` and `writeDue` (mavlink_messages). Of what C and Rust link: the clauses named
+-- `linked..` are over the contracts of `ostrogosz_receiver_start`, `ostrogosz_receive`, `ostrogosz_receive_slice` and
+-- `ostrogosz_write_frame`, so that what is said of lines and of the frame writer holds of these calls. That every call on every
+-- input returns, with no undefined step, is what proving a Rattle function means; no call for C or Rust, and none that is named
+-- here, asks anything of its caller. Proved in proofs/Demands.antt. Assumes nothing.
 use mathlib.Core.Path.{_≡_}
 use mathlib.Core.Bool.{true, false}
 use mathlib.Core.List.{List, [], _∷_, _++_, map}
@@ -46,7 +48,10 @@ use Rattle.ucp_answers.specs.Writes as Message
 use Rattle.thm_ucp_writer.specs.Calls.{WriterLists}
 use Rattle.thm_ucp_receiver.specs.Line.{Observed, callOf, upTo, Line}
 use Rattle.thm_ucp_receiver.specs.Slice.{LineOfSlices, SliceIsCall}
-use Rattle.thm_ucp_receiver.specs.Promises.{AnswersAs, AnswersByHistory, StretchIsAnswered, CountsByHistory, EveryOctetCounted, StoreClean, FlagClears, LaterOnly, PutOutIsFrame, FrameIsPutOut, EndsIn, carrying}
+use Rattle.thm_c_ucp.specs.Receiver.{LinkedLines, LinkedAnswersByHistory, LinkedCountsByHistory, LinkedStoreByHistory, LinkedReceiverLists}
+use Rattle.thm_c_ucp.specs.Slices.{LinkedSliceLines, LinkedSliceIsCall}
+use Rattle.thm_c_ucp.specs.Writer.{LinkedWriter, LinkedWriterLists}
+use Rattle.thm_ucp_receiver.specs.Promises.{AnswersAs, AnswersByHistory, StretchIsAnswered, CountsByHistory, EveryOctetCounted, StoreClean, StoreByHistory, HuntingStoresNothing, FlagClears, LaterOnly, PutOutIsFrame, FrameIsPutOut, EndsIn, carrying}
 
 -- The numbers that stand behind the refusals' names are those of document 01's table.
 pub record TableNumbers : Type 0 where
@@ -61,8 +66,10 @@ pub record TableNumbers : Type 0 where
 
 -- Demand 1. Bad input gets a numbered refusal under the conditions of document 01 and no others (the receiver's conditions are
 -- `answersByHistory` of demand 2; each of the readers' is spelled in its room's specs/Refusals.antt), and a refusal changes no
--- octet of the lent output, whichever writer gives it. At every flag, counts excepted, the store is all zero, the rest of the
--- record is one fixed value, and what the line answers from there on depends only on later octets, for the same room lent.
+-- octet of the lent output, whichever writer gives it. The store is the history's: before the first flag nothing is stored, then
+-- the open stretch unstuffed as far as its first fault, and zero behind. At every flag, counts excepted, the store is all zero, the rest of the
+-- record is one fixed value, and what the line answers from there on depends only on later octets, for the same room lent. The
+-- calls that are linked are these calls in C's numbers: lists of them are lines, lines driven by slices, and the writer's lists.
 pub record Demand1 : Type 0 where
   pub numbers : TableNumbers
   pub writerRefuses7 :
@@ -131,15 +138,22 @@ pub record Demand1 : Type 0 where
       → Receives receiver store octet output given storeAfter outputThen
       → receiver-answers.receiverAnswer (given .answer) ≡ nothing → outputThen ≡ output
   pub flagClears : FlagClears
+  pub storeByHistory : StoreByHistory
+  pub huntingStoresNothing : HuntingStoresNothing
   pub storeClean : StoreClean
   pub laterOnly : LaterOnly
+  pub linkedReceiverIsLine : LinkedLines
+  pub linkedSlicesAreLine : LinkedSliceLines
+  pub linkedStoreByHistory : LinkedStoreByHistory
+  pub linkedWriterIsWriter : LinkedWriter
 
 -- Demand 2. The check of every body is the remainder: the body as a polynomial is the quotient times the generator plus it, and
 -- its degree is under 16; MAVLink's is what 001's code computes. A body of 1 to 436 octets with room for its frame is written,
 -- and that exactly; every call of the receiver answers as the rules say of the history, and a stretch with an octet in it is
 -- answered; each frame delivered writes back to the same octets, and each frame written is delivered; every octet received is
 -- counted once, under the class that its history gives. A line that is taken in slices is such a line of calls by the octet,
--- with the same answers, outputs and records. On both lines each written message reads back equal, and each accepted one writes
+-- with the same answers, outputs and records. A linked call's numbers are those of the answer and the counts that the history
+-- gives. On both lines each written message reads back equal, and each accepted one writes
 -- back to the same octets; a message sent on the UCP line is delivered, and means the same.
 pub record Demand2 : Type 0 where
   pub checkIsRemainder :
@@ -161,6 +175,9 @@ pub record Demand2 : Type 0 where
   pub everyOctetCounted : EveryOctetCounted
   pub slicesAreCalls : LineOfSlices
   pub sliceEndsAsCall : SliceIsCall
+  pub linkedAnswersByHistory : LinkedAnswersByHistory
+  pub linkedCountsByHistory : LinkedCountsByHistory
+  pub linkedSliceEndsAsCall : LinkedSliceIsCall
   pub messageReadsBack : message-trips.MessageReadsBack
   pub messageWritesBack : message-trips.MessageWritesBack
   pub uplinkReadsBack : message-trips.UplinkReadsBack
@@ -180,8 +197,10 @@ ReceiverLists =
     → EndsIn (carrying a b) (upTo before last)
     → receiver-answers.receiverAnswer (last .given .answer) ≡ refusal because.wrongCheck)
 
--- Demand 3. The check's strength, and with it the receiver's lists and the writer's.
+-- Demand 3. The check's strength, and with it the receiver's lists and the writer's; the same of lists of linked calls.
 pub record Demand3 : Type 0 where
   pub check : Strength
   pub receiver : ReceiverLists
   pub writer : WriterLists
+  pub linkedReceiver : LinkedReceiverLists
+  pub linkedWriter : LinkedWriterLists
