@@ -1,3 +1,4 @@
 pub mod Structs
 pub mod Reads
 pub mod Writes
+pub mod Steps
