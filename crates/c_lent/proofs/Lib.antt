@@ -2,3 +2,4 @@ pub mod Answers
 pub mod Puts
 pub mod Structs
 pub mod Writers
+pub mod Sends

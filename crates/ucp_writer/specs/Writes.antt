@@ -6,7 +6,7 @@ use Prim.Native.Nat.{ℕ, _≤_, _<_}
 use lib.ListN.{length, take, drop}
 use Rattle.output_writing.specs.declared.Written.{Written}
 use Rattle.output_writing.specs.Writing.{Writing}
-use Rattle.ucp_frame.specs.Frame.{frame, longestBody}
+use Rattle.ucp_frame.specs.Frame.{frame, longestBody, longestFrame}
 use Rattle.ucp_writer.specs.Room.{frameDue}
 
 -- one call, whole: the body and the output as at entry, the answer, and the output as at return
@@ -19,3 +19,5 @@ pub record FramesInPlace (before : List ℕ) (octets given : ℕ) (after : List 
   pub frames : 1 ≤ octets → octets ≤ longestBody
       → (given ≡ length (frame (take octets before))) × (after ≡ frame (take octets before) ++ drop given before)
   pub leaves : (octets ≡ 0) ⊎ (longestBody < octets) → (given ≡ 0) × (after ≡ before)
+  -- the buffer is one for any frame
+  pub size : length before ≡ longestFrame

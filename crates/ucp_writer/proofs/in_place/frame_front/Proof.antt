@@ -29,10 +29,10 @@ neither n some few (inl e) = some e
 neither n some few (inr h) = omega arith
 
 returns : tie.Need-returns
-returns c = record { frames = λ some few. absurd (omega arith); leaves = λ none. (refl, refl) }
+returns c = record { frames = λ some few. absurd (omega arith); leaves = λ none. (refl, refl); size = c .before .before .pre }
 
 returns-2 : tie.Need-returns-2
-returns-2 c = record { frames = λ some few. absurd (omega arith); leaves = λ none. (refl, refl) }
+returns-2 c = record { frames = λ some few. absurd (omega arith); leaves = λ none. (refl, refl); size = c .before .before .before .pre }
 
 room : (c : tie.Else2) → length (frame (body-of c)) ≤ length (now (c .before .before .before .args .buffer))
 room c = omega (arith, c .before .before .before .pre, size c, frame-length-longest (body-of c) (omega (arith, size c)))
@@ -82,6 +82,7 @@ returns-3 c =
           (omega (arith, k .before .before .before .before .before .before .before .stuffed-length .ensures)) (k .before .before .before .move-words .ensures)
           (c .before .before .close .ensures);
       leaves = λ none. absurd (neither (e .before .before .before .args .octets) (e .before .if1 .left) (e .if2 .left) none);
+      size = e .before .before .before .pre;
     }
 
 pub frame-front-spec : {M : Type 1} → statement M
