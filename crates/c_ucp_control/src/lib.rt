@@ -15,9 +15,9 @@ ghost use Rattle.field_format.specs.Format.{valueIn, bodyOf};
 ghost use Rattle.ucp_kinds.specs.Control45.{controlFormat};
 ghost use Rattle.c_lent.specs.Reads.{ReadsInto};
 ghost use Rattle.c_lent.specs.Writes.{WritesStructBody};
+ghost use Rattle.c_lent.specs.Sends.{SendsStruct};
 ghost use Rattle.c_lent.specs.Structs.{isYes, stored, held};
 ghost use Rattle.c_ucp_control.specs.Struct.{controlStruct, controlState};
-ghost use Rattle.c_ucp_control.specs.Sends.{SendsControl};
 
 // ---- reading
 
@@ -73,18 +73,12 @@ fn fill(body: &[u8], message: &mut [u8; 24])
 
 // Reads a body into the struct: 0, or the refusal that is due, 10 to 13, and then the struct is as it was.
 #[no_mangle]
-pub extern "C" fn ostrogosz_read_control_at(body: &[u8], message: &mut [u8; 24]) -> u32
+pub extern "C" fn ostrogosz_ucp_read_control(body: &[u8], message: &mut [u8; 24]) -> u32
     ensures { λ r. ⌜ ReadsInto controlFormat controlStruct (now (body .entry)) (now (message .entry)) r (now (message .exit)) ⌝ }
 {
-    let n = body.len();
-    if n == 0 {
-        return c_lent::UNKNOWN_ID;
-    }
-    if body[0] != 45 {
-        return c_lent::UNKNOWN_ID;
-    }
-    if n != 18 {
-        return c_lent::MESSAGE_LENGTH;
+    let refusal = c_lent::first_refusal(body, 45, 18);
+    if refusal != 0 {
+        return refusal;
     }
     if body[1] != 1 {
         return c_lent::FIXED;
@@ -169,7 +163,7 @@ fn write(message: &[u8], output: &mut [u8]) -> OstrogoszWritten
 
 // Writes the body of the message that a struct holds: 13, then 8.
 #[no_mangle]
-pub extern "C" fn ostrogosz_write_control_at(
+pub extern "C" fn ostrogosz_ucp_write_control(
     message: &[u8; 24],
     output: &mut [u8],
 ) -> OstrogoszWritten
@@ -196,7 +190,7 @@ fn put_frame(message: &[u8], buffer: &mut [u8]) -> usize
 
 fn send(message: &[u8], buffer: &mut [u8]) -> OstrogoszWritten
     requires { ⌜ (length (now message) ≡ 24) × (length (now buffer) ≡ 878) ⌝ }
-    ensures { λ r. ⌜ SendsControl (held controlStruct (now (message .entry))) (now (buffer .entry)) r (now (buffer .exit)) ⌝ }
+    ensures { λ r. ⌜ SendsStruct controlFormat (held controlStruct (now (message .entry))) (now (buffer .entry)) r (now (buffer .exit)) ⌝ }
 {
     if !(numbers_fit(message) & field_texts::pairs::is_padded_at(message, 15)) {
         return OstrogoszWritten {
@@ -212,11 +206,11 @@ fn send(message: &[u8], buffer: &mut [u8]) -> OstrogoszWritten
 
 // Writes the frame of the message that a struct holds at the start of buffer, and leaves what is behind it: 13.
 #[no_mangle]
-pub extern "C" fn ostrogosz_send_control_at(
+pub extern "C" fn ostrogosz_ucp_send_control(
     message: &[u8; 24],
     buffer: &mut FrameBuffer,
 ) -> OstrogoszWritten
-    ensures { λ r. ⌜ SendsControl (held controlStruct (now (message .entry))) (now (buffer .entry)) r (now (buffer .exit)) ⌝ }
+    ensures { λ r. ⌜ SendsStruct controlFormat (held controlStruct (now (message .entry))) (now (buffer .entry)) r (now (buffer .exit)) ⌝ }
 {
     send(message, buffer)
 }

@@ -22,9 +22,14 @@ use Rattle.c_ucp_report.specs.Struct.{reportStruct}
 use Rattle.c_ucp_report.specs.Steps.{Small, leftOf, rightOf}
 use Rattle.c_ucp_report.proofs.Numbers.{cut-24, cut-12, moves}
 
-pub body-length : (r : Report) → length (bodyOf (reportFormat 10) r) ≡ 28
+pub body-length : (id : ℕ) (r : Report) → length (bodyOf (reportFormat id) r) ≡ 28
 unfolding bodyOf
-body-length r = refl
+body-length id r = refl
+
+-- what fits has no ID in it
+pub same-fits : (id : ℕ) (r : Report) → fits (reportFormat 10) r ≡ fits (reportFormat id) r
+unfolding fits
+same-fits id r = refl
 
 number-lt : (a b c d : ℕ) → a < 256 → b < 256 → c < 256 → d < 256 → d * 16777216 + (c * 65536 + (b * 256 + a)) < 4294967296
 number-lt a b c d la lb lc ld = omega arith
@@ -52,9 +57,9 @@ low-octet : (high low : ℕ) → low < 256 → (high * 256 + low) % 4096 % 256 �
 low-octet high low h = omega arith
 
 -- the body, by the struct's octets
-abbrev pub whole : List ℕ → List ℕ
-whole m =
-    leftOf m ++ (rightOf m ++ (getD m 24 0 ∷ (elements 10 26 m ++ ((getD m 36 0 * 16 + getD m 37 0) ∷ []))))
+abbrev pub whole : ℕ → List ℕ → List ℕ
+whole id m =
+    leftOf id m ++ (rightOf m ++ (getD m 24 0 ∷ (elements 10 26 m ++ ((getD m 36 0 * 16 + getD m 37 0) ∷ []))))
 
 module _ (m : List ℕ) (n : length m ≡ 40) where
   pub in-range : (ltb (getD m 0 0) 16
@@ -99,15 +104,15 @@ module _ (m : List ℕ) (n : length m ≡ 40) where
           spare = at 15;
         }
 
-    pub body-of : Small m → bodyOf (reportFormat 10) (held reportStruct m) ≡ whole m
+    pub body-of : (id : ℕ) → Small m → bodyOf (reportFormat id) (held reportStruct m) ≡ whole id m
     unfolding bodyOf held
-    body-of s =
+    body-of id s =
         let lat = s .latitude in
         let lon = s .longitude in
         let x : ℕ → ℕ = λ r. little16 m 22 * 1048576 + (r * 256 + getD m 26 0) in
         let v = moves (little16 m 22) (little16 m 24 % 4096) (getD m 26 0) (is 26) in
-        ap (λ (xs : List ℕ). bodyOf (reportFormat 10) (held reportStruct xs)) (by-elements 40 m n)
-        ∙ (λ i. 10
+        ap (λ (xs : List ℕ). bodyOf (reportFormat id) (held reportStruct xs)) (by-elements 40 m n)
+        ∙ (λ i. id
         ∷ (getD m 0 0 * 16 + getD m 1 0)
         ∷ little32 m 4 / 65536
         ∷ little32 m 4 % 65536 / 256
@@ -127,9 +132,9 @@ module _ (m : List ℕ) (n : length m ≡ 40) where
         ∷ (ap (λ (r : ℕ). x r % 16777216 % 65536 % 256) (s .rate) ∙ v .m3) i
         ∷ (elements 9 27 m ++ ((getD m 36 0 * 16 + getD m 37 0) ∷ [])))
 
-    pub body-put : Small m → (output : List ℕ) {after : List ℕ} → 28 ≤ length output → after ≡ sets output 0 (whole m)
-        → after ≡ bodyOf (reportFormat 10) (held reportStruct m) ++ drop 28 output
-    body-put s output room put =
+    pub body-put : (id : ℕ) → Small m → (output : List ℕ) {after : List ℕ} → 28 ≤ length output → after ≡ sets output 0 (whole id m)
+        → after ≡ bodyOf (reportFormat id) (held reportStruct m) ++ drop 28 output
+    body-put id s output room put =
         put
-        ∙ sets-eq (whole m) output 0 room
-        ∙ ap (λ (body : List ℕ). body ++ drop 28 output) (sym (body-of s))
+        ∙ sets-eq (whole id m) output 0 room
+        ∙ ap (λ (body : List ℕ). body ++ drop 28 output) (sym (body-of id s))

@@ -1,11 +1,9 @@
 -- Eight octets as one number, and a number as eight octets. Assumes nothing.
 use mathlib.Core.Path.{_≡_, ap, _∙_}
 use mathlib.Core.List.{List, [], _∷_}
-use Prim.Native.Nat.{ℕ, suc, _+_, _*_, _/_, _%_, _<_, _≤_}
-use native.Mathlib.Numerals.{add-one}
+use Prim.Native.Nat.{ℕ, _+_, _*_, _/_, _%_, _<_, _≤_}
 use native.Mathlib.Omega.{arith}
-use lib.ListN.{length, getD, set, take, drop}
-use lib.Seq.{sets}
+use lib.ListN.{length, getD, take, drop}
 use Rattle.field_words.specs.Words.{octetsUp, octetsDown, eight}
 use Rattle.field_words.proofs.Digits.{up-eight, eight-from}
 
@@ -76,14 +74,3 @@ number-from xs at w room small is =
     let up = from-down w (is ∙ eight-from xs at room) in
     by-digits w small
     ∙ (λ i. eight (getD (up i) 0 0) (getD (up i) 1 0) (getD (up i) 2 0) (getD (up i) 3 0) (getD (up i) 4 0) (getD (up i) 5 0) (getD (up i) 6 0) (getD (up i) 7 0))
-
--- ---- octets put one behind the other
-pub two-put : (l : List ℕ) (at a b : ℕ) → set (set l at a) (at + 1) b ≡ sets l at (a ∷ b ∷ [])
-two-put l at a b = ap (λ (n : ℕ). set (set l at a) n b) (add-one at)
-
-pub four-put : (l : List ℕ) (at a b c d : ℕ)
-    → set (set (set (set l at a) (at + 1) b) (at + 2) c) (at + 3) d ≡ sets l at (a ∷ b ∷ c ∷ d ∷ [])
-four-put l at a b c d =
-    let e : at + 2 ≡ suc (suc at) = omega arith in
-    let f : at + 3 ≡ suc (suc (suc at)) = omega arith in
-    λ i. set (set (set (set l at a) (add-one at i) b) (e i) c) (f i) d

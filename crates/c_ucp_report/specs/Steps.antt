@@ -7,16 +7,11 @@ use lib.Seq.{sets}
 use Rattle.field_layout.specs.Steps.{big16, big24, big32, little16, little32}
 use Rattle.field_signed.specs.Signed.{signed, complement}
 use Rattle.field_layout.specs.Layout.{textOctets, textAt}
+use Rattle.c_lent.specs.Steps.{twoOf, fourOf}
 
--- ---- numbers in a struct: two fields of 4 bits, 16 bits, and 32
+-- ---- two fields of 4 bits in a struct
 abbrev pub halvesOf : ℕ → List ℕ
 halvesOf n = n / 16 ∷ n % 16 ∷ []
-
-abbrev pub twoOf : ℕ → List ℕ
-twoOf n = n % 256 ∷ n / 256 ∷ []
-
-abbrev pub fourOf : ℕ → List ℕ
-fourOf n = n % 16777216 % 65536 % 256 ∷ n % 16777216 % 65536 / 256 ∷ n % 16777216 / 65536 ∷ n / 16777216 ∷ []
 
 -- ---- a signed number of 24 bits as one of 32, and of 12 as one of 16
 abbrev pub wide24 : ℕ → ℕ
@@ -59,11 +54,11 @@ pub record Small (m : List ℕ) : Type 0 where
   pub spare : getD m 37 0 < 16
 
 -- octets 0 to 7 of the body, and 8 to 15
-abbrev pub leftOf : List ℕ → List ℕ
-leftOf m =
+abbrev pub leftOf : ℕ → List ℕ → List ℕ
+leftOf id m =
     let address = little32 m 4 in
     let latitude = little32 m 8 % 16777216 in
-    10
+    id
     ∷ (getD m 0 0 * 16 + getD m 1 0)
     ∷ address / 65536
     ∷ address % 65536 / 256

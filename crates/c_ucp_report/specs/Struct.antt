@@ -1,4 +1,4 @@
--- A report, of message 10 here, as the octets of its C struct. Assumes nothing.
+-- A report, message 10 or 20, as the octets of its C struct. Assumes nothing.
 use mathlib.Core.List.{[], _∷_}
 use Rattle.field_format.specs.Format.{unsigned, integer}
 use Rattle.ucp_kinds.specs.declared.Report.{Report}

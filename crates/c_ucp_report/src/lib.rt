@@ -1,4 +1,4 @@
-// Message 10, Ownship report, for C: the message lies in the caller's struct, which is lent as its octets.
+// Messages 10 and 20, Ownship and Traffic report, for C: the message lies in the caller's struct, which is lent as its octets.
 use output_writing::OstrogoszWritten;
 ghost use mathlib.Core.Path.{_≡_};
 ghost use mathlib.Core.List.{_++_};
@@ -14,7 +14,7 @@ ghost use Rattle.c_lent.specs.Reads.{ReadsInto};
 ghost use Rattle.c_lent.specs.Writes.{WritesStructBody};
 ghost use Rattle.c_lent.specs.Structs.{stored, held};
 ghost use Rattle.c_ucp_report.specs.Struct.{reportStruct};
-ghost use Rattle.c_ucp_report.specs.Steps.{halvesOf, twoOf, fourOf, leftStored, rightStored, othersStored, Small, leftOf, rightOf};
+ghost use Rattle.c_ucp_report.specs.Steps.{halvesOf, leftStored, rightStored, othersStored, Small, leftOf, rightOf};
 
 // ---- reading
 
@@ -86,26 +86,6 @@ fn put_halves(message: &mut [u8], at: usize, octet: u8)
     message[at + 1] = octet % 16;
 }
 
-// A number of 16 bits, and one of 32, least significant octet first.
-fn put_16(message: &mut [u8], at: usize, number: u16)
-    requires { ⌜ at + 2 ≤ length (now message) ⌝ }
-    ensures { λ r. ⌜ now (message .exit) ≡ sets (now (message .entry)) at (twoOf number) ⌝ }
-{
-    message[at] = (number % 256) as u8;
-    message[at + 1] = (number / 256) as u8;
-}
-
-fn put_32(message: &mut [u8], at: usize, number: u32)
-    requires { ⌜ at + 4 ≤ length (now message) ⌝ }
-    ensures { λ r. ⌜ now (message .exit) ≡ sets (now (message .entry)) at (fourOf number) ⌝ }
-{
-    let low = number % 16777216 % 65536;
-    message[at] = (low % 256) as u8;
-    message[at + 1] = (low / 256) as u8;
-    message[at + 2] = (number % 16777216 / 65536) as u8;
-    message[at + 3] = (number / 16777216) as u8;
-}
-
 // What octets 1 to 7 of a body hold, 8 to 15, and the others.
 fn put_left(body: &[u8], message: &mut [u8])
     requires { ⌜ (length (now body) ≡ 28) × (length (now message) ≡ 40) ⌝ }
@@ -114,8 +94,8 @@ fn put_left(body: &[u8], message: &mut [u8])
     let left = left(body);
     let latitude = extended_24(left.latitude);
     put_halves(message, 0, field_layout::octet(body, 1));
-    put_32(message, 4, left.address);
-    put_32(message, 8, latitude);
+    c_lent::put_32(message, 4, left.address);
+    c_lent::put_32(message, 8, latitude);
 }
 
 fn put_right(body: &[u8], message: &mut [u8])
@@ -124,11 +104,11 @@ fn put_right(body: &[u8], message: &mut [u8])
 {
     let right = right(body);
     let longitude = extended_24(right.longitude);
-    put_32(message, 12, longitude);
-    put_16(message, 16, right.height / 16);
+    c_lent::put_32(message, 12, longitude);
+    c_lent::put_16(message, 16, right.height / 16);
     message[18] = (right.height % 16) as u8;
     put_halves(message, 19, right.integrity);
-    put_16(message, 22, right.speed);
+    c_lent::put_16(message, 22, right.speed);
 }
 
 fn put_others(body: &[u8], message: &mut [u8])
@@ -137,7 +117,7 @@ fn put_others(body: &[u8], message: &mut [u8])
 {
     let motion = field_layout::big_32(body, 14);
     let rate = extended_12(motion % 1048576 / 256);
-    put_16(message, 24, rate);
+    c_lent::put_16(message, 24, rate);
     message[26] = body[17];
     message[27] = body[18];
     // The callsign goes from one place to the other at once, so that no part of it waits on the stack.
@@ -156,23 +136,31 @@ fn fill(body: &[u8], message: &mut [u8; 40])
     put_others(body, message);
 }
 
-// Reads a body into the struct: 0, or the refusal that is due, 10 or 11, and then the struct is as it was.
-#[no_mangle]
-pub extern "C" fn ostrogosz_read_ownship_at(body: &[u8], message: &mut [u8; 40]) -> u32
-    ensures { λ r. ⌜ ReadsInto (reportFormat 10) reportStruct (now (body .entry)) (now (message .entry)) r (now (message .exit)) ⌝ }
+// Reads a body of an ID, 10 or 20.
+fn read(body: &[u8], id: u8, message: &mut [u8; 40]) -> u32
+    ensures { λ r. ⌜ ReadsInto (reportFormat id) reportStruct (now (body .entry)) (now (message .entry)) r (now (message .exit)) ⌝ }
 {
-    let n = body.len();
-    if n == 0 {
-        return c_lent::UNKNOWN_ID;
-    }
-    if body[0] != 10 {
-        return c_lent::UNKNOWN_ID;
-    }
-    if n != 28 {
-        return c_lent::MESSAGE_LENGTH;
+    let refusal = c_lent::first_refusal(body, id, 28);
+    if refusal != 0 {
+        return refusal;
     }
     fill(body, message);
     0
+}
+
+// Reads a body into the struct: 0, or the refusal that is due, 10 or 11, and then the struct is as it was.
+#[no_mangle]
+pub extern "C" fn ostrogosz_ucp_read_ownship(body: &[u8], message: &mut [u8; 40]) -> u32
+    ensures { λ r. ⌜ ReadsInto (reportFormat 10) reportStruct (now (body .entry)) (now (message .entry)) r (now (message .exit)) ⌝ }
+{
+    read(body, 10, message)
+}
+
+#[no_mangle]
+pub extern "C" fn ostrogosz_ucp_read_traffic(body: &[u8], message: &mut [u8; 40]) -> u32
+    ensures { λ r. ⌜ ReadsInto (reportFormat 20) reportStruct (now (body .entry)) (now (message .entry)) r (now (message .exit)) ⌝ }
+{
+    read(body, 20, message)
 }
 
 // ---- writing
@@ -215,11 +203,11 @@ fn fits(message: &[u8]) -> bool
 }
 
 // Octets 0 to 7 of a body as one number, the first most significant.
-fn left_word(first: u8, address: u32, latitude: u32) -> u64
+fn left_word(id: u8, first: u8, address: u32, latitude: u32) -> u64
     requires { ⌜ (address < 16777216) × (latitude < 16777216) ⌝ }
-    ensures { λ r. ⌜ r ≡ eight (latitude % 65536 % 256) (latitude % 65536 / 256) (latitude / 65536) (address % 65536 % 256) (address % 65536 / 256) (address / 65536) first 10 ⌝ }
+    ensures { λ r. ⌜ r ≡ eight (latitude % 65536 % 256) (latitude % 65536 / 256) (latitude / 65536) (address % 65536 % 256) (address % 65536 / 256) (address / 65536) first id ⌝ }
 {
-    720575940379279360
+    id as u64 * 72057594037927936
         + (first as u64 * 281474976710656 + (address as u64 * 16777216 + latitude as u64))
 }
 
@@ -257,14 +245,14 @@ fn motion_of(speed: u16, rate: u16) -> u16
 
 // Octets 0 to 7 of the body as one number, the first least significant, and 8 to 15: a number that is turned round and put is
 // stored in one piece.
-fn left_octets(message: &[u8]) -> u64
+fn left_octets(id: u8, message: &[u8]) -> u64
     requires { ⌜ (length (now message) ≡ 40) × Small (now message) ⌝ }
-    ensures { λ r. ⌜ octetsUp 8 r ≡ leftOf (now (message .entry)) ⌝ }
+    ensures { λ r. ⌜ octetsUp 8 r ≡ leftOf id (now (message .entry)) ⌝ }
 {
     let first = halves(message[0], message[1]);
     let address = field_layout::little_32(message, 4);
     let latitude = field_layout::little_32(message, 8) % 16777216;
-    field_words::turned(left_word(first, address, latitude))
+    field_words::turned(left_word(id, first, address, latitude))
 }
 
 fn right_octets(message: &[u8]) -> u64
@@ -280,20 +268,20 @@ fn right_octets(message: &[u8]) -> u64
 }
 
 // Puts octets 0 to 15 of the body.
-fn put_numbers(message: &[u8], output: &mut [u8])
+fn put_numbers(id: u8, message: &[u8], output: &mut [u8])
     requires { ⌜ (length (now message) ≡ 40) × Small (now message) × (28 ≤ length (now output)) ⌝ }
-    ensures { λ r. ⌜ now (output .exit) ≡ sets (now (output .entry)) 0 (leftOf (now (message .entry)) ++ rightOf (now (message .entry))) ⌝ }
+    ensures { λ r. ⌜ now (output .exit) ≡ sets (now (output .entry)) 0 (leftOf id (now (message .entry)) ++ rightOf (now (message .entry))) ⌝ }
 {
-    field_words::put_64(output, 0, left_octets(message));
+    field_words::put_64(output, 0, left_octets(id, message));
     field_words::put_64(output, 8, right_octets(message));
 }
 
 // Puts the body at the start of output. The callsign goes at once, as in `put_others`.
-fn put(message: &[u8], output: &mut [u8])
+fn put(id: u8, message: &[u8], output: &mut [u8])
     requires { ⌜ (length (now message) ≡ 40) × Small (now message) × (28 ≤ length (now output)) ⌝ }
-    ensures { λ r. ⌜ now (output .exit) ≡ bodyOf (reportFormat 10) (held reportStruct (now (message .entry))) ++ drop 28 (now (output .entry)) ⌝ }
+    ensures { λ r. ⌜ now (output .exit) ≡ bodyOf (reportFormat id) (held reportStruct (now (message .entry))) ++ drop 28 (now (output .entry)) ⌝ }
 {
-    put_numbers(message, output);
+    put_numbers(id, message, output);
     output[16] = message[24];
     output[17] = message[26];
     output[18] = message[27];
@@ -301,9 +289,10 @@ fn put(message: &[u8], output: &mut [u8])
     output[27] = halves(message[36], message[37]);
 }
 
-fn write(message: &[u8], output: &mut [u8]) -> OstrogoszWritten
+// Writes the body, of an ID, of the message that a struct holds.
+fn write(id: u8, message: &[u8], output: &mut [u8]) -> OstrogoszWritten
     requires { ⌜ length (now message) ≡ 40 ⌝ }
-    ensures { λ r. ⌜ WritesStructBody (reportFormat 10) (held reportStruct (now (message .entry))) (now (output .entry)) r (now (output .exit)) ⌝ }
+    ensures { λ r. ⌜ WritesStructBody (reportFormat id) (held reportStruct (now (message .entry))) (now (output .entry)) r (now (output .exit)) ⌝ }
 {
     if !fits(message) {
         return OstrogoszWritten {
@@ -317,7 +306,7 @@ fn write(message: &[u8], output: &mut [u8]) -> OstrogoszWritten
             length: 0,
         };
     }
-    put(message, output);
+    put(id, message, output);
     OstrogoszWritten {
         refusal: 0,
         length: 28,
@@ -326,11 +315,21 @@ fn write(message: &[u8], output: &mut [u8]) -> OstrogoszWritten
 
 // Writes the body of the message that a struct holds: 13, then 8.
 #[no_mangle]
-pub extern "C" fn ostrogosz_write_ownship_at(
+pub extern "C" fn ostrogosz_ucp_write_ownship(
     message: &[u8; 40],
     output: &mut [u8],
 ) -> OstrogoszWritten
     ensures { λ r. ⌜ WritesStructBody (reportFormat 10) (held reportStruct (now (message .entry))) (now (output .entry)) r (now (output .exit)) ⌝ }
 {
-    write(message, output)
+    write(10, message, output)
+}
+
+#[no_mangle]
+pub extern "C" fn ostrogosz_ucp_write_traffic(
+    message: &[u8; 40],
+    output: &mut [u8],
+) -> OstrogoszWritten
+    ensures { λ r. ⌜ WritesStructBody (reportFormat 20) (held reportStruct (now (message .entry))) (now (output .entry)) r (now (output .exit)) ⌝ }
+{
+    write(20, message, output)
 }

@@ -23,6 +23,8 @@ returns : tie.Need-returns
 returns c =
     let s = c .before .before .before .before .before .before .before .before in
     let z = s .pre .1 in
+    let id = s .args .id in
+    let id-lt : s .args .id < 256 = search needs in
     let first = c .before .before .before .before .halves .ensures in
     let address = c .before .before .before .little-32 .ensures in
     let latitude = c .before .before .little-322 .ensures in
@@ -34,9 +36,9 @@ returns c =
     let (a0, a1, a2) = octet-lt a a-lt in
     let (l0, l1, l2) = octet-lt l (omega arith) in
     turned-eight (c .before .left-word .result) (c .turned .result) (l % 65536 % 256) (l % 65536 / 256) (l / 65536)
-    (a % 65536 % 256) (a % 65536 / 256) (a / 65536) f 10 l2 l1 l0 a2 a1 a0 f-lt (omega arith) (c .before .left-word .ensures)
+    (a % 65536 % 256) (a % 65536 / 256) (a / 65536) f id l2 l1 l0 a2 a1 a0 f-lt id-lt (c .before .left-word .ensures)
     (c .turned .ensures)
-    ∙ (λ i. 10
+    ∙ (λ i. id
     ∷ first i
     ∷ address i / 65536
     ∷ address i % 65536 / 256

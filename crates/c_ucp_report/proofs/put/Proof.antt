@@ -15,7 +15,7 @@ kept : (c : tie.After-halves)
     ≡ length (now (c .before .before .before .before .before .before .before .before .before .before .before .before .before .before .before .before .before .args .output))
 kept c =
     let k5 = c .before .before .before .before .before in
-    k5 .put-64 .kept .0 ∙ simp length-set (k5 .before .before .before .before .before .before .before .before .put-numbers .kept .1 .0)
+    k5 .put-64 .kept .0 ∙ simp length-set (k5 .before .before .before .before .before .before .before .before .put-numbers .kept .1 .1 .0)
 
 slice-write-output-4 : tie.Need-slice-write-output-4
 slice-write-output-4 c =
@@ -33,7 +33,7 @@ returns c =
     let others = k5 .put-64 .ensures
     ∙ (λ i. sets (set (set (set (numbers i) 16 (getD m 24 0)) 17 (getD m 26 0)) 18 (getD m 27 0)) 19 (callsign i))
     in
-    body-put m (s .pre .0) (λ i. k13 .before .before .before .shared-slice-known .given i .fits) (s .pre .1) (now (s .args .output)) (s .pre .2)
+    body-put m (s .pre .0) (λ i. k13 .before .before .before .shared-slice-known .given i .fits) (s .args .id) (s .pre .1) (now (s .args .output)) (s .pre .2)
     (λ i. set (others i) 27 (c .halves .ensures i))
 
 pub put-spec : {M : Type 1} → statement M

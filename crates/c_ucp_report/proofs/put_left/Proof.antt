@@ -2,7 +2,8 @@
 use mathlib.Core.Path.{_∙_, ap}
 use denote.Ref.{now}
 use lib.Seq.{sets}
-use Rattle.c_ucp_report.specs.Steps.{halvesOf, fourOf, wide24}
+use Rattle.c_ucp_report.specs.Steps.{halvesOf, wide24}
+use Rattle.c_lent.specs.Steps.{fourOf}
 use borrow.Author.Needs.{needs}
 use Rattle.c_ucp_report.proofs.put_left.Statement.{statement}
 use Rattle.c_ucp_report.proofs.put_left.Tie as tie

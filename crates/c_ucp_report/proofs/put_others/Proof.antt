@@ -6,7 +6,8 @@ use denote.Ref.{now}
 use lib.ListN.{getD, set, length-set}
 use lib.Seq.{sets}
 use Rattle.field_words.proofs.Digits.{eight-from}
-use Rattle.c_ucp_report.specs.Steps.{halvesOf, twoOf, wide12}
+use Rattle.c_ucp_report.specs.Steps.{halvesOf, wide12}
+use Rattle.c_lent.specs.Steps.{twoOf}
 use Rattle.c_ucp_report.proofs.Numbers.{read-track}
 use borrow.Author.Needs.{needs}
 use Rattle.c_ucp_report.proofs.put_others.Statement.{statement}

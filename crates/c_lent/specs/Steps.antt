@@ -1,0 +1,19 @@
+-- What the functions do that more than one kind's calls share. Assumes nothing.
+use mathlib.Core.Bool.{true}
+use mathlib.Core.List.{List, [], _∷_}
+use Prim.Native.Nat.{ℕ, _/_, _%_}
+use lib.Dec.{eqb}
+use lib.ListN.{length}
+use Rattle.ucp_answers.specs.Refusals.{refusalBy}
+use Rattle.c_lent.specs.Reads.{refusalAs}
+
+-- a reader's first two tests, of the ID and of the length: 10, then 11
+abbrev pub firstRefusal : ℕ → ℕ → List ℕ → ℕ
+firstRefusal id size body = refusalAs id body (refusalBy (eqb (length body) size) true true)
+
+-- numbers in a struct: 16 bits, and 32
+abbrev pub twoOf : ℕ → List ℕ
+twoOf n = n % 256 ∷ n / 256 ∷ []
+
+abbrev pub fourOf : ℕ → List ℕ
+fourOf n = n % 16777216 % 65536 % 256 ∷ n % 16777216 % 65536 / 256 ∷ n % 16777216 / 65536 ∷ n / 16777216 ∷ []
