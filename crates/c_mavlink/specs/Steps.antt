@@ -1,0 +1,26 @@
+-- What the parts of the readers show. Assumes nothing.
+use mathlib.Core.Path.{_≡_}
+use mathlib.Core.List.{List}
+use Prim.Native.Nat.{ℕ, _+_, _<_, _≤_}
+use lib.ListN.{length}
+use Rattle.mavlink_frame.specs.declared.Kind.{Kind}
+use Rattle.mavlink_frame.specs.declared.Lookup.{Lookup}
+use Rattle.mavlink_frame.specs.declared.Lookup.the-variants.{Known, Unknown}
+use Rattle.mavlink_frame.specs.declared.Found.the-variants.{Frame, Refused}
+use Rattle.mavlink_frame.specs.Frame.{mavlinkKind}
+use Rattle.mavlink_frame.specs.Reader.{headerAt}
+use Rattle.c_mavlink.specs.Readers.{foundAs}
+
+-- an input that begins with a right frame of a kind
+pub record Taken (k : Kind) (s : List ℕ) : Type 0 where
+  pub room : k .length + 8 ≤ length s
+  pub is : foundAs (k .id) s ≡ Frame (k .id) (headerAt s) (k .length + 8)
+
+abbrev pub TakenBy : Lookup → List ℕ → Type 0
+TakenBy (Known k) s = Taken k s
+TakenBy Unknown s = ⊥
+
+-- the refusal that is due up to the check; 0 where the frame is right
+pub record Tested (id : ℕ) (s : List ℕ) (refusal : ℕ) : Type 0 where
+  pub refused : 0 < refusal → foundAs id s ≡ Refused refusal
+  pub taken : refusal ≡ 0 → TakenBy (mavlinkKind id) s
