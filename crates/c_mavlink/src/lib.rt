@@ -103,7 +103,7 @@ pub extern "C" fn ostrogosz_mavlink_read_id(input: &[u8]) -> OstrogoszMavlinkId
 
 // The failure bits of a status.
 #[no_mangle]
-pub extern "C" fn ostrogosz_mavlink_failures(status: u8) -> OstrogoszMavlinkFailures
+pub extern "C" fn ostrogosz_mavlink_count_failures(status: u8) -> OstrogoszMavlinkFailures
     ensures { λ r. ⌜ r ≡ failureNumbers (failuresIn status) ⌝ }
 {
     OstrogoszMavlinkFailures {

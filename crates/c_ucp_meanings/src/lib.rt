@@ -40,7 +40,7 @@ fn feet_per_minute(rate: Rate) -> OstrogoszMeasure
 
 // The pressure altitude of messages 10 and 20, in feet.
 #[no_mangle]
-pub extern "C" fn ostrogosz_altitude_in_feet(altitude: u16) -> OstrogoszMeasure
+pub extern "C" fn ostrogosz_ucp_altitude_in_feet(altitude: u16) -> OstrogoszMeasure
     ensures { λ r. ⌜ r ≡ measureOf (altitudeMeans altitude) ⌝ }
 {
     feet(ucp_meanings::altitude_in_feet(altitude))
@@ -48,7 +48,7 @@ pub extern "C" fn ostrogosz_altitude_in_feet(altitude: u16) -> OstrogoszMeasure
 
 // The vertical rate of messages 10 and 20, in feet per minute.
 #[no_mangle]
-pub extern "C" fn ostrogosz_rate_in_feet_per_minute(vertical_rate: i16) -> OstrogoszMeasure
+pub extern "C" fn ostrogosz_ucp_rate_in_feet_per_minute(vertical_rate: i16) -> OstrogoszMeasure
     ensures { λ r. ⌜ r ≡ measureOf (rateMeans «vertical_rate») ⌝ }
 {
     feet_per_minute(ucp_meanings::rate_in_feet_per_minute(vertical_rate))
@@ -56,7 +56,7 @@ pub extern "C" fn ostrogosz_rate_in_feet_per_minute(vertical_rate: i16) -> Ostro
 
 // The geometric altitude of message 11, in feet.
 #[no_mangle]
-pub extern "C" fn ostrogosz_geometric_altitude_in_feet(altitude: i16) -> i32
+pub extern "C" fn ostrogosz_ucp_geometric_altitude_in_feet(altitude: i16) -> i32
     ensures { λ r. ⌜ r ≡ geometricMeans altitude ⌝ }
 {
     ucp_meanings::geometric_altitude_in_feet(altitude)
@@ -64,7 +64,7 @@ pub extern "C" fn ostrogosz_geometric_altitude_in_feet(altitude: i16) -> i32
 
 // A latitude or longitude of messages 10 and 20, in whole units of 1E-7 degree, toward zero.
 #[no_mangle]
-pub extern "C" fn ostrogosz_degrees_e7(angle: i32) -> i64
+pub extern "C" fn ostrogosz_ucp_degrees_e7(angle: i32) -> i64
     ensures { λ r. ⌜ r ≡ degreesE7 angle ⌝ }
 {
     ucp_meanings::degrees_e7(angle)

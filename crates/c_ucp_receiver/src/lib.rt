@@ -162,7 +162,7 @@ fn value_of(answer: Answer) -> u32
 
 // A fresh receiver.
 #[no_mangle]
-pub extern "C" fn ostrogosz_receiver_start(store: &mut Store, line: &mut RecordNumbers)
+pub extern "C" fn ostrogosz_ucp_start(store: &mut Store, line: &mut RecordNumbers)
     ensures { λ r. ⌜ StartsNumbers (now (store .exit)) (now (line .exit)) ⌝ }
 {
     *store = [0; ucp_receiver::STORE_OCTETS];
@@ -235,7 +235,7 @@ fn receive_other(
 
 // One octet of the line. The flag is apart, so that a call with any other octet touches little.
 #[no_mangle]
-pub extern "C" fn ostrogosz_receive(
+pub extern "C" fn ostrogosz_ucp_receive(
     store: &mut Store,
     line: &mut RecordNumbers,
     octet: u8,
@@ -270,7 +270,7 @@ fn taken_by(store: &mut Store, line: &RecordNumbers, octets: &[u8], output: &mut
 
 // Octets of the line up to and including the one that brings the next answer.
 #[no_mangle]
-pub extern "C" fn ostrogosz_receive_slice(
+pub extern "C" fn ostrogosz_ucp_receive_slice(
     store: &mut Store,
     line: &mut RecordNumbers,
     octets: &[u8],

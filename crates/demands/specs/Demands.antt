@@ -2,8 +2,8 @@
 -- definitions that their contracts cite, so it holds of what runs: `WritesFrame` of `ucp_writer::write_frame`, `Receives` of
 -- `ucp_receiver::octet::receive` and `Takes` of `receive_slice`; of the messages `Reads`, `WritesBody` and `Sends` (ucp_messages,
 -- ucp_answers, ucp_send); of MAVLink `readDue` and `writeDue` (mavlink_messages). Of what C and Rust link: the clauses named
--- `linked..` are over the contracts of `ostrogosz_receiver_start`, `ostrogosz_receive`, `ostrogosz_receive_slice` and
--- `ostrogosz_write_frame`, so that what is said of lines and of the frame writer holds of these calls. That every call on every
+-- `linked..` are over the contracts of `ostrogosz_ucp_start`, `ostrogosz_ucp_receive`, `ostrogosz_ucp_receive_slice` and
+-- `ostrogosz_ucp_write_frame`, so that what is said of lines and of the frame writer holds of these calls. That every call on every
 -- input returns, with no undefined step, is what proving a Rattle function means; no call for C or Rust, and none that is named
 -- here, asks anything of its caller. Proved in proofs/Demands.antt. Assumes nothing.
 use mathlib.Core.Path.{_≡_}

@@ -1,4 +1,4 @@
--- A linked line: `ostrogosz_receiver_start`, then calls of `ostrogosz_receive`, each with the store and the line's seven numbers as
+-- A linked line: `ostrogosz_ucp_start`, then calls of `ostrogosz_ucp_receive`, each with the store and the line's seven numbers as
 -- the last one left them. It is a line of the receiver in C's numbers, so what holds of lines holds of it. Rests on the contracts
 -- of c_ucp_receiver alone. Assumes nothing.
 use mathlib.Core.Path.{_≡_}

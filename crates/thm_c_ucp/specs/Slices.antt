@@ -1,5 +1,5 @@
--- A line of linked calls by the octet and by the slice, in any order, on one store and line: `ostrogosz_receive` and
--- `ostrogosz_receive_slice`. It is a line driven by slices in C's numbers. Assumes nothing.
+-- A line of linked calls by the octet and by the slice, in any order, on one store and line: `ostrogosz_ucp_receive` and
+-- `ostrogosz_ucp_receive_slice`. It is a line driven by slices in C's numbers. Assumes nothing.
 use mathlib.Core.Path.{_≡_}
 use mathlib.Core.List.{List, [], _∷_, _++_, map}
 use Prim.Native.Nat.{ℕ, _≤_}

@@ -1,4 +1,4 @@
--- Lists of calls of `ostrogosz_write_frame`: they are lists of the frame writer's calls in C's numbers, and what holds of those holds of
+-- Lists of calls of `ostrogosz_ucp_write_frame`: they are lists of the frame writer's calls in C's numbers, and what holds of those holds of
 -- them. Rests on the contract of c_ucp_frames alone. Assumes nothing.
 use mathlib.Core.Path.{_≡_}
 use mathlib.Core.Bool.{cond}

@@ -1,8 +1,8 @@
--- `c_ucp_receiver::ostrogosz_receive` meets its contract, by the octet. Assumes nothing.
+-- `c_ucp_receiver::ostrogosz_ucp_receive` meets its contract, by the octet. Assumes nothing.
 use denote.Ref.{now}
 use borrow.Author.Needs.{needs}
-use Rattle.c_ucp_receiver.proofs.ostrogosz_receive.Statement.{statement}
-use Rattle.c_ucp_receiver.proofs.ostrogosz_receive.Tie as tie
+use Rattle.c_ucp_receiver.proofs.ostrogosz_ucp_receive.Statement.{statement}
+use Rattle.c_ucp_receiver.proofs.ostrogosz_ucp_receive.Tie as tie
 
 returns : tie.Need-returns
 returns c = rw (c .before .before .before .before .before .before .if1 .taken) (c .before .before .receive-flag .ensures)
@@ -15,8 +15,8 @@ returns-3 c =
     let a = c .before .before .before .before .before .before .before .before .before .before .args in
     c .receive-ignored .ensures (now (a .store)) (now (a .output))
 
-pub ostrogosz-receive-spec : {M : Type 1} → statement M
-ostrogosz-receive-spec =
+pub ostrogosz-ucp-receive-spec : {M : Type 1} → statement M
+ostrogosz-ucp-receive-spec =
     tie.close
     (tie.spec (λ c κs. search needs) (λ c. search needs) returns (λ c. search needs) (λ c. search needs)
     (λ c κs. search needs) returns-2 (λ c. search needs) (λ c. search needs) (λ c κs. search needs) returns-3
