@@ -3,3 +3,4 @@ pub mod Octets
 pub mod Puts
 pub mod Structs
 pub mod Writers
+pub mod Sends

@@ -2,3 +2,4 @@ pub mod Structs
 pub mod Reads
 pub mod Writes
 pub mod Steps
+pub mod Sends

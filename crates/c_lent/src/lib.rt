@@ -1,9 +1,12 @@
 // What the calls of one kind answer and leave in what they are lent: definitions, the numbers that they answer with, and what
 // more than one kind's calls do.
+use output_writing::OstrogoszWritten;
+use ucp_frame::FrameBuffer;
 ghost use mathlib.Core.Path.{_≡_};
 ghost use Prim.Native.Nat.{_+_, _≤_};
 ghost use lib.ListN.{length};
 ghost use lib.Seq.{sets};
+ghost use Rattle.c_lent.specs.Sends.{FramesWritten};
 ghost use Rattle.c_lent.specs.Steps.{firstRefusal, twoOf, fourOf};
 
 // The refusals' numbers as C has them.
@@ -52,4 +55,15 @@ pub fn put_32(message: &mut [u8], at: usize, number: u32)
     message[at + 1] = (low / 256) as u8;
     message[at + 2] = (number % 16777216 / 65536) as u8;
     message[at + 3] = (number / 16777216) as u8;
+}
+
+// The second half of a send: what a kind's writer gave, and the buffer that it wrote to. A refusal has no length, so that nothing is
+// framed and the refusal is handed on.
+pub fn frame_written(written: OstrogoszWritten, buffer: &mut FrameBuffer) -> OstrogoszWritten
+    ensures { λ r. ⌜ FramesWritten written (now (buffer .entry)) r (now (buffer .exit)) ⌝ }
+{
+    OstrogoszWritten {
+        refusal: written.refusal,
+        length: ucp_writer::frame_in_place(buffer, written.length),
+    }
 }

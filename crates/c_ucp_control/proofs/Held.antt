@@ -15,6 +15,7 @@ use Rattle.field_codes.specs.Codes.{isSquawk}
 use Rattle.field_texts.specs.Text.{isPadded}
 use Rattle.ucp_frame.specs.Frame.{frame}
 use Rattle.ucp_frame.proofs.Frame.{frame-length-most}
+use Rattle.ucp_writer.specs.Sends.{sendDue}
 use Rattle.ucp_writer.proofs.room.Due.{due-accepted}
 use Rattle.ucp_kinds.specs.declared.Control.{Control}
 use Rattle.field_format.specs.Format.{bodyOf, fits}
@@ -22,8 +23,8 @@ use Rattle.field_format.proofs.Formats.{fitting, bound}
 use Rattle.ucp_kinds.specs.Control45.{controlFormat}
 use Rattle.ucp_kinds.proofs.Formats.{control-right}
 use Rattle.c_lent.specs.Structs.{held}
+use Rattle.c_lent.specs.Sends.{SendsStruct}
 use Rattle.c_ucp_control.specs.Struct.{controlStruct, controlState}
-use Rattle.c_ucp_control.specs.Sends.{sendControlDue, SendsControl}
 use Rattle.c_ucp_control.proofs.Stored.{body-held}
 
 -- the order of three tests
@@ -81,14 +82,14 @@ module _ (message : List ℕ) (n : length message ≡ 24) where
 pub frame-room : (c : Control) → length (frame (bodyOf controlFormat c)) ≤ 878
 frame-room c = omega (arith, frame-length-most (bodyOf controlFormat c), body-length c)
 
-pub not-sent : (c : Control) (buffer : List ℕ) → fits controlFormat c ≡ false → SendsControl c buffer (record { refusal = 13; length = 0 }) buffer
-unfolding sendControlDue
+pub not-sent : (c : Control) (buffer : List ℕ) → fits controlFormat c ≡ false → SendsStruct controlFormat c buffer (record { refusal = 13; length = 0 }) buffer
+unfolding sendDue
 not-sent c buffer e = rw e (record { answers = refl; leaves = refl })
 
 pub sent : (c : Control) (buffer : List ℕ) {octets : ℕ} {after : List ℕ} → fits controlFormat c ≡ true → length buffer ≡ 878
     → octets ≡ length (frame (bodyOf controlFormat c)) → after ≡ frame (bodyOf controlFormat c) ++ drop octets buffer
-    → SendsControl c buffer (record { refusal = 0; length = octets }) after
-unfolding sendControlDue
+    → SendsStruct controlFormat c buffer (record { refusal = 0; length = octets }) after
+unfolding sendDue
 sent c buffer e n whole is =
     rw (e, due-accepted (bodyOf controlFormat c) buffer (omega (arith, body-length c)) (omega (arith, body-length c)) (omega (arith, frame-room c)), ← whole)
     (record { answers = refl; leaves = is })

@@ -1,2 +1,1 @@
 pub mod Struct
-pub mod Sends

@@ -15,9 +15,9 @@ ghost use Rattle.field_format.specs.Format.{valueIn, bodyOf};
 ghost use Rattle.ucp_kinds.specs.Control45.{controlFormat};
 ghost use Rattle.c_lent.specs.Reads.{ReadsInto};
 ghost use Rattle.c_lent.specs.Writes.{WritesStructBody};
+ghost use Rattle.c_lent.specs.Sends.{SendsStruct};
 ghost use Rattle.c_lent.specs.Structs.{isYes, stored, held};
 ghost use Rattle.c_ucp_control.specs.Struct.{controlStruct, controlState};
-ghost use Rattle.c_ucp_control.specs.Sends.{SendsControl};
 
 // ---- reading
 
@@ -190,7 +190,7 @@ fn put_frame(message: &[u8], buffer: &mut [u8]) -> usize
 
 fn send(message: &[u8], buffer: &mut [u8]) -> OstrogoszWritten
     requires { ⌜ (length (now message) ≡ 24) × (length (now buffer) ≡ 878) ⌝ }
-    ensures { λ r. ⌜ SendsControl (held controlStruct (now (message .entry))) (now (buffer .entry)) r (now (buffer .exit)) ⌝ }
+    ensures { λ r. ⌜ SendsStruct controlFormat (held controlStruct (now (message .entry))) (now (buffer .entry)) r (now (buffer .exit)) ⌝ }
 {
     if !(numbers_fit(message) & field_texts::pairs::is_padded_at(message, 15)) {
         return OstrogoszWritten {
@@ -210,7 +210,7 @@ pub extern "C" fn ostrogosz_ucp_send_control(
     message: &[u8; 24],
     buffer: &mut FrameBuffer,
 ) -> OstrogoszWritten
-    ensures { λ r. ⌜ SendsControl (held controlStruct (now (message .entry))) (now (buffer .entry)) r (now (buffer .exit)) ⌝ }
+    ensures { λ r. ⌜ SendsStruct controlFormat (held controlStruct (now (message .entry))) (now (buffer .entry)) r (now (buffer .exit)) ⌝ }
 {
     send(message, buffer)
 }

@@ -5,7 +5,7 @@ use Rattle.ucp_frame.specs.Frame.{frame}
 use Rattle.ucp_messages.specs.declared.Message.{Message}
 use Rattle.ucp_messages.specs.Messages.{messageFits, messageBody}
 use Rattle.ucp_answers.specs.Writes.{bodyDue}
-use Rattle.ucp_send.specs.Sends.{sendDue}
+use Rattle.ucp_writer.specs.Sends.{sendDue}
 use Rattle.output_writing.specs.declared.OstrogoszWritten.{OstrogoszWritten}
 use Rattle.output_writing.specs.Writing.{WritingNumbers}
 
@@ -17,4 +17,4 @@ WritesBodyForC message payload output =
 -- the same of the frame
 abbrev pub SendsFrameForC : Message → List ℕ → List ℕ → OstrogoszWritten → List ℕ → Type 0
 SendsFrameForC message payload buffer =
-    WritingNumbers (sendDue message payload buffer) (frame (messageBody message payload)) buffer
+    WritingNumbers (sendDue (messageFits message payload) (messageBody message payload) buffer) (frame (messageBody message payload)) buffer

@@ -15,12 +15,12 @@ use Rattle.thm_ucp_receiver.specs.Promises.{AnswersAs, frameAnswer}
 use Rattle.thm_ucp_receiver.proofs.Frames.{frame-is-put-out}
 use Rattle.ucp_messages.specs.declared.Message.{Message}
 use Rattle.ucp_messages.specs.Messages.{messageFits, messageBody}
-use Rattle.ucp_send.specs.Sends.{sendDue}
+use Rattle.ucp_writer.specs.Sends.{sendDue}
 use Rattle.output_writing.specs.Writing.{refused, wrote, outputAfter}
 use Rattle.thm_ucp_messages.specs.Delivery.{SentIsDelivered}
 
 -- an accepted call: the fields fit, and the frame writer accepted the body
-accepted : (m : Message) (payload buffer : List ℕ) (octets : ℕ) → sendDue m payload buffer ≡ wrote octets
+accepted : (m : Message) (payload buffer : List ℕ) (octets : ℕ) → sendDue (messageFits m payload) (messageBody m payload) buffer ≡ wrote octets
     → (messageFits m payload ≡ true) × (wrote octets ≡ frameDue (messageBody m payload) buffer)
 unfolding sendDue
 accepted m payload buffer octets = go (messageFits m payload)

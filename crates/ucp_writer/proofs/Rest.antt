@@ -103,7 +103,7 @@ number-halves word =
     ∙ ap (λ (n : ℕ). stuffed (octetsUp 4 word) ++ stuffed (octetsUp 4 n)) upper
 
 -- ---- the octets of a number, one by one
-number-first : (left word : ℕ) → 0 < left
+pub number-first : (left word : ℕ) → 0 < left
     → stuffed (octetsUp left word) ≡ escaped (word % 256) ++ stuffed (octetsUp (left - 1) (word / 256))
 unfolding stuffed octetsUp
 number-first zero word h = absurd (omega arith)

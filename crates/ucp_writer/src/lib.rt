@@ -1,8 +1,10 @@
 // The frame writer: one call makes a frame of a body.
+mod in_place;
 mod plain;
 pub mod room;
 
 use output_writing::Written;
+use ucp_frame::FrameBuffer;
 ghost use mathlib.Core.Path.{_≡_};
 ghost use mathlib.Core.List.{_++_};
 ghost use Prim.Native.Nat.{_+_, _-_, _%_, _<_, _≤_};
@@ -11,7 +13,7 @@ ghost use Rattle.field_words.specs.Words.{octetsUp};
 ghost use Rattle.ucp_frame.specs.Frame.{escaped, stuffed, frame};
 ghost use Rattle.ucp_writer.specs.Steps.{frameEnd, frameRest};
 ghost use Rattle.output_writing.specs.Puts.{Puts};
-ghost use Rattle.ucp_writer.specs.Writes.{WritesFrame};
+ghost use Rattle.ucp_writer.specs.Writes.{WritesFrame, FramesInPlace};
 
 // Writes the frame of body at the start of output. Refusals: 7, a body of 0 or more than 436 octets; 8, an output shorter than
 // the frame. On a refusal nothing is written.
@@ -23,6 +25,14 @@ pub fn write_frame(body: &[u8], output: &mut [u8]) -> Written
         return Written::Refused(refusal);
     }
     Written::Wrote(fill(body, output))
+}
+
+// Makes of the body in the first octets of buffer its frame, where it lies, so that no body needs a place of its own: how many octets
+// the frame has. For 0 or more than 436 octets nothing is done, and it gives 0.
+pub fn frame_in_place(buffer: &mut FrameBuffer, octets: usize) -> usize
+    ensures { λ r. ⌜ FramesInPlace (now (buffer .entry)) octets r (now (buffer .exit)) ⌝ }
+{
+    in_place::frame_front(buffer, octets)
 }
 
 // Writes the frame of body at the start of output, which has room for it: one pass checks and stuffs.
