@@ -1,14 +1,13 @@
 -- The struct of 201 and its payload: the address has four octets in the one and three in the other, and the integrity stands in
 -- different places. Assumes nothing.
 use mathlib.Core.Path.{_≡_, refl, sym, ap, ap₂, _∙_, subst}
-use mathlib.Core.Bool.{Bool, true, cond}
+use mathlib.Core.Bool.{Bool, true}
 use mathlib.Core.List.{List, [], _∷_, _++_}
 use Prim.Native.Nat.{ℕ, zero, suc, _+_, _*_, _<_, _≤_}
 use native.Mathlib.Omega.{arith}
-use borrow.Author.Tests.{le-leb, ltb-true}
-use lib.Dec.{leb}
+use borrow.Author.Tests.{ltb-true}
 use lib.ListN.{length, getD, set, take, drop, take-append-drop, replicate}
-use lib.Seq.{sets, take-at, drop-at, drop-drop, length-take-le}
+use lib.Seq.{sets, paste, take-at, drop-at, drop-drop, length-take-le}
 use Rattle.crc_polynomial.specs.Polynomial.{Octets}
 use Rattle.field_layout.specs.Layout.{low, layoutOctets, textAt}
 use Rattle.field_layout.specs.Steps.{little24, little32}
@@ -84,17 +83,11 @@ three a b c d la lb lc small =
     ∙ octets-fields (low 3 ∷ []) (a ∷ b ∷ c ∷ []) tt (three-octets a b c la lb lc) refl
 
 -- ---- the struct's octets, from a payload's
-pub static-stored : (p : List ℕ) → Octets p → length p ≡ 19 → {r : Bool} {after : List ℕ} → r ≡ leb (length p) 20
-    → after ≡ cond r (p ++ drop (length p) (replicate 20 0)) (replicate 20 0)
+pub static-stored : (p : List ℕ) → Octets p → length p ≡ 19 → {after : List ℕ} → after ≡ paste (replicate 20 0) 0 p (length p)
     → set (set after 3 0) 19 (getD p 3 0) ≡ stored staticStruct (valueIn staticFormat p)
 unfolding stored valueIn
-static-stored p is n {r} fits put =
-    let yes : r ≡ true = fits ∙ le-leb (length p) 20 (omega arith) in
-    let all =
-    put
-    ∙ ap (λ (t : Bool). cond t (p ++ drop (length p) (replicate 20 0)) (replicate 20 0)) yes
-    ∙ ap₂ (λ (xs : List ℕ) (k : ℕ). xs ++ drop k (replicate 20 0)) (by-elements 19 p n) n
-    in
+static-stored p is n put =
+    let all = put ∙ ap₂ (λ (xs : List ℕ) (k : ℕ). paste (replicate 20 0) 0 xs k) (by-elements 19 p n) n in
     let address = four (getD p 0 0) (getD p 1 0) (getD p 2 0) (is 0) (is 1) (is 2) in
     let stall = two (getD p 4 0) (getD p 5 0) (is 4) (is 5) in
     ap (λ (xs : List ℕ). set (set xs 3 0) 19 (getD p 3 0)) all

@@ -1,14 +1,11 @@
 -- A struct that lies as its payload does, with padding behind: what it holds is what the payload carries. Proved once for every
 -- such struct. Assumes nothing.
-use mathlib.Core.Path.{_≡_, refl, sym, ap, _∙_}
-use mathlib.Core.Bool.{Bool, true, cond}
+use mathlib.Core.Path.{_≡_, refl, sym, ap, ap₂, _∙_}
 use mathlib.Core.List.{List, [], _++_}
-use Prim.Native.Nat.{ℕ, _+_, _≤_}
+use Prim.Native.Nat.{ℕ, _+_}
 use native.Mathlib.Omega.{arith}
-use borrow.Author.Tests.{le-leb}
-use lib.Dec.{leb}
 use lib.ListN.{length, take, drop, replicate}
-use lib.Seq.{length-take-le}
+use lib.Seq.{paste, take-length, length-take-le}
 use Rattle.crc_polynomial.specs.Polynomial.{Octets}
 use Rattle.field_layout.proofs.Elements.{elements, by-elements}
 use Rattle.field_format.specs.Format.{Format, bodyOf, valueIn}
@@ -38,15 +35,13 @@ module _ {A : Type 0} {f : Format A} {s : Struct A} {n pad : ℕ} (as-payload : 
       sym (as-payload .again (take n m) (part-octets n 0 m (omega arith) is) (length-take-le n m (omega arith)))
       ∙ ap (bodyOf f) (sym (as-payload .holds m e))
 
-  -- a payload that is stored at the start of a struct whose padding is zero
-  pub filled : (p before : List ℕ) → Octets p → length p ≡ n → n ≤ length before → drop n before ≡ replicate pad 0
-      → {r : Bool} {after : List ℕ} → r ≡ leb (length p) (length before)
-      → after ≡ cond r (p ++ drop (length p) before) before → after ≡ stored s (valueIn f p)
-  filled p before is e room zeros {r} fits put =
-      let yes : r ≡ true = fits ∙ le-leb (length p) (length before) (omega arith) in
+  -- a payload that is copied to the start of a struct whose padding is zero
+  pub filled : (p before : List ℕ) → Octets p → length p ≡ n → drop n before ≡ replicate pad 0
+      → {after : List ℕ} → after ≡ paste before 0 p (length p) → after ≡ stored s (valueIn f p)
+  filled p before is e zeros put =
+      let m : 0 + length p ≡ n = omega arith in
       put
-      ∙ ap (λ (b : Bool). cond b (p ++ drop (length p) before) before) yes
-      ∙ ap (λ (xs : List ℕ). p ++ xs) (ap (λ (m : ℕ). drop m before) e ∙ zeros)
+      ∙ ap₂ (λ (xs ys : List ℕ). xs ++ ys) (take-length p) (ap (λ (k : ℕ). drop k before) m ∙ zeros)
       ∙ payload-stored p is e
 
 -- what a struct holds, octet by octet

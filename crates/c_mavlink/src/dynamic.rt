@@ -39,7 +39,7 @@ pub extern "C" fn ostrogosz_mavlink_read_dynamic(
     }
     *message = [0; 44];
     super::frames::put_sender(input, header);
-    field_layout::store(&input[6..48], message);
+    field_words::copies::copy(&input[6..48], message, 0);
     0
 }
 

@@ -38,7 +38,7 @@ fn fill(input: &[u8], message: &mut [u8; 20])
     ensures { λ r. ⌜ now (message .exit) ≡ stored staticStruct (valueIn staticFormat (payloadAt 19 (now (input .entry)))) ⌝ }
 {
     *message = [0; 20];
-    field_layout::store(&input[6..25], message);
+    field_words::copies::copy(&input[6..25], message, 0);
     message[3] = 0;
     message[19] = input[9];
 }

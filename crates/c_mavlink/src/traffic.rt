@@ -36,7 +36,7 @@ pub extern "C" fn ostrogosz_mavlink_read_traffic(
     }
     *message = [0; 40];
     super::frames::put_sender(input, header);
-    field_layout::store(&input[6..44], message);
+    field_words::copies::copy(&input[6..44], message, 0);
     0
 }
 

@@ -7,7 +7,7 @@ ghost use mathlib.Core.Path.{_≡_};
 ghost use mathlib.Core.List.{[], _∷_, _++_};
 ghost use Prim.Native.Nat.{_+_, _-_, _≤_};
 ghost use lib.ListN.{length, take, drop};
-ghost use lib.Seq.{sets, paste};
+ghost use lib.Seq.{sets};
 ghost use Rattle.output_writing.specs.Writing.{Writing};
 ghost use Rattle.crc_x25.specs.Check.{x25Octets};
 ghost use Rattle.mavlink_frame.specs.Frame.{headerOctets, mavlinkFrame};
@@ -43,7 +43,7 @@ fn fill(kind: Kind, header: Header, payload: &[u8], output: &mut [u8])
     requires { ⌜ (length (now payload) ≡ kind .length) × (length (now payload) + 8 ≤ length (now output)) ⌝ }
     ensures { λ r. ⌜ now (output .exit) ≡ mavlinkFrame kind header (now (payload .entry)) ++ drop (length (now (payload .entry)) + 8) (now (output .entry)) ⌝ }
 {
-    put_payload(payload, output);
+    field_words::copies::copy(payload, output, 6);
     surround(kind, header, output);
 }
 
@@ -66,17 +66,6 @@ fn put_header(kind: Kind, header: Header, output: &mut [u8])
     output[3] = header.system;
     output[4] = header.component;
     output[5] = kind.id;
-}
-
-fn put_payload(payload: &[u8], output: &mut [u8])
-    requires { ⌜ length (now payload) + 8 ≤ length (now output) ⌝ }
-    ensures { λ r. ⌜ now (output .exit) ≡ paste (now (output .entry)) 6 (now (payload .entry)) (length (now (payload .entry))) ⌝ }
-{
-    let mut i = 0;
-    while i < payload.len() {
-        output[6 + i] = payload[i];
-        i += 1;
-    }
 }
 
 // Puts the check of the octets from 1 on behind them, low octet first.

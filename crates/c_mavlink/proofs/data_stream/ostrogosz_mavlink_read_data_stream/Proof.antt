@@ -33,7 +33,7 @@ returns-2 c =
     let before = now (c .before .before .before .before .before .before .before .before .args .message) in
     read _ _ (kind 66 6 148) dataStreamFormat DataStream (λ h used p. refl) input (taken e) refl (c .before .before .before .put-sender .ensures)
     (filled data-stream-lies (payloadAt 6 input) before (part-octets 6 6 input (omega (arith, room e)) (λ i. c .before .before .before .before .before .before .before .shared-slice-known .given i .fits))
-    (payload-length 6 input (room e)) (omega arith) (drop-of-length-le before {i = 6} (omega arith)) (c .store .ensures .0) (c .store .ensures .1))
+    (payload-length 6 input (room e)) (drop-of-length-le before {i = 6} (omega arith)) (c .copy .ensures))
 
 pub ostrogosz-mavlink-read-data-stream-spec : {M : Type 1} → statement M
 ostrogosz-mavlink-read-data-stream-spec =

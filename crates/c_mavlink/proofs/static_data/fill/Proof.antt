@@ -17,9 +17,9 @@ returns c =
     let s = c .before .before .before .before .before .before in
     let input = now (s .args .input) in
     let integrity = sym (getD-drop 6 input 3 0) ∙ sym (getD-take 19 (drop 6 input) 3 0 (omega arith)) in
-    ap (λ (n : ℕ). set (set (c .before .store .last .1 .0) 3 0) 19 n) integrity
+    ap (λ (n : ℕ). set (set (c .before .copy .last .1 .0) 3 0) 19 n) integrity
     ∙ static-stored (payloadAt 19 input) (part-octets 19 6 input (omega (arith, s .pre)) (λ i. c .before .before .before .before .before .shared-slice-known .given i .fits)) (payload-length 19 input (s .pre))
-    (c .before .store .ensures .0) (c .before .store .ensures .1)
+    (c .before .copy .ensures)
 
 pub fill-spec : {M : Type 1} → statement M
 fill-spec = tie.close (tie.spec (λ c. search needs) (λ c. search needs) (λ c. search needs) (λ c κs. search needs) (λ c. search needs) (λ c. search needs) (λ c. search needs) returns)

@@ -33,7 +33,7 @@ returns-2 c =
     let before = now (c .before .before .before .before .before .before .before .before .args .message) in
     read _ _ (kind 203 1 85) statusFormat Status (λ h used p. refl) input (taken e) refl (c .before .before .before .put-sender .ensures)
     (filled status-lies (payloadAt 1 input) before (part-octets 1 6 input (omega (arith, room e)) (λ i. c .before .before .before .before .before .before .before .shared-slice-known .given i .fits))
-    (payload-length 1 input (room e)) (omega arith) (drop-of-length-le before {i = 1} (omega arith)) (c .store .ensures .0) (c .store .ensures .1))
+    (payload-length 1 input (room e)) (drop-of-length-le before {i = 1} (omega arith)) (c .copy .ensures))
 
 pub ostrogosz-mavlink-read-status-spec : {M : Type 1} → statement M
 ostrogosz-mavlink-read-status-spec =

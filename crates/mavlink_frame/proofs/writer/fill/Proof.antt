@@ -20,7 +20,7 @@ returns c =
     let p = now (s .args .payload) in
     let o = now (s .args .output) in
     let room = s .pre .1 in
-    let put = c .before .before .before .before .before .before .put-payload .ensures in
+    let put = c .before .before .before .before .before .before .copy .ensures in
     c .before .before .surround .ensures
     ∙ ap₂ (λ (n : ℕ) (mid : List ℕ). mavlinkFrame k h (payloadAt n mid) ++ drop (n + 8) mid) (sym (s .pre .0)) put
     ∙ ap₂ (λ (q behind : List ℕ). mavlinkFrame k h q ++ behind) (payload-pasted p o room) (behind-pasted p o room)
