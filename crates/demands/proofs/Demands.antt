@@ -28,16 +28,19 @@ use Rattle.ucp_receiver.specs.Answers as receiver-answers
 use Rattle.ucp_receiver.specs.Answers.{nothing, refusal, answerFor}
 use Rattle.ucp_receiver.specs.Octet.{verdictDue}
 use Rattle.crc_gdl90_strength.proofs.Caught.{strength}
+use Rattle.crc_gdl90_strength.proofs.Premises.{premises-met}
+use Rattle.thm_ucp_examples.proofs.LinePremises.{ends-in-met, slice-line-met, writer-call-met}
 use Rattle.thm_ucp_writer.proofs.Calls.{writer-lists}
 use Rattle.thm_ucp_receiver.specs.Line.{Line}
 use Rattle.thm_ucp_receiver.proofs.Promises.{answers, counts, every-octet-counted, store-clean, store-by-history, hunting-stores-nothing, flag-clears, later-only}
+use Rattle.thm_ucp_receiver.proofs.Lines.{every-line}
 use Rattle.thm_ucp_receiver.proofs.Slice.{line-of-slices, slice-is-call}
 use Rattle.thm_ucp_receiver.proofs.Stretch.{stretch-is-answered}
 use Rattle.thm_ucp_receiver.proofs.Frames.{put-out-is-frame, frame-is-put-out, wrong-check-refused}
 use Rattle.thm_c_ucp.proofs.Receiver.{linked-lines, linked-answers, linked-counts, linked-store, linked-receiver-lists}
 use Rattle.thm_c_ucp.proofs.Slices.{linked-slice-lines, linked-slice-is-call}
 use Rattle.thm_c_ucp.proofs.Writer.{linked-writer, linked-writer-lists}
-use Rattle.demands.specs.Demands.{TableNumbers, Demand1, Demand2, Demand3, ReceiverLists}
+use Rattle.demands.specs.Demands.{TableNumbers, Demand1, Demand2, Demand3, ReceiverLists, PremisesTied}
 use Rattle.demands.proofs.Refusals.{Tabled, quiet, numbered, whole, tabled}
 
 -- an answer that is the one due is a refusal when that is
@@ -157,4 +160,14 @@ demand3 =
       writer = writer-lists;
       linkedReceiver = linked-receiver-lists;
       linkedWriter = linked-writer-lists;
+    }
+
+pub premises-tied : PremisesTied
+premises-tied =
+    record {
+      bodies = premises-met;
+      lines = every-line;
+      endsIn = ends-in-met;
+      sliceLine = slice-line-met;
+      writerCalls = writer-call-met;
     }

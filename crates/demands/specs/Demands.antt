@@ -45,8 +45,11 @@ use Rattle.ucp_messages.specs.Kinds.{kindIn}
 use Rattle.ucp_messages.specs.Messages as Reads
 use Rattle.ucp_messages.specs.Refusals.{UnknownId, WrongMessageLength, WrongFixedOctet, FieldOutsideRange}
 use Rattle.ucp_answers.specs.Writes as Message
+use Rattle.crc_gdl90_strength.specs.Premises.{PremisesMet}
+use Rattle.thm_ucp_examples.specs.LinePremises.{EndsInMet, SliceLineMet, WriterCallMet}
 use Rattle.thm_ucp_writer.specs.Calls.{WriterLists}
 use Rattle.thm_ucp_receiver.specs.Line.{Observed, callOf, upTo, Line}
+use Rattle.thm_ucp_receiver.specs.Lines.{EveryLine}
 use Rattle.thm_ucp_receiver.specs.Slice.{LineOfSlices, SliceIsCall}
 use Rattle.thm_c_ucp.specs.Receiver.{LinkedLines, LinkedAnswersByHistory, LinkedCountsByHistory, LinkedStoreByHistory, LinkedReceiverLists}
 use Rattle.thm_c_ucp.specs.Slices.{LinkedSliceLines, LinkedSliceIsCall}
@@ -204,3 +207,12 @@ pub record Demand3 : Type 0 where
   pub writer : WriterLists
   pub linkedReceiver : LinkedReceiverLists
   pub linkedWriter : LinkedWriterLists
+
+-- What these demands suppose is met by some calls, and not by all: bodies at each edge of demand 3, a line that ends in a frame, a
+-- line in slices of which one is answered, calls of the writer of which one is accepted; and every list of octets is a line.
+pub record PremisesTied : Type 0 where
+  pub bodies : PremisesMet
+  pub lines : EveryLine
+  pub endsIn : EndsInMet
+  pub sliceLine : SliceLineMet
+  pub writerCalls : WriterCallMet
