@@ -50,10 +50,34 @@ static void turn_round(void)
 
 #define ROOM sizeof lent.output
 
+/* With the second secret, octets about the identity need an escape. */
 static void fill_report(void)
 {
+    uint8_t near = secret == 0 ? 0x11 : 0x7E;
     put_address(&lent.report.address);
     put_identity(lent.report.callsign);
+    lent.report.track = lent.report.emitter = near;
+    lent.report.emergency = near >> 4;
+    lent.report.spare = near & 15;
+}
+
+static void fill_initialization(void)
+{
+    put_address(&lent.initialization.address);
+    put_identity(lent.initialization.callsign);
+    lent.initialization.stall_speed = secret == 0 ? 0x11 : 0x7D;
+}
+
+static void fill_control(void)
+{
+    put_identity(lent.control.identity);
+    lent.control.emergency = secret == 0 ? 0x11 : 0x7E;
+}
+
+static void fill_payload(void)
+{
+    put_identity(lent.payload + 100);
+    lent.payload[99] = lent.payload[108] = secret == 0 ? 0x11 : 0x7D;
 }
 
 static void write_ownship(void)
@@ -70,21 +94,20 @@ static void write_traffic(void)
 
 static void write_control(void)
 {
-    put_identity(lent.control.identity);
+    fill_control();
     take(ostrogosz_ucp_write_control(&lent.control, lent.output, ROOM));
 }
 
 static void write_initialization(void)
 {
-    put_address(&lent.initialization.address);
-    put_identity(lent.initialization.callsign);
+    fill_initialization();
     take(ostrogosz_ucp_write_initialization(&lent.initialization, lent.output,
                                             ROOM));
 }
 
 static void write_uplink(void)
 {
-    put_identity(lent.payload + 100);
+    fill_payload();
     take(ostrogosz_ucp_write_uplink(lent.payload, sizeof lent.payload,
                                     lent.output, ROOM));
 }
@@ -103,20 +126,19 @@ static void send_traffic(void)
 
 static void send_control(void)
 {
-    put_identity(lent.control.identity);
+    fill_control();
     take(ostrogosz_ucp_send_control(&lent.control, lent.output));
 }
 
 static void send_initialization(void)
 {
-    put_address(&lent.initialization.address);
-    put_identity(lent.initialization.callsign);
+    fill_initialization();
     take(ostrogosz_ucp_send_initialization(&lent.initialization, lent.output));
 }
 
 static void send_uplink(void)
 {
-    put_identity(lent.payload + 100);
+    fill_payload();
     take(ostrogosz_ucp_send_uplink(lent.payload, sizeof lent.payload,
                                    lent.output));
 }
@@ -327,12 +349,24 @@ static struct traces left(void)
     return found;
 }
 
+/* The stack below, as a call left it: looking through memory takes stack too,
+ * and would cover what was left. */
+static uint8_t below[1 << 15];
+
 /* What one call leaves once the lent memory is cleared. */
 static struct traces left_by(void (*call)(void), int clears)
 {
+    volatile uint8_t here = 0;
+    const volatile uint8_t *stack = &here;
+    size_t i;
     accepted = 1;
     wipe(&lent, sizeof lent);
+    wipe(below, sizeof below);
     call();
+    for (i = 0; i < sizeof below; i++) {
+        ((volatile uint8_t *)below)[sizeof below - 1 - i] =
+            *(const volatile uint8_t *)((uintptr_t)stack - 1 - i);
+    }
     EXPECT(accepted);
     if (clears) {
         wipe(&lent, sizeof lent);

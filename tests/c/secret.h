@@ -25,10 +25,10 @@ static inline uint8_t identity_octet(size_t place)
     return (uint8_t)('A' + (place * (secret == 0 ? 7 : 11) + 5) % 26);
 }
 
-/* The least significant octet first. */
+/* The least significant octet first; the second secret's has a 7E. */
 static inline uint8_t address_octet(size_t place)
 {
-    return (uint8_t)((secret == 0 ? 0xD3 : 0x9B) - 23 * place);
+    return (uint8_t)((secret == 0 ? 0xD3 : 0x95) - 23 * place);
 }
 
 static inline void put_identity(uint8_t *text)
