@@ -25,7 +25,7 @@ record-back receiver =
     ap (λ (p : Phase). record { rest = record { phase = p; stored = receiver .rest .stored }; counts = receiver .counts })
     (phase-back (receiver .rest .phase))
 
-answer-back : (a : Answer) → answerIn (answerKind a) (answerValue a) ≡ a
+pub answer-back : (a : Answer) → answerIn (answerKind a) (answerValue a) ≡ a
 answer-back Nothing = refl
 answer-back (Delivered octets) = refl
 answer-back (Refused number) = refl

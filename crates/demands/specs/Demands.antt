@@ -51,7 +51,10 @@ use Rattle.thm_ucp_writer.specs.Calls.{WriterLists}
 use Rattle.thm_ucp_receiver.specs.Line.{Observed, callOf, upTo, Line}
 use Rattle.thm_ucp_receiver.specs.Lines.{EveryLine}
 use Rattle.thm_ucp_receiver.specs.Slice.{LineOfSlices, SliceIsCall}
-use Rattle.thm_c_ucp.specs.Receiver.{LinkedLines, LinkedAnswersByHistory, LinkedCountsByHistory, LinkedStoreByHistory, LinkedReceiverLists}
+use Rattle.output_writing.specs.declared.OstrogoszWritten.{OstrogoszWritten}
+use Rattle.c_ucp_frames.specs.Frames.{WritesFrameNumbers}
+use Rattle.c_ucp_receiver.specs.Numbers.{ReceivesNumbers}
+use Rattle.thm_c_ucp.specs.Receiver.{LinkedLines, LinkedAnswersByHistory, LinkedCountsByHistory, LinkedStoreByHistory, LinkedFlagClears, LinkedLaterOnly, LinkedPutOutIsFrame, LinkedFrameIsPutOut, LinkedReceiverLists}
 use Rattle.thm_c_ucp.specs.Slices.{LinkedSliceLines, LinkedSliceIsCall}
 use Rattle.thm_c_ucp.specs.Writer.{LinkedWriter, LinkedWriterLists}
 use Rattle.thm_ucp_receiver.specs.Promises.{AnswersAs, AnswersByHistory, StretchIsAnswered, CountsByHistory, EveryOctetCounted, StoreClean, StoreByHistory, HuntingStoresNothing, FlagClears, LaterOnly, PutOutIsFrame, FrameIsPutOut, EndsIn, carrying}
@@ -67,13 +70,13 @@ pub record TableNumbers : Type 0 where
       (because.mavlinkShort ≡ 20) × (because.mavlinkStart ≡ 21) × (because.mavlinkUnknownId ≡ 22) × (because.mavlinkLength ≡ 23)
       × (because.mavlinkWrongCheck ≡ 24) × (because.mavlinkField ≡ 25)
 
--- Demand 1. Bad input gets a numbered refusal under the conditions of document 01 and no others (the receiver's conditions are
--- `answersByHistory` of demand 2; each of the readers' is spelled in its room's specs/Refusals.antt), and a refusal changes no
--- octet of the lent output, whichever writer gives it. The store is the history's: before the first flag nothing is stored, then
--- the open stretch unstuffed as far as its first fault, and zero behind. At every flag, counts excepted, the store is all zero, the rest of the
--- record is one fixed value, and what the line answers from there on depends only on later octets, for the same room lent. The
--- calls that are linked are these calls in C's numbers: lists of them are lines, lines driven by slices, and the writer's lists.
+-- Demand 1. Each clause stands below the tender's sentence, in its words. "Every call on every input returns, with no undefined
+-- step": see above. The calls that are linked are the others in C's numbers, so that what is said of lines and of the writer holds
+-- of them.
 pub record Demand1 : Type 0 where
+  -- "Bad input gets a numbered refusal under the conditions in document 01, and no others": the numbers; the frame writer; then the
+  -- readers and writers of messages, whose conditions are spelled in their rooms' specs/Refusals.antt; then the receiver, whose
+  -- conditions are `answersByHistory` of demand 2
   pub numbers : TableNumbers
   pub writerRefuses7 :
       (body output after : List ℕ) (r : Written) → WritesFrame body output r after
@@ -85,6 +88,7 @@ pub record Demand1 : Type 0 where
   pub writerRefuses :
       (body output after : List ℕ) (r : Written) (number : ℕ) → WritesFrame body output r after → writerAnswer r ≡ refused number
       → ((number ≡ because.bodyLength) ⊎ (number ≡ because.outputLength)) × (after ≡ output)
+  -- "A refusal changes no byte of the lent output", whichever writer gives it
   pub refusalWritesNothing :
       (due : WriterAnswer) (octets output after : List ℕ) (r : Written) (number : ℕ) → Writing due octets output r after
       → writerAnswer r ≡ refused number → after ≡ output
@@ -135,52 +139,77 @@ pub record Demand1 : Type 0 where
       (storeAfter outputThen : List ℕ) (number : ℕ)
       → Receives receiver store octet output given storeAfter outputThen
       → receiver-answers.receiverAnswer (given .answer) ≡ refusal number → (1 ≤ number) × (number ≤ 6) × (outputThen ≡ output)
+  -- nor does a call without an answer
   pub receiverIsSilent :
       (receiver : Record) (store : List ℕ) (octet : ℕ) (output : List ℕ) (given : Received)
       (storeAfter outputThen : List ℕ)
       → Receives receiver store octet output given storeAfter outputThen
       → receiver-answers.receiverAnswer (given .answer) ≡ nothing → outputThen ≡ output
+  -- "At every flag, line counts excepted, the store is all zero, the rest of the receiver's record is one fixed value"
   pub flagClears : FlagClears
+  -- document 01 on the store: before the first flag nothing, then the open stretch unstuffed as far as its first fault, and zero behind
   pub storeByHistory : StoreByHistory
   pub huntingStoresNothing : HuntingStoresNothing
   pub storeClean : StoreClean
+  -- "and what the line answers from there on depends only on later bytes, for the same room lent"
   pub laterOnly : LaterOnly
+  -- of the linked calls: lists of them are lines, lines driven by slices, and the writer's lists
   pub linkedReceiverIsLine : LinkedLines
   pub linkedSlicesAreLine : LinkedSliceLines
-  pub linkedStoreByHistory : LinkedStoreByHistory
   pub linkedWriterIsWriter : LinkedWriter
+  pub linkedReceiverRefuses :
+      (store line : List ℕ) (octet : ℕ) (output : List ℕ) (kind value : ℕ) (storeAfter lineAfter outputThen : List ℕ)
+      → ReceivesNumbers store line octet output kind value storeAfter lineAfter outputThen
+      → kind ≡ 2 → (1 ≤ value) × (value ≤ 6) × (outputThen ≡ output)
+  pub linkedReceiverIsSilent :
+      (store line : List ℕ) (octet : ℕ) (output : List ℕ) (kind value : ℕ) (storeAfter lineAfter outputThen : List ℕ)
+      → ReceivesNumbers store line octet output kind value storeAfter lineAfter outputThen
+      → kind ≡ 0 → (value ≡ 0) × (outputThen ≡ output)
+  pub linkedWriterRefuses :
+      (body output after : List ℕ) (given : OstrogoszWritten) → WritesFrameNumbers body output given after
+      → (given .refusal ≡ 0 → ⊥)
+      → ((given .refusal ≡ because.bodyLength) ⊎ (given .refusal ≡ because.outputLength)) × (given .length ≡ 0) × (after ≡ output)
+  pub linkedFlagClears : LinkedFlagClears
+  pub linkedStoreByHistory : LinkedStoreByHistory
+  pub linkedLaterOnly : LinkedLaterOnly
 
--- Demand 2. The check of every body is the remainder: the body as a polynomial is the quotient times the generator plus it, and
--- its degree is under 16; MAVLink's is what 001's code computes. A body of 1 to 436 octets with room for its frame is written,
--- and that exactly; every call of the receiver answers as the rules say of the history, and a stretch with an octet in it is
--- answered; each frame delivered writes back to the same octets, and each frame written is delivered; every octet received is
--- counted once, under the class that its history gives. A line that is taken in slices is such a line of calls by the octet,
--- with the same answers, outputs and records. A linked call's numbers are those of the answer and the counts that the history
--- gives. On both lines each written message reads back equal, and each accepted one writes
--- back to the same octets; a message sent on the UCP line is delivered, and means the same.
+-- Demand 2. "Frames, checks and messages are those of the GDL90 public document, the maker's UCP control document and its MAVLink
+-- pages, as document 01 states them."
 pub record Demand2 : Type 0 where
+  -- the check of every body is the remainder: the body as a polynomial is the quotient times the generator plus it, and its degree
+  -- is under 16; MAVLink's is what 001's code computes
   pub checkIsRemainder :
       (body : List ℕ)
       → (polynomial 0 (bitsOfOctets body) ≡ bitXor (timesGenerator 0 (quotient (bitsOfOctets body))) (frameCheck body))
       × (frameCheck body < degree16)
   pub x25IsCode : (octets : List ℕ) → Octets octets → crcCalculate octets ≡ x25 octets
+  -- a body of 1 to 436 octets with room for its frame is written, and that exactly
   pub writes :
       (body output after : List ℕ) (r : Written) → WritesFrame body output r after
       → 1 ≤ length body → length body ≤ longestBody → length (frame body) ≤ length output
       → (writerAnswer r ≡ wrote (length (frame body)))
       × (after ≡ frame body ++ drop (length (frame body)) output)
       × (length (frame body) ≤ longestFrame)
+  -- every call of the receiver answers as the rules say of the history, and a stretch with an octet in it is answered
   pub answersByHistory : AnswersByHistory
   pub stretchIsAnswered : StretchIsAnswered
+  -- "each frame delivered writes back to the same bytes", and each frame written is delivered
   pub deliveredIsFrame : PutOutIsFrame
   pub frameIsDelivered : FrameIsPutOut
+  -- "Every byte received on the UCP line is counted once, under the class its history gives"
   pub countsByHistory : CountsByHistory
   pub everyOctetCounted : EveryOctetCounted
+  -- a line that is taken in slices is such a line of calls by the octet, with the same answers, outputs and records
   pub slicesAreCalls : LineOfSlices
   pub sliceEndsAsCall : SliceIsCall
+  -- of the linked calls: their numbers are those of the answer and of the counts that the history gives
   pub linkedAnswersByHistory : LinkedAnswersByHistory
+  pub linkedDeliveredIsFrame : LinkedPutOutIsFrame
+  pub linkedFrameIsDelivered : LinkedFrameIsPutOut
   pub linkedCountsByHistory : LinkedCountsByHistory
   pub linkedSliceEndsAsCall : LinkedSliceIsCall
+  -- "Each written message reads back equal", and each accepted one writes back to the same octets, on both lines; a message sent on
+  -- the UCP line is delivered, and means the same
   pub messageReadsBack : message-trips.MessageReadsBack
   pub messageWritesBack : message-trips.MessageWritesBack
   pub uplinkReadsBack : message-trips.UplinkReadsBack
@@ -200,11 +229,18 @@ ReceiverLists =
     → EndsIn (carrying a b) (upTo before last)
     → receiver-answers.receiverAnswer (last .given .answer) ≡ refusal because.wrongCheck)
 
--- Demand 3. The check's strength, and with it the receiver's lists and the writer's; the same of lists of linked calls.
+-- Demand 3.
 pub record Demand3 : Type 0 where
+  -- "Take any two different message bodies of equal length, 1 to 436 bytes. If they differ in at most three bits, or all differing bits
+  -- lie in 16 consecutive bits counted most significant first, their GDL90 checks differ"
   pub check : Strength
+  -- "So a frame carrying one of them with the other's check gets refusal 5, whatever bytes the line brought before it and whatever
+  -- room is lent"
   pub receiver : ReceiverLists
+  -- "for every two lists of calls to the frame writer, refused ones included: if the bodies accepted aren't the same list, the line
+  -- bytes aren't the same either"
   pub writer : WriterLists
+  -- the same two of lists of linked calls
   pub linkedReceiver : LinkedReceiverLists
   pub linkedWriter : LinkedWriterLists
 

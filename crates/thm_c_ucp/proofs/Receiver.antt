@@ -1,24 +1,27 @@
 -- A linked line is a line in numbers, and what holds of lines is carried over. Assumes nothing.
 use mathlib.Core.Path.{_≡_, refl, sym, ap, subst, _∙_}
-use mathlib.Core.List.{List, [], _∷_, _++_, map, map-append}
+use mathlib.Core.List.{List, [], _∷_, _++_, map, map-append, append-assoc}
 use Prim.Native.Nat.{ℕ}
 use native.Mathlib.Omega.{arith}
+use lib.ListN.{getD, take}
 use Rattle.refusals.specs.Numbers as because
+use Rattle.ucp_frame.specs.Frame.{frame}
 use Rattle.ucp_frame.specs.Stretch.{Verdict, silent, refused, delivered}
 use Rattle.ucp_history.specs.History.{Call, answer}
 use Rattle.ucp_receiver.specs.declared.Answer.{Answer}
 use Rattle.ucp_receiver.specs.declared.Answer.the-variants.{Nothing, Delivered, Refused}
 use Rattle.ucp_receiver.specs.declared.Record.{Record}
+use Rattle.ucp_receiver.specs.declared.Rest.{Rest}
 use Rattle.ucp_receiver.specs.Answers.{ReceiverAnswer, nothing, refusal, body, receiverAnswer, answerFor}
 use Rattle.ucp_receiver.specs.Octet.{freshRecord, noOctets, Receives}
 use Rattle.crc_gdl90_strength.proofs.Caught.{strength}
-use Rattle.c_ucp_receiver.specs.Numbers.{recordIn, recordNumbers, answerIn, answerKind, answerValue, OwnNumbers}
-use Rattle.c_ucp_receiver.proofs.Numbers.{record-back, receives}
+use Rattle.c_ucp_receiver.specs.Numbers.{phaseNumber, recordIn, recordNumbers, answerIn, answerKind, answerValue, OwnNumbers}
+use Rattle.c_ucp_receiver.proofs.Numbers.{record-back, answer-back, receives}
 use Rattle.thm_ucp_receiver.specs.Line.{Observed, callOf, Runs, Line}
-use Rattle.thm_ucp_receiver.specs.Promises.{AnswersAs, CountsAs, StoreAs, EndsIn, carrying}
-use Rattle.thm_ucp_receiver.proofs.Promises.{answers, counts, store-by-history}
-use Rattle.thm_ucp_receiver.proofs.Frames.{wrong-check-refused}
-use Rattle.thm_c_ucp.specs.Receiver.{LinkedCall, LinkedRuns, LinkedLine, inNumbers, LinkedLines, linkedCallOf, kindDue, valueDue, LinkedAnswersAs, LinkedAnswersByHistory, LinkedCountsByHistory, LinkedStoreByHistory, LinkedReceiverLists}
+use Rattle.thm_ucp_receiver.specs.Promises.{AnswersAs, CountsAs, StoreAs, putOut, Seen, seen, EndsIn, BodyLength, carrying}
+use Rattle.thm_ucp_receiver.proofs.Promises.{answers, counts, store-by-history, flag-clears, later-only}
+use Rattle.thm_ucp_receiver.proofs.Frames.{put-out-is-frame, frame-is-put-out, wrong-check-refused}
+use Rattle.thm_c_ucp.specs.Receiver.{LinkedCall, LinkedRuns, LinkedLine, inNumbers, LinkedLines, linkedCallOf, kindDue, valueDue, LinkedAnswersAs, LinkedAnswersByHistory, LinkedCountsByHistory, LinkedStoreByHistory, LinkedFlagClears, LinkedSeen, linkedSeen, LinkedLaterOnly, LinkedPutOutIsFrame, LinkedFrameIsPutOut, LinkedReceiverLists}
 
 -- ---- the calls that the numbers stand for
 
@@ -153,6 +156,70 @@ pub linked-store : LinkedStoreByHistory
 linked-store before after c l =
     subst (λ (h : List Call). StoreAs (h ++ (linkedCallOf c ∷ [])) (observedIn c .given .receiver .rest .stored) (c .storeAfter)) (history before)
     (store-by-history (map observedIn before) (map observedIn after) (observedIn c) (split-line before after c l))
+
+pub linked-flag-clears : LinkedFlagClears
+linked-flag-clears store line output kind value storeAfter lineAfter outputThen r =
+    let k = flag-clears (recordIn line) store output _ storeAfter outputThen (r .received) in
+    let own = r .written .line in (
+      k .0,
+      ap (λ (l : List ℕ). getD l 0 0) own ∙ ap (λ (s : Rest). phaseNumber (s .phase)) (k .1),
+      ap (λ (l : List ℕ). getD l 1 0) own ∙ ap (λ (s : Rest). s .stored) (k .1),
+    )
+
+-- ---- what is seen
+
+own-all : (before after : List LinkedCall) (store line : List ℕ) → LinkedRuns store line (before ++ after)
+    → map inNumbers (map observedIn after) ≡ after
+own-all [] after store line r = same-numbers store line after r
+own-all (b ∷ before) after store line r = own-all before after (b .storeAfter) (b .lineAfter) (r .1)
+
+abbrev seenTold : Seen → LinkedSeen
+seenTold s = record { kind = kindTold (s .answer); value = valueTold (s .answer); octets = s .octets }
+
+seen-told : (c : LinkedCall) → linkedSeen (inNumbers (observedIn c)) ≡ seenTold (seen (observedIn c))
+seen-told c =
+    let a : Answer = answerIn (c .kind) (c .value) in
+    λ i.
+    record {
+      kind = told a .0 i;
+      value = told a .1 i;
+      octets = putOut (receiverAnswer (answer-back a i)) (c .outputThen);
+    }
+
+seen-all : (cs : List LinkedCall) → map linkedSeen (map inNumbers (map observedIn cs)) ≡ map seenTold (map seen (map observedIn cs))
+seen-all [] = refl
+seen-all (c ∷ cs) = λ i. seen-told c i ∷ seen-all cs i
+
+-- the calls behind a flag, as they are seen
+seen-behind : (before : List LinkedCall) (f : LinkedCall) (os : List LinkedCall) → LinkedLine (before ++ f ∷ os)
+    → map linkedSeen os ≡ map seenTold (map seen (map observedIn os))
+seen-behind before f os l =
+    let runs = subst (LinkedRuns (l .store) (l .line)) (sym (append-assoc before (f ∷ []) os)) (l .runs) in
+    ap (map linkedSeen) (sym (own-all (before ++ (f ∷ [])) os (l .store) (l .line) runs)) ∙ seen-all os
+
+pub linked-later-only : LinkedLaterOnly
+linked-later-only before other f g os ps e k l m same =
+    let all =
+    later-only (map observedIn before) (map observedIn other) (observedIn f) (observedIn g) (map observedIn os) (map observedIn ps) e k
+    (split-line before os f l) (split-line other ps g m) (history os ∙ same ∙ sym (history ps)) in
+    seen-behind before f os l ∙ ap (map seenTold) all ∙ sym (seen-behind other g ps m)
+
+-- ---- a body and its frame
+
+pub linked-put-out-is-frame : LinkedPutOutIsFrame
+linked-put-out-is-frame before after c l k =
+    subst (λ (h : List Call). EndsIn (frame (take (c .value) (c .outputThen))) (h ++ (linkedCallOf c ∷ [])) × BodyLength (take (c .value) (c .outputThen)))
+    (history before)
+    (put-out-is-frame (map observedIn before) (map observedIn after) (observedIn c) (c .value) (split-line before after c l)
+    (ap (λ (n : ℕ). receiverAnswer (answerIn n (c .value))) k))
+
+pub linked-frame-is-put-out : LinkedFrameIsPutOut
+linked-frame-is-put-out before after c b l long ends =
+    linked-as c _ (own-numbers before after c (l .store) (l .line) (l .runs))
+    (frame-is-put-out (map observedIn before) (map observedIn after) (observedIn c) b (split-line before after c l) long
+    (subst (λ (h : List Call). EndsIn (frame b) (h ++ (linkedCallOf c ∷ []))) (sym (history before)) ends))
+
+-- ---- demand 3
 
 -- an answer that is told as a refusal is due as that
 refusal-due : (v : Verdict) (number : ℕ) → answerFor v ≡ refusal number → v ≡ refused number

@@ -5,16 +5,17 @@ use mathlib.Core.Path.{_≡_}
 use mathlib.Core.List.{List, [], _∷_, _++_, map}
 use mathlib.Core.Logic.{_⊎_}
 use Prim.Native.Nat.{ℕ, _<_, _≤_}
-use lib.ListN.{length}
+use lib.ListN.{length, getD, take}
 use Rattle.refusals.specs.Numbers as because
-use Rattle.ucp_frame.specs.Frame.{longestBody}
+use Rattle.ucp_frame.specs.Frame.{flag, frame, longestBody}
 use Rattle.ucp_frame.specs.Stretch.{Verdict, silent, refused, delivered}
 use Rattle.ucp_history.specs.History.{Call, answer}
-use Rattle.ucp_receiver.specs.Answers.{outputAtFlag}
+use Rattle.ucp_receiver.specs.Answers.{receiverAnswer, outputAtFlag}
+use Rattle.ucp_receiver.specs.Octet.{noOctets}
 use Rattle.crc_gdl90_strength.specs.Strength.{TwoBodies, AtMostThreeBits, Within16Bits}
-use Rattle.c_ucp_receiver.specs.Numbers.{restIn, countsIn, recordNumbers, answerKind, answerValue, ReceivesNumbers, StartsNumbers}
+use Rattle.c_ucp_receiver.specs.Numbers.{restIn, countsIn, recordNumbers, answerIn, answerKind, answerValue, ReceivesNumbers, StartsNumbers}
 use Rattle.thm_ucp_receiver.specs.Line.{Observed, Line}
-use Rattle.thm_ucp_receiver.specs.Promises.{CountsAs, StoreAs, EndsIn, carrying}
+use Rattle.thm_ucp_receiver.specs.Promises.{CountsAs, StoreAs, putOut, EndsIn, BodyLength, frameAnswer, carrying}
 
 -- one call: the octet and the output as at entry; the answer's two numbers; the store, the line and the output as at return
 pub record LinkedCall : Type 0 where
@@ -110,6 +111,42 @@ abbrev pub LinkedStoreByHistory : Type 0
 LinkedStoreByHistory =
     (before after : List LinkedCall) (c : LinkedCall) → LinkedLine (before ++ c ∷ after)
     → StoreAs (linkedUpTo before c) (restIn (c .lineAfter) .stored) (c .storeAfter)
+
+-- after every flag, from any store and line and whatever the answer, the store is zero, the phase 1 and nothing is stored
+abbrev pub LinkedFlagClears : Type 0
+LinkedFlagClears =
+    (store line output : List ℕ) (kind value : ℕ) (storeAfter lineAfter outputThen : List ℕ)
+    → ReceivesNumbers store line flag output kind value storeAfter lineAfter outputThen
+    → (storeAfter ≡ noOctets) × (getD lineAfter 0 0 ≡ 1) × (getD lineAfter 1 0 ≡ 0)
+
+-- what is seen of a call: its two numbers, and the octets put out
+pub record LinkedSeen : Type 0 where
+  pub kind : ℕ
+  pub value : ℕ
+  pub octets : List ℕ
+
+abbrev pub linkedSeen : LinkedCall → LinkedSeen
+linkedSeen c =
+    record { kind = c .kind; value = c .value; octets = putOut (receiverAnswer (answerIn (c .kind) (c .value))) (c .outputThen) }
+
+-- two lines that each come to a flag: where the same octets with the same rooms follow, the same is seen
+abbrev pub LinkedLaterOnly : Type 0
+LinkedLaterOnly =
+    (before other : List LinkedCall) (f g : LinkedCall) (os ps : List LinkedCall)
+    → f .octet ≡ flag → g .octet ≡ flag → LinkedLine (before ++ f ∷ os) → LinkedLine (other ++ g ∷ ps)
+    → map linkedCallOf os ≡ map linkedCallOf ps → map linkedSeen os ≡ map linkedSeen ps
+
+-- what is put out is a body whose frame the line ends in, and a line that ends in a frame has its body as the answer, or 6
+abbrev pub LinkedPutOutIsFrame : Type 0
+LinkedPutOutIsFrame =
+    (before after : List LinkedCall) (c : LinkedCall) → LinkedLine (before ++ c ∷ after) → c .kind ≡ 1
+    → EndsIn (frame (take (c .value) (c .outputThen))) (linkedUpTo before c) × BodyLength (take (c .value) (c .outputThen))
+
+abbrev pub LinkedFrameIsPutOut : Type 0
+LinkedFrameIsPutOut =
+    (before after : List LinkedCall) (c : LinkedCall) (b : List ℕ) → LinkedLine (before ++ c ∷ after)
+    → BodyLength b → EndsIn (frame b) (linkedUpTo before c)
+    → LinkedAnswersAs (frameAnswer b (length (c .output))) c
 
 -- demand 3, the receiver, one claim about whole lists of linked calls: every call answers as the rules say, and where the list ends
 -- in the frame carrying one of two such bodies with the other's check, the last call answers 5

@@ -94,7 +94,7 @@ call-lines h receiver store c l k =
 
 -- ---- all calls
 
-answer-lines-append : (h : List Call) (xs ys : List ℕ) → answerLines h (xs ++ ys) ≡ answerLines h xs ++ answerLines (listedAfter h xs) ys
+pub answer-lines-append : (h : List Call) (xs ys : List ℕ) → answerLines h (xs ++ ys) ≡ answerLines h xs ++ answerLines (listedAfter h xs) ys
 unfolding answerLines
 answer-lines-append h [] ys = ap (λ (l : List Call). answerLines l ys) (sym (append-nil h))
 answer-lines-append h (x ∷ xs) ys =
@@ -102,6 +102,10 @@ answer-lines-append h (x ∷ xs) ys =
     (answer-lines-append (h ++ (listedCall x ∷ [])) xs ys
     ∙ ap (λ (l : List Call). answerLines (h ++ (listedCall x ∷ [])) xs ++ answerLines l ys) (one-call h x xs))
     ∙ sym (append-assoc (answerLine (answer h (listedCall x))) (answerLines (h ++ (listedCall x ∷ [])) xs) _)
+
+pub listed-both : (h : List Call) (xs ys : List ℕ) → listedAfter (listedAfter h xs) ys ≡ listedAfter h (xs ++ ys)
+listed-both h xs ys =
+    append-assoc h (map listedCall xs) (map listedCall ys) ∙ ap (λ (l : List Call). h ++ l) (sym (map-append listedCall xs ys))
 
 record AllLines (h : List Call) (counts : Counts) (cs : List ListCall) : Type 0 where
   text : gathered listText cs ≡ answerLines h (gathered listTaken cs)
@@ -119,9 +123,7 @@ all-lines h receiver store (c ∷ cs) r k =
       text = ap₂ (λ (l m : List ℕ). l ++ m) (one .text) (rest .text) ∙ sym (answer-lines-append h (listTaken c) more);
       tally =
           rest .tally
-          ∙ ap (λ (l : List Call). accountCounts (account l))
-          (append-assoc h (map listedCall (listTaken c)) (map listedCall more)
-          ∙ ap (λ (l : List Call). h ++ l) (sym (map-append listedCall (listTaken c) more)));
+          ∙ ap (λ (l : List Call). accountCounts (account l)) (listed-both h (listTaken c) more);
     }
 
 pub calls-are-listing : CallsAreListing
