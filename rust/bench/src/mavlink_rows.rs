@@ -29,52 +29,69 @@ const HEADER: Header = Header {
 /// The same for the second program.
 const SECOND_HEADER: [u8; 3] = [HEADER.sequence, HEADER.system, HEADER.component];
 
-/// One side's calls on a kind's struct.
-struct Calls<T> {
-    read: fn(&[u8], &mut Header, &mut T) -> Result<(), Refusal>,
-    write: fn(&T, &Header, &mut [u8]) -> Result<usize, Refusal>,
+/// One side's calls on a kind's struct. Each is one call that is not inlined:
+/// the proved one through the C boundary, or Rust's.
+trait Calls<T> {
+    fn read(input: &[u8], header: &mut Header, message: &mut T) -> Result<(), Refusal>;
+    fn write(message: &T, header: &Header, output: &mut [u8]) -> Result<usize, Refusal>;
 }
 
 /// Both sides of a kind.
 macro_rules! rows_of {
-    ($kind:ident, $type:ident, $rust:ident) => {
-        print_rows(
-            Kind::$kind,
-            |message| match message {
-                Message::$type(of) => of,
-                other => panic!("{other:?} for another kind"),
-            },
-            &Calls::<$type> {
-                read: |input, header, message| {
-                    message.read_from(header, input).map_err(Refusal::from)
-                },
-                write: |message, header, output| {
-                    message.write_to(header, output).map_err(Refusal::from)
-                },
-            },
-            &Calls {
-                read: $rust::read,
-                write: $rust::write,
-            },
-        )
-    };
+    ($kind:ident, $rust:ident) => {{
+        struct Ours;
+        impl Calls<$kind> for Ours {
+            #[inline(always)]
+            fn read(input: &[u8], header: &mut Header, message: &mut $kind) -> Result<(), Refusal> {
+                message.read_from(header, input).map_err(Refusal::from)
+            }
+            #[inline(always)]
+            fn write(
+                message: &$kind,
+                header: &Header,
+                output: &mut [u8],
+            ) -> Result<usize, Refusal> {
+                message.write_to(header, output).map_err(Refusal::from)
+            }
+        }
+        struct Rust;
+        impl Calls<$kind> for Rust {
+            #[inline(always)]
+            fn read(input: &[u8], header: &mut Header, message: &mut $kind) -> Result<(), Refusal> {
+                $rust::read(input, header, message)
+            }
+            #[inline(always)]
+            fn write(
+                message: &$kind,
+                header: &Header,
+                output: &mut [u8],
+            ) -> Result<usize, Refusal> {
+                $rust::write(message, header, output)
+            }
+        }
+        let field = |message: Message| match message {
+            Message::$kind(of) => of,
+            other => panic!("{other:?} for another kind"),
+        };
+        print_rows::<$kind, Ours, Rust>(Kind::$kind, field);
+    }};
 }
 
 /// Prints the rows of the frames.
 pub fn print() {
-    rows_of!(DataStream, DataStream, of_66);
-    rows_of!(Static, Static, of_201);
-    rows_of!(Dynamic, Dynamic, of_202);
-    rows_of!(Status, Status, of_203);
-    rows_of!(Traffic, Traffic, of_246);
+    rows_of!(DataStream, of_66);
+    rows_of!(Static, of_201);
+    rows_of!(Dynamic, of_202);
+    rows_of!(Status, of_203);
+    rows_of!(Traffic, of_246);
 }
 
-fn print_rows<T: Copy + Default + PartialEq>(
-    kind: Kind,
-    field: fn(Message) -> T,
-    ours: &Calls<T>,
-    rust: &Calls<T>,
-) {
+fn print_rows<T, Ours, Rust>(kind: Kind, field: fn(Message) -> T)
+where
+    T: Copy + Default + PartialEq,
+    Ours: Calls<T>,
+    Rust: Calls<T>,
+{
     let mut generator = Generator::new(63);
     let theirs: Vec<_> = (0..FRAMES).map(|_| kind.message(&mut generator)).collect();
     let structs: Vec<T> = theirs.iter().map(|of| field(our_message(of))).collect();
@@ -83,23 +100,24 @@ fn print_rows<T: Copy + Default + PartialEq>(
         .map(|of| frame_of(SECOND_HEADER, of))
         .collect();
     for (message, frame) in structs.iter().zip(&frames) {
-        assert_same_work(message, frame, ours);
-        assert_same_work(message, frame, rust);
+        assert_same_work::<T, Ours>(message, frame);
+        assert_same_work::<T, Rust>(message, frame);
     }
-    print_row("read", kind, read_times(&frames, ours, rust));
-    print_row("write", kind, write_times(&structs, &theirs, ours, rust));
+    print_row("read", kind, read_times::<T, Ours, Rust>(&frames));
+    print_row(
+        "write",
+        kind,
+        write_times::<T, Ours, Rust>(&structs, &theirs),
+    );
 }
 
 /// A side reads the message from the frame and writes it back.
-fn assert_same_work<T: Copy + Default + PartialEq>(message: &T, frame: &[u8], calls: &Calls<T>) {
+fn assert_same_work<T: Default + PartialEq, C: Calls<T>>(message: &T, frame: &[u8]) {
     let (mut header, mut read) = (Header::default(), T::default());
-    assert_eq!((calls.read)(frame, &mut header, &mut read), Ok(()));
+    assert_eq!(C::read(frame, &mut header, &mut read), Ok(()));
     assert!(read == *message && header == HEADER);
     let mut output = [0; LONGEST_FRAME];
-    assert_eq!(
-        (calls.write)(message, &HEADER, &mut output),
-        Ok(frame.len())
-    );
+    assert_eq!(C::write(message, &HEADER, &mut output), Ok(frame.len()));
     assert!(output.starts_with(frame));
 }
 
@@ -115,10 +133,10 @@ fn print_row(verb: &str, kind: Kind, times: [f64; 3]) {
     .print();
 }
 
-fn read_times<T: Default>(frames: &[Vec<u8>], ours: &Calls<T>, rust: &Calls<T>) -> [f64; 3] {
+fn read_times<T: Default, Ours: Calls<T>, Rust: Calls<T>>(frames: &[Vec<u8>]) -> [f64; 3] {
     best_times([
-        &mut reader(frames, ours.read),
-        &mut reader(frames, rust.read),
+        &mut reader(frames, Ours::read),
+        &mut reader(frames, Rust::read),
         &mut || {
             for frame in frames {
                 let _ = black_box(second::read(black_box(frame)));
@@ -127,18 +145,16 @@ fn read_times<T: Default>(frames: &[Vec<u8>], ours: &Calls<T>, rust: &Calls<T>) 
     ])
 }
 
-fn write_times<T>(
+fn write_times<T, Ours: Calls<T>, Rust: Calls<T>>(
     structs: &[T],
     theirs: &[second::Message],
-    ours: &Calls<T>,
-    rust: &Calls<T>,
 ) -> [f64; 3] {
     best_times([
         &mut writer(structs, |message, output| {
-            (ours.write)(message, black_box(&HEADER), output).unwrap_or(0)
+            Ours::write(message, black_box(&HEADER), output).unwrap_or(0)
         }),
         &mut writer(structs, |message, output| {
-            (rust.write)(message, black_box(&HEADER), output).unwrap_or(0)
+            Rust::write(message, black_box(&HEADER), output).unwrap_or(0)
         }),
         &mut writer(theirs, |message, output| {
             let [sequence, system, component] = SECOND_HEADER;
@@ -150,7 +166,7 @@ fn write_times<T>(
 /// Reads every frame once, into one struct.
 fn reader<'a, T: Default + 'a>(
     frames: &'a [Vec<u8>],
-    read: fn(&[u8], &mut Header, &mut T) -> Result<(), Refusal>,
+    read: impl Fn(&[u8], &mut Header, &mut T) -> Result<(), Refusal> + 'a,
 ) -> impl FnMut() + 'a {
     let (mut header, mut message) = (Header::default(), T::default());
     move || {

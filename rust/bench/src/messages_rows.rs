@@ -19,41 +19,59 @@ use crate::timing::best_times;
 /// Messages in turn, so that no branch predictor learns one by heart.
 const MESSAGES: usize = 64;
 
-/// One side's calls on a kind's struct.
-struct Calls<T> {
-    read: fn(&[u8], &mut T) -> Result<(), Refusal>,
-    write: fn(&T, &mut [u8]) -> Result<usize, Refusal>,
-    send: fn(&T, &mut [u8; LONGEST_FRAME]) -> Result<usize, Refusal>,
+/// One side's calls on a kind's struct. Each is one call that is not inlined:
+/// the proved one through the C boundary, or Rust's.
+trait Calls<T> {
+    fn read(body: &[u8], message: &mut T) -> Result<(), Refusal>;
+    fn write(message: &T, output: &mut [u8]) -> Result<usize, Refusal>;
+    fn send(message: &T, buffer: &mut [u8; LONGEST_FRAME]) -> Result<usize, Refusal>;
 }
 
 /// Both sides of a kind.
 macro_rules! rows_of {
-    ($kind:ident, $message:ident, $type:ident, $rust:ident, $read:ident, $write:ident, $send:ident) => {
-        print_rows(
-            Kind::$kind,
-            |message| match message {
-                Message::$message(of) => of,
-                other => panic!("{other:?} for another kind"),
-            },
-            &Calls::<$type> {
-                read: |body, message| message.$read(body).map_err(Refusal::from),
-                write: |message, output| message.$write(output).map_err(Refusal::from),
-                send: |message, buffer| message.$send(buffer).map_err(Refusal::from),
-            },
-            &Calls {
-                read: $rust::read,
-                write: $rust::write,
-                send: $rust::send,
-            },
-        )
-    };
+    ($kind:ident, $type:ident, $rust:ident, $read:ident, $write:ident, $send:ident) => {{
+        struct Ours;
+        impl Calls<$type> for Ours {
+            #[inline(always)]
+            fn read(body: &[u8], message: &mut $type) -> Result<(), Refusal> {
+                message.$read(body).map_err(Refusal::from)
+            }
+            #[inline(always)]
+            fn write(message: &$type, output: &mut [u8]) -> Result<usize, Refusal> {
+                message.$write(output).map_err(Refusal::from)
+            }
+            #[inline(always)]
+            fn send(message: &$type, buffer: &mut [u8; LONGEST_FRAME]) -> Result<usize, Refusal> {
+                message.$send(buffer).map_err(Refusal::from)
+            }
+        }
+        struct Rust;
+        impl Calls<$type> for Rust {
+            #[inline(always)]
+            fn read(body: &[u8], message: &mut $type) -> Result<(), Refusal> {
+                $rust::read(body, message)
+            }
+            #[inline(always)]
+            fn write(message: &$type, output: &mut [u8]) -> Result<usize, Refusal> {
+                $rust::write(message, output)
+            }
+            #[inline(always)]
+            fn send(message: &$type, buffer: &mut [u8; LONGEST_FRAME]) -> Result<usize, Refusal> {
+                $rust::send(message, buffer)
+            }
+        }
+        let field = |message: Message<'_>| match message {
+            Message::$kind(of) => of,
+            other => panic!("{other:?} for another kind"),
+        };
+        print_rows::<$type, Ours, Rust>(Kind::$kind, field);
+    }};
 }
 
 /// Prints the rows of the messages.
 pub fn print() {
-    rows_of!(Heartbeat, Heartbeat, Heartbeat, of_0, read_from, write_to, send_to);
+    rows_of!(Heartbeat, Heartbeat, of_0, read_from, write_to, send_to);
     rows_of!(
-        Ownship,
         Ownship,
         Report,
         of_10,
@@ -64,7 +82,6 @@ pub fn print() {
     rows_of!(
         GeometricAltitude,
         GeometricAltitude,
-        GeometricAltitude,
         of_11,
         read_from,
         write_to,
@@ -72,17 +89,15 @@ pub fn print() {
     );
     rows_of!(
         Traffic,
-        Traffic,
         Report,
         of_20,
         read_traffic_from,
         write_traffic_to,
         send_traffic_to
     );
-    rows_of!(Request, Request, Request, of_44, read_from, write_to, send_to);
-    rows_of!(Control, Control, Control, of_45, read_from, write_to, send_to);
+    rows_of!(Request, Request, of_44, read_from, write_to, send_to);
+    rows_of!(Control, Control, of_45, read_from, write_to, send_to);
     rows_of!(
-        Initialization,
         Initialization,
         Initialization,
         of_117,
@@ -93,12 +108,12 @@ pub fn print() {
     print_uplink();
 }
 
-fn print_rows<T: Copy + Default + PartialEq>(
-    kind: Kind,
-    field: fn(Message<'_>) -> T,
-    ours: &Calls<T>,
-    rust: &Calls<T>,
-) {
+fn print_rows<T, Ours, Rust>(kind: Kind, field: fn(Message<'_>) -> T)
+where
+    T: Copy + Default + PartialEq,
+    Ours: Calls<T>,
+    Rust: Calls<T>,
+{
     let mut generator = Generator::new(33);
     let theirs: Vec<_> = (0..MESSAGES)
         .map(|_| kind.message(&mut generator))
@@ -106,31 +121,30 @@ fn print_rows<T: Copy + Default + PartialEq>(
     let structs: Vec<T> = theirs.iter().map(|of| field(our_message(of))).collect();
     let bodies: Vec<_> = theirs.iter().map(body_of).collect();
     for (message, body) in structs.iter().zip(&bodies) {
-        assert_same_work(message, body, ours, rust);
+        let frame = work::<T, Ours>(message, body);
+        assert_eq!(frame, work::<T, Rust>(message, body));
     }
-    print_row("read", kind, read_times(&bodies, ours, rust));
-    print_row("write", kind, write_times(&structs, &theirs, ours, rust));
-    print_row("send", kind, send_times(&structs, ours, rust));
+    print_row("read", kind, read_times::<T, Ours, Rust>(&bodies));
+    print_row(
+        "write",
+        kind,
+        write_times::<T, Ours, Rust>(&structs, &theirs),
+    );
+    print_row("send", kind, send_times::<T, Ours, Rust>(&structs));
 }
 
-/// Both sides read the message from the body, write it back and send it.
-fn assert_same_work<T: Copy + Default + PartialEq>(
-    message: &T,
-    body: &[u8],
-    ours: &Calls<T>,
-    rust: &Calls<T>,
-) {
-    let mut frames = [[0; LONGEST_FRAME]; 2];
-    for (calls, frame) in [ours, rust].into_iter().zip(&mut frames) {
-        let mut read = T::default();
-        assert_eq!((calls.read)(body, &mut read), Ok(()));
-        assert!(read == *message);
-        let mut output = [0; LONGEST_BODY];
-        assert_eq!((calls.write)(message, &mut output), Ok(body.len()));
-        assert!(output.starts_with(body));
-        assert!((calls.send)(message, frame).is_ok());
-    }
-    assert_eq!(frames[0], frames[1]);
+/// A side reads the message from the body and writes it back; the frame that it
+/// sends.
+fn work<T: Default + PartialEq, C: Calls<T>>(message: &T, body: &[u8]) -> [u8; LONGEST_FRAME] {
+    let mut read = T::default();
+    assert_eq!(C::read(body, &mut read), Ok(()));
+    assert!(read == *message);
+    let mut output = [0; LONGEST_BODY];
+    assert_eq!(C::write(message, &mut output), Ok(body.len()));
+    assert!(output.starts_with(body));
+    let mut frame = [0; LONGEST_FRAME];
+    assert!(C::send(message, &mut frame).is_ok());
+    frame
 }
 
 fn print_row(verb: &str, kind: Kind, times: [Option<f64>; 3]) {
@@ -145,14 +159,10 @@ fn print_row(verb: &str, kind: Kind, times: [Option<f64>; 3]) {
     .print();
 }
 
-fn read_times<T: Default>(
-    bodies: &[Vec<u8>],
-    ours: &Calls<T>,
-    rust: &Calls<T>,
-) -> [Option<f64>; 3] {
+fn read_times<T: Default, Ours: Calls<T>, Rust: Calls<T>>(bodies: &[Vec<u8>]) -> [Option<f64>; 3] {
     best_times([
-        &mut reader(bodies, ours.read),
-        &mut reader(bodies, rust.read),
+        &mut reader(bodies, Ours::read),
+        &mut reader(bodies, Rust::read),
         &mut || {
             for body in bodies {
                 let _ = black_box(second::read(black_box(body)));
@@ -162,15 +172,13 @@ fn read_times<T: Default>(
     .map(Some)
 }
 
-fn write_times<T>(
+fn write_times<T, Ours: Calls<T>, Rust: Calls<T>>(
     structs: &[T],
     theirs: &[second::Message],
-    ours: &Calls<T>,
-    rust: &Calls<T>,
 ) -> [Option<f64>; 3] {
     best_times([
-        &mut writer(structs, ours.write),
-        &mut writer(structs, rust.write),
+        &mut writer(structs, Ours::write),
+        &mut writer(structs, Rust::write),
         &mut writer(theirs, |message, output| {
             second::write(message, output).map_err(|_| Refusal::Field)
         }),
@@ -178,10 +186,10 @@ fn write_times<T>(
     .map(Some)
 }
 
-fn send_times<T>(structs: &[T], ours: &Calls<T>, rust: &Calls<T>) -> [Option<f64>; 3] {
+fn send_times<T, Ours: Calls<T>, Rust: Calls<T>>(structs: &[T]) -> [Option<f64>; 3] {
     let [ours, rust] = best_times([
-        &mut sender(structs, ours.send),
-        &mut sender(structs, rust.send),
+        &mut sender(structs, Ours::send),
+        &mut sender(structs, Rust::send),
     ]);
     [Some(ours), Some(rust), None]
 }
@@ -189,7 +197,7 @@ fn send_times<T>(structs: &[T], ours: &Calls<T>, rust: &Calls<T>) -> [Option<f64
 /// Reads every body once, into one struct.
 fn reader<'a, T: Default + 'a>(
     bodies: &'a [Vec<u8>],
-    read: fn(&[u8], &mut T) -> Result<(), Refusal>,
+    read: impl Fn(&[u8], &mut T) -> Result<(), Refusal> + 'a,
 ) -> impl FnMut() + 'a {
     let mut message = T::default();
     move || {
