@@ -1,4 +1,5 @@
 // The two rules for a text, each in one place.
+pub mod each;
 pub mod pairs;
 
 ghost use mathlib.Core.Path.{_≡_};

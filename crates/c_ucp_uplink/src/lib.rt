@@ -1,0 +1,34 @@
+// Message 7, Uplink, for C: the payload lies in the caller's octets.
+use output_writing::OstrogoszWritten;
+ghost use mathlib.Core.Path.{_≡_};
+ghost use lib.ListN.{length, drop};
+ghost use Rattle.c_ucp_uplink.specs.Uplink.{ReadsUplink, WritesUplink};
+
+// All octets behind the first.
+fn fill(body: &[u8], payload: &mut [u8])
+    requires { ⌜ (length (now body) ≡ 436) × (length (now payload) ≡ 435) ⌝ }
+    ensures { λ r. ⌜ now (payload .exit) ≡ drop 1 (now (body .entry)) ⌝ }
+{
+    field_layout::store(&body[1..], payload);
+}
+
+// Reads a body into the payload: 0, or the refusal that is due, 10 or 11, and then the payload is as it was.
+#[no_mangle]
+pub extern "C" fn ostrogosz_ucp_read_uplink(body: &[u8], payload: &mut [u8; 435]) -> u32
+    ensures { λ r. ⌜ ReadsUplink (now (body .entry)) (now (payload .entry)) r (now (payload .exit)) ⌝ }
+{
+    let refusal = c_lent::first_refusal(body, 7, 436);
+    if refusal != 0 {
+        return refusal;
+    }
+    fill(body, payload);
+    0
+}
+
+// Writes the body that carries a payload: 13 for another length than 435, then 8.
+#[no_mangle]
+pub extern "C" fn ostrogosz_ucp_write_uplink(payload: &[u8], output: &mut [u8]) -> OstrogoszWritten
+    ensures { λ r. ⌜ WritesUplink (now (payload .entry)) (now (output .entry)) r (now (output .exit)) ⌝ }
+{
+    output_writing::in_numbers(ucp_kinds::uplink_7::write(payload, output))
+}
