@@ -27,7 +27,8 @@ use Rattle.mavlink_messages.specs.declared.Read.the-variants as mavlink-read
 use Rattle.mavlink_messages.specs.Messages.{readDue, writeDue, messageFrame, inRange, payloadOf}
 use Rattle.mavlink_messages.specs.Refusals.{MavlinkShort, MavlinkWrongStart, MavlinkUnknownId, MavlinkWrongLength, MavlinkWrongCheck, MavlinkOutsideRange}
 use Rattle.thm_mavlink_messages.specs.RoundTrips as mavlink-trips
-use Rattle.thm_ucp_messages.specs.Delivery.{SentIsDelivered}
+use Rattle.thm_c_messages.specs.RoundTrips.{LentRoundTrips}
+use Rattle.thm_ucp_messages.specs.Delivery.{SentIsDelivered, DeliveredWritesBack}
 use Rattle.thm_ucp_messages.specs.RoundTrips as message-trips
 use Rattle.ucp_receiver.specs.declared.Record.{Record}
 use Rattle.ucp_receiver.specs.declared.Received.{Received}
@@ -156,6 +157,7 @@ pub record Demand2 : Type 0 where
   pub answersByHistory : AnswersByHistory
   pub stretchIsAnswered : StretchIsAnswered
   pub deliveredIsFrame : PutOutIsFrame
+  pub deliveredWritesBack : DeliveredWritesBack
   pub frameIsDelivered : FrameIsPutOut
   pub countsByHistory : CountsByHistory
   pub everyOctetCounted : EveryOctetCounted
@@ -164,6 +166,8 @@ pub record Demand2 : Type 0 where
   pub messageReadsBack : message-trips.MessageReadsBack
   pub messageWritesBack : message-trips.MessageWritesBack
   pub uplinkReadsBack : message-trips.UplinkReadsBack
+  -- of the calls that C links for one kind, `ostrogosz_ucp_read_..` and `ostrogosz_ucp_write_..`, by `ReadsInto` and `WritesStructBody`
+  pub lentMessagesReadAndWriteBack : LentRoundTrips
   pub sentIsDelivered : SentIsDelivered
   pub mavlinkReadsBack : mavlink-trips.MavlinkReadsBack
   pub mavlinkWritesBack : mavlink-trips.MavlinkWritesBack
