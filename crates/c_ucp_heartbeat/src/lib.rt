@@ -1,5 +1,6 @@
 // Message 0, Heartbeat, for C: the message lies in the caller's struct, which is lent as its octets.
 use output_writing::OstrogoszWritten;
+use ucp_frame::FrameBuffer;
 ghost use mathlib.Core.Path.{_≡_};
 ghost use mathlib.Core.List.{_++_};
 ghost use Prim.Native.Nat.{_≤_};
@@ -8,6 +9,7 @@ ghost use Rattle.field_format.specs.Format.{valueIn, bodyOf};
 ghost use Rattle.ucp_kinds.specs.Heartbeat0.{heartbeatFormat};
 ghost use Rattle.c_lent.specs.Reads.{ReadsInto};
 ghost use Rattle.c_lent.specs.Writes.{WritesStructBody};
+ghost use Rattle.c_lent.specs.Sends.{SendsStruct};
 ghost use Rattle.c_lent.specs.Structs.{stored, held};
 ghost use Rattle.c_ucp_heartbeat.specs.Struct.{heartbeatStruct};
 
@@ -51,8 +53,7 @@ fn put(message: &[u8], output: &mut [u8])
 }
 
 // Every field has room in the body.
-fn write(message: &[u8], output: &mut [u8]) -> OstrogoszWritten
-    requires { ⌜ length (now message) ≡ 6 ⌝ }
+fn write(message: &[u8; 6], output: &mut [u8]) -> OstrogoszWritten
     ensures { λ r. ⌜ WritesStructBody heartbeatFormat (held heartbeatStruct (now (message .entry))) (now (output .entry)) r (now (output .exit)) ⌝ }
 {
     if output.len() < 7 {
@@ -77,4 +78,19 @@ pub extern "C" fn ostrogosz_ucp_write_heartbeat(
     ensures { λ r. ⌜ WritesStructBody heartbeatFormat (held heartbeatStruct (now (message .entry))) (now (output .entry)) r (now (output .exit)) ⌝ }
 {
     write(message, output)
+}
+
+// ---- sending
+
+// Writes the frame of the message that a struct holds at the start of buffer, and leaves what is behind it. The body is
+// written into the buffer, and made its frame there.
+#[no_mangle]
+pub extern "C" fn ostrogosz_ucp_send_heartbeat(
+    message: &[u8; 6],
+    buffer: &mut FrameBuffer,
+) -> OstrogoszWritten
+    ensures { λ r. ⌜ SendsStruct heartbeatFormat (held heartbeatStruct (now (message .entry))) (now (buffer .entry)) r (now (buffer .exit)) ⌝ }
+{
+    let written = write(message, buffer);
+    c_lent::frame_written(written, buffer)
 }

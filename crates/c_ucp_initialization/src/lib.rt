@@ -1,6 +1,8 @@
 // Message 117, Initialization, for C: the message lies in the caller's struct, which is lent as its octets.
 use output_writing::OstrogoszWritten;
+use ucp_frame::FrameBuffer;
 ghost use mathlib.Core.Path.{_≡_};
+ghost use mathlib.Core.Bool.{true};
 ghost use mathlib.Core.List.{_++_};
 ghost use Prim.Native.Nat.{_≤_};
 ghost use lib.ListN.{length, drop};
@@ -9,6 +11,7 @@ ghost use Rattle.field_format.specs.Format.{valueIn, bodyOf, fits};
 ghost use Rattle.ucp_kinds.specs.Initialization117.{initializationFormat};
 ghost use Rattle.c_lent.specs.Reads.{ReadsInto};
 ghost use Rattle.c_lent.specs.Writes.{WritesStructBody};
+ghost use Rattle.c_lent.specs.Sends.{SendsStruct};
 ghost use Rattle.c_lent.specs.Structs.{stored, held};
 ghost use Rattle.c_ucp_initialization.specs.Struct.{initializationStruct};
 ghost use Rattle.c_ucp_initialization.specs.Steps.{firstOctets, SmallFields};
@@ -88,7 +91,7 @@ pub extern "C" fn ostrogosz_ucp_read_initialization(body: &[u8], message: &mut [
 // Whether each field that a struct holds is in its range and has no more bits than the body has for it.
 fn fits(message: &[u8]) -> bool
     requires { ⌜ length (now message) ≡ 24 ⌝ }
-    ensures { λ r. ⌜ r ≡ fits initializationFormat (held initializationStruct (now (message .entry))) ⌝ }
+    ensures { λ r. ⌜ (r ≡ fits initializationFormat (held initializationStruct (now (message .entry)))) × (r ≡ true → SmallFields (now (message .entry))) ⌝ }
 {
     field_codes::is_emitter(message[8])
         & field_texts::each::is_spaced_at(message, 9)
@@ -125,8 +128,7 @@ fn put(message: &[u8], output: &mut [u8])
     output[18] = message[19] * 32 + message[20];
 }
 
-fn write(message: &[u8], output: &mut [u8]) -> OstrogoszWritten
-    requires { ⌜ length (now message) ≡ 24 ⌝ }
+fn write(message: &[u8; 24], output: &mut [u8]) -> OstrogoszWritten
     ensures { λ r. ⌜ WritesStructBody initializationFormat (held initializationStruct (now (message .entry))) (now (output .entry)) r (now (output .exit)) ⌝ }
 {
     if !fits(message) {
@@ -157,4 +159,19 @@ pub extern "C" fn ostrogosz_ucp_write_initialization(
     ensures { λ r. ⌜ WritesStructBody initializationFormat (held initializationStruct (now (message .entry))) (now (output .entry)) r (now (output .exit)) ⌝ }
 {
     write(message, output)
+}
+
+// ---- sending
+
+// Writes the frame of the message that a struct holds at the start of buffer, and leaves what is behind it: 13. The body is
+// written into the buffer, and made its frame there.
+#[no_mangle]
+pub extern "C" fn ostrogosz_ucp_send_initialization(
+    message: &[u8; 24],
+    buffer: &mut FrameBuffer,
+) -> OstrogoszWritten
+    ensures { λ r. ⌜ SendsStruct initializationFormat (held initializationStruct (now (message .entry))) (now (buffer .entry)) r (now (buffer .exit)) ⌝ }
+{
+    let written = write(message, buffer);
+    c_lent::frame_written(written, buffer)
 }

@@ -1,6 +1,8 @@
 // Messages 10 and 20, Ownship and Traffic report, for C: the message lies in the caller's struct, which is lent as its octets.
 use output_writing::OstrogoszWritten;
+use ucp_frame::FrameBuffer;
 ghost use mathlib.Core.Path.{_≡_};
+ghost use mathlib.Core.Bool.{true};
 ghost use mathlib.Core.List.{_++_};
 ghost use Prim.Native.Nat.{_+_, _*_, _/_, _%_, _<_, _≤_};
 ghost use lib.ListN.{length, getD, drop};
@@ -12,6 +14,7 @@ ghost use Rattle.field_format.specs.Format.{valueIn, bodyOf, fits};
 ghost use Rattle.ucp_kinds.specs.Report10.{reportFormat};
 ghost use Rattle.c_lent.specs.Reads.{ReadsInto};
 ghost use Rattle.c_lent.specs.Writes.{WritesStructBody};
+ghost use Rattle.c_lent.specs.Sends.{SendsStruct};
 ghost use Rattle.c_lent.specs.Structs.{stored, held};
 ghost use Rattle.c_ucp_report.specs.Struct.{reportStruct};
 ghost use Rattle.c_ucp_report.specs.Steps.{halvesOf, leftStored, rightStored, othersStored, Small, leftOf, rightOf};
@@ -182,7 +185,7 @@ fn in_12(bits: u16) -> bool
 // Whether each field that a struct holds has no more bits than the body has for it.
 fn fits(message: &[u8]) -> bool
     requires { ⌜ length (now message) ≡ 40 ⌝ }
-    ensures { λ r. ⌜ r ≡ fits (reportFormat 10) (held reportStruct (now (message .entry))) ⌝ }
+    ensures { λ r. ⌜ (r ≡ fits (reportFormat 10) (held reportStruct (now (message .entry)))) × (r ≡ true → Small (now (message .entry))) ⌝ }
 {
     let latitude = in_24(field_layout::little_32(message, 8));
     let longitude = in_24(field_layout::little_32(message, 12));
@@ -290,8 +293,7 @@ fn put(id: u8, message: &[u8], output: &mut [u8])
 }
 
 // Writes the body, of an ID, of the message that a struct holds.
-fn write(id: u8, message: &[u8], output: &mut [u8]) -> OstrogoszWritten
-    requires { ⌜ length (now message) ≡ 40 ⌝ }
+fn write(id: u8, message: &[u8; 40], output: &mut [u8]) -> OstrogoszWritten
     ensures { λ r. ⌜ WritesStructBody (reportFormat id) (held reportStruct (now (message .entry))) (now (output .entry)) r (now (output .exit)) ⌝ }
 {
     if !fits(message) {
@@ -332,4 +334,35 @@ pub extern "C" fn ostrogosz_ucp_write_traffic(
     ensures { λ r. ⌜ WritesStructBody (reportFormat 20) (held reportStruct (now (message .entry))) (now (output .entry)) r (now (output .exit)) ⌝ }
 {
     write(20, message, output)
+}
+
+// ---- sending
+
+// Sends the body of an ID: it is written into the buffer, and made its frame there.
+fn send(id: u8, message: &[u8; 40], buffer: &mut FrameBuffer) -> OstrogoszWritten
+    ensures { λ r. ⌜ SendsStruct (reportFormat id) (held reportStruct (now (message .entry))) (now (buffer .entry)) r (now (buffer .exit)) ⌝ }
+{
+    let written = write(id, message, buffer);
+    c_lent::frame_written(written, buffer)
+}
+
+// Writes the frame of the message that a struct holds at the start of buffer, and leaves what is behind it: 13.
+#[no_mangle]
+pub extern "C" fn ostrogosz_ucp_send_ownship(
+    message: &[u8; 40],
+    buffer: &mut FrameBuffer,
+) -> OstrogoszWritten
+    ensures { λ r. ⌜ SendsStruct (reportFormat 10) (held reportStruct (now (message .entry))) (now (buffer .entry)) r (now (buffer .exit)) ⌝ }
+{
+    send(10, message, buffer)
+}
+
+#[no_mangle]
+pub extern "C" fn ostrogosz_ucp_send_traffic(
+    message: &[u8; 40],
+    buffer: &mut FrameBuffer,
+) -> OstrogoszWritten
+    ensures { λ r. ⌜ SendsStruct (reportFormat 20) (held reportStruct (now (message .entry))) (now (buffer .entry)) r (now (buffer .exit)) ⌝ }
+{
+    send(20, message, buffer)
 }

@@ -1,5 +1,6 @@
 // Message 44, Message Request, for C: the message lies in the caller's struct, which is lent as its octets.
 use output_writing::OstrogoszWritten;
+use ucp_frame::FrameBuffer;
 ghost use mathlib.Core.Path.{_≡_};
 ghost use mathlib.Core.List.{_++_};
 ghost use Prim.Native.Nat.{_≤_};
@@ -8,6 +9,7 @@ ghost use Rattle.field_format.specs.Format.{valueIn, bodyOf};
 ghost use Rattle.ucp_kinds.specs.Request44.{requestFormat};
 ghost use Rattle.c_lent.specs.Reads.{ReadsInto};
 ghost use Rattle.c_lent.specs.Writes.{WritesStructBody};
+ghost use Rattle.c_lent.specs.Sends.{SendsStruct};
 ghost use Rattle.c_lent.specs.Structs.{stored, held};
 ghost use Rattle.c_ucp_request.specs.Struct.{requestStruct};
 
@@ -49,8 +51,7 @@ fn put(message: &[u8], output: &mut [u8])
 }
 
 // Every field has room in the body.
-fn write(message: &[u8], output: &mut [u8]) -> OstrogoszWritten
-    requires { ⌜ length (now message) ≡ 1 ⌝ }
+fn write(message: &[u8; 1], output: &mut [u8]) -> OstrogoszWritten
     ensures { λ r. ⌜ WritesStructBody requestFormat (held requestStruct (now (message .entry))) (now (output .entry)) r (now (output .exit)) ⌝ }
 {
     if output.len() < 3 {
@@ -75,4 +76,19 @@ pub extern "C" fn ostrogosz_ucp_write_request(
     ensures { λ r. ⌜ WritesStructBody requestFormat (held requestStruct (now (message .entry))) (now (output .entry)) r (now (output .exit)) ⌝ }
 {
     write(message, output)
+}
+
+// ---- sending
+
+// Writes the frame of the message that a struct holds at the start of buffer, and leaves what is behind it. The body is
+// written into the buffer, and made its frame there.
+#[no_mangle]
+pub extern "C" fn ostrogosz_ucp_send_request(
+    message: &[u8; 1],
+    buffer: &mut FrameBuffer,
+) -> OstrogoszWritten
+    ensures { λ r. ⌜ SendsStruct requestFormat (held requestStruct (now (message .entry))) (now (buffer .entry)) r (now (buffer .exit)) ⌝ }
+{
+    let written = write(message, buffer);
+    c_lent::frame_written(written, buffer)
 }

@@ -3,11 +3,11 @@
 ghost use mathlib.Core.Path.{_≡_};
 ghost use mathlib.Core.List.{_++_};
 ghost use Prim.Native.Nat.{_+_, _≤_};
-ghost use lib.ListN.{length, take, drop};
+ghost use lib.ListN.{length, take};
 ghost use lib.Seq.{sets};
 ghost use Rattle.ucp_frame.specs.Frame.{stuffed, frame, longestBody, longestFrame};
 ghost use Rattle.ucp_writer.specs.Writes.{FramesInPlace};
-ghost use Rattle.ucp_writer.specs.Steps.{Moves};
+ghost use Rattle.ucp_writer.specs.Steps.{Moves, ToMove};
 
 // Makes of the first octets of buffer their frame, where a body may have so many: how many octets the frame has, else 0.
 pub fn frame_front(buffer: &mut [u8], octets: usize) -> usize
@@ -38,31 +38,36 @@ fn move_words(buffer: &mut [u8], octets: usize, end: usize)
         left -= 8;
         end = move_word(buffer, left, end);
     }
-    move_octets(buffer, left, end);
+    move_octets(buffer, 0, left, end);
 }
 
-// Puts the eight octets at a place of buffer, stuffed, so that they end at another, and gives where they start.
+// Of the octets that are left, puts the eight from a place on, and gives where they start: at once where none needs an escape, else
+// one by one, so that no octet waits on the stack for its turn.
 fn move_word(buffer: &mut [u8], from: usize, end: usize) -> usize
-    requires { ⌜ (from + 8 ≤ length (now buffer)) × (end ≤ length (now buffer)) × (length (stuffed (take 8 (drop from (now buffer)))) ≤ end) ⌝ }
-    ensures { λ r. ⌜ (r + length (stuffed (take 8 (drop from (now (buffer .entry))))) ≡ end) × (now (buffer .exit) ≡ sets (now (buffer .entry)) r (stuffed (take 8 (drop from (now (buffer .entry)))))) ⌝ }
+    requires { ⌜ Moves (now buffer) (from + 8) end ⌝ }
+    ensures { λ r. ⌜ ToMove (now (buffer .exit)) from r (sets (now (buffer .entry)) 1 (stuffed (take (from + 8) (now (buffer .entry))))) ⌝ }
 {
     let word = field_words::little_64(buffer, from);
-    let at = end - super::room::word_length(word);
-    super::put_eight(buffer, at, word);
-    at
+    if super::plain::is_plain(word) {
+        let at = end - 8;
+        field_words::put_64(buffer, at, word);
+        return at;
+    }
+    move_octets(buffer, from, from + 8, end)
 }
 
-// The same, one by one.
-fn move_octets(buffer: &mut [u8], octets: usize, end: usize)
-    requires { ⌜ Moves (now buffer) octets end ⌝ }
-    ensures { λ r. ⌜ now (buffer .exit) ≡ sets (now (buffer .entry)) 1 (stuffed (take octets (now (buffer .entry)))) ⌝ }
+// Of the octets that are left, puts those from a place on, one by one, and gives where they start.
+fn move_octets(buffer: &mut [u8], from: usize, octets: usize, end: usize) -> usize
+    requires { ⌜ (from ≤ octets) × Moves (now buffer) octets end ⌝ }
+    ensures { λ r. ⌜ ToMove (now (buffer .exit)) from r (sets (now (buffer .entry)) 1 (stuffed (take octets (now (buffer .entry))))) ⌝ }
 {
     let mut left = octets;
     let mut end = end;
-    while left > 0 {
+    while left > from {
         left -= 1;
         let octet = buffer[left];
         end -= super::room::escaped_length(octet);
         super::put(buffer, end, octet);
     }
+    end
 }

@@ -69,7 +69,7 @@ fn tail_length(body: &[u8], start: usize) -> usize
 }
 
 // How many octets eight take on the line.
-pub fn word_length(word: u64) -> usize
+fn word_length(word: u64) -> usize
     ensures { λ r. ⌜ r ≡ length (stuffed (octetsUp 8 word)) ⌝ }
 {
     if super::plain::is_plain(word) {

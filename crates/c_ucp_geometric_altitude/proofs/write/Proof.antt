@@ -12,7 +12,7 @@ use Rattle.c_ucp_geometric_altitude.proofs.write.Tie as tie
 
 returns : tie.Need-returns
 returns c =
-    let a = c .before .before .before .args in
+    let a = c .before .before .args in
     no-room geometricFormat (held geometricStruct (now (a .message))) (now (a .output)) (always-fits (held geometricStruct (now (a .message)))) (omega (arith, body-length (held geometricStruct (now (a .message)))))
 
 returns-2 : tie.Need-returns-2

@@ -1,11 +1,12 @@
 -- `c_ucp_initialization::write` meets its contract, by its three ways. Assumes nothing.
+use borrow.Author.Tests.{not-false}
 use denote.Ref.{now}
 use native.Mathlib.Omega.{arith}
 use Rattle.ucp_kinds.specs.Initialization117.{initializationFormat}
 use Rattle.c_lent.proofs.Writers.{fitting, not-fitting, no-field, no-room, written}
 use Rattle.c_lent.specs.Structs.{held}
 use Rattle.c_ucp_initialization.specs.Struct.{initializationStruct}
-use Rattle.c_ucp_initialization.proofs.Stored.{body-length, small}
+use Rattle.c_ucp_initialization.proofs.Stored.{body-length}
 use borrow.Author.Needs.{needs}
 use Rattle.c_ucp_initialization.proofs.write.Statement.{statement}
 use Rattle.c_ucp_initialization.proofs.write.Tie as tie
@@ -13,23 +14,26 @@ use Rattle.c_ucp_initialization.proofs.write.Tie as tie
 returns : tie.Need-returns
 returns c =
     let a = c .before .before .before .before .args in
-    no-field initializationFormat (held initializationStruct (now (a .message))) (now (a .output)) (not-fitting (c .before .fits2 .ensures) (c .if1 .taken))
+    no-field initializationFormat (held initializationStruct (now (a .message))) (now (a .output))
+    (not-fitting (c .before .fits2 .ensures .0) (c .if1 .taken))
 
 returns-2 : tie.Need-returns-2
 returns-2 c =
     let a = c .before .before .before .before .before .args in
-    no-room initializationFormat (held initializationStruct (now (a .message))) (now (a .output)) (fitting (c .before .before .fits2 .ensures) (c .before .if1 .left))
+    no-room initializationFormat (held initializationStruct (now (a .message))) (now (a .output))
+    (fitting (c .before .before .fits2 .ensures .0) (c .before .if1 .left))
     (omega (arith, body-length (held initializationStruct (now (a .message)))))
 
 put-requires : tie.Need-put-requires
 put-requires c κs =
-    let s = c .before .before .before .before .before .before in
-    (s .pre, small (now (s .args .message)) (s .pre) (fitting (c .before .before .before .fits2 .ensures) (c .before .before .if1 .left)), omega arith)
+    (search needs, c .before .before .before .before .fits2 .ensures .1 (not-false _ (c .before .before .before .if1 .left)), omega arith)
 
 returns-3 : tie.Need-returns-3
 returns-3 c =
-    let a = c .before .before .before .before .before .before .before .before .before .args in
-    written initializationFormat (held initializationStruct (now (a .message))) (now (a .output)) (fitting (c .before .before .before .before .before .before .fits2 .ensures) (c .before .before .before .before .before .if1 .left))
+    let k7 = c .before .before .before .before .before .before .before in
+    let a = k7 .before .before .before .args in
+    written initializationFormat (held initializationStruct (now (a .message))) (now (a .output))
+    (fitting (k7 .fits2 .ensures .0) (c .before .before .before .before .before .before .if1 .left))
     (body-length (held initializationStruct (now (a .message)))) (omega arith) (c .before .before .put .ensures)
 
 pub write-spec : {M : Type 1} → statement M

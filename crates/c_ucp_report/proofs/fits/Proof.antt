@@ -1,12 +1,12 @@
 -- `c_ucp_report::fits` meets its contract, test by test. Assumes nothing.
-use mathlib.Core.Path.{_∙_, ap}
+use mathlib.Core.Path.{sym, _∙_, ap}
 use mathlib.Core.Bool.{_&&_}
 use Prim.Native.Nat.{ℕ}
 use denote.Ref.{now}
 use lib.Dec.{ltb}
 use lib.ListN.{getD}
 use Rattle.field_signed.specs.Signed.{signed, holds}
-use Rattle.c_ucp_report.proofs.Held.{in-range}
+use Rattle.c_ucp_report.proofs.Held.{in-range, small}
 use borrow.Author.Needs.{needs}
 use Rattle.c_ucp_report.proofs.fits.Statement.{statement}
 use Rattle.c_ucp_report.proofs.fits.Tie as tie
@@ -27,7 +27,7 @@ returns c =
     let latitude = k14 .in-24 .ensures ∙ ap (λ (n : ℕ). holds 8388608 (signed 2147483648 n)) (k15 .little-32 .ensures) in
     let longitude = k12 .in-242 .ensures ∙ ap (λ (n : ℕ). holds 8388608 (signed 2147483648 n)) (k13 .little-322 .ensures) in
     let rate = k10 .in-12 .ensures ∙ ap (λ (n : ℕ). holds 2048 (signed 32768 n)) (k11 .little-16 .ensures) in
-    (λ i. ltb (getD m 0 0) 16
+    let is = (λ i. ltb (getD m 0 0) 16
     && ltb (getD m 1 0) 16
     && ltb (k7 .little-323 .ensures i) 16777216
     && latitude i
@@ -41,6 +41,8 @@ returns c =
     && ltb (getD m 36 0) 16
     && ltb (getD m 37 0) 16)
     ∙ in-range m (s .pre)
+    in
+    (is, λ t. small m (s .pre) (λ i. k15 .before .shared-slice-known .given i .fits) (sym is ∙ t))
 
 pub fits-spec : {M : Type 1} → statement M
 fits-spec =

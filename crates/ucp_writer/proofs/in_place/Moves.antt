@@ -10,7 +10,7 @@ use Rattle.crc_gdl90.specs.Check.{frameCheck}
 use Rattle.ucp_frame.specs.Frame.{flag, escaped, stuffed, frame}
 use Rattle.ucp_frame.proofs.Stuffing.{stuffed-append, stuffed-length-least}
 use Rattle.output_writing.specs.Puts.{Puts}
-use Rattle.ucp_writer.specs.Steps.{frameEnd, frameRest, Moves}
+use Rattle.ucp_writer.specs.Steps.{frameEnd, frameRest, Moves, ToMove}
 use Rattle.ucp_writer.proofs.Rest.{frame-rest, frame-put}
 
 -- ---- stores that do not meet
@@ -30,14 +30,22 @@ take-sets n l i [] h = refl
 take-sets n l i (v ∷ vs) h = take-sets n (set l i v) (suc i) vs (omega arith) ∙ take-set-le n l i v h
 
 -- ---- what is left to move
--- the first octets of a buffer are left, they end at a place, and once they are moved the buffer is `final`
-pub record ToMove (buffer : List ℕ) (left end : ℕ) (final : List ℕ) : Type 0 where
-  pub moves : Moves buffer left end
-  pub gives : sets buffer 1 (stuffed (take left buffer)) ≡ final
-
 pub none-left : {buffer final : List ℕ} {end : ℕ} → ToMove buffer 0 end final → buffer ≡ final
 unfolding stuffed
 none-left t = t .gives
+
+-- the buffer is as long as it was
+pub as-long : (before vs : List ℕ) {buffer : List ℕ} {left end : ℕ} → ToMove buffer left end (sets before 1 vs) → length buffer ≡ length before
+as-long before vs {buffer} {left} t = sym (length-sets buffer 1 (stuffed (take left buffer))) ∙ ap length (t .gives) ∙ length-sets before 1 vs
+
+-- moved further
+pub then-moved : {buffer middle final : List ℕ} {left end next at : ℕ} → ToMove buffer left end final
+    → ToMove middle next at (sets buffer 1 (stuffed (take left buffer))) → ToMove middle next at final
+then-moved t u = record { moves = u .moves; gives = u .gives ∙ t .gives }
+
+-- nothing of them is moved yet
+pub to-move : {buffer : List ℕ} {left end : ℕ} → Moves buffer left end → ToMove buffer left end (sets buffer 1 (stuffed (take left buffer)))
+to-move m = record { moves = m; gives = refl }
 
 -- one octet of a buffer
 pub octet-part : (buffer : List ℕ) (i : ℕ) → i < length buffer → stuffed (take 1 (drop i buffer)) ≡ escaped (getD buffer i 0)

@@ -1,0 +1,21 @@
+-- `ostrogosz_ucp_send_initialization` meets its contract: its two halves make up a send. Assumes nothing.
+use native.Mathlib.Omega.{arith}
+use denote.Ref.{now}
+use Rattle.ucp_kinds.specs.Initialization117.{initializationFormat}
+use Rattle.c_lent.specs.Structs.{held}
+use Rattle.c_lent.proofs.Sends.{struct-sends}
+use Rattle.c_ucp_initialization.specs.Struct.{initializationStruct}
+use Rattle.c_ucp_initialization.proofs.Stored.{body-length}
+use borrow.Author.Needs.{needs}
+use Rattle.c_ucp_initialization.proofs.ostrogosz_ucp_send_initialization.Statement.{statement}
+use Rattle.c_ucp_initialization.proofs.ostrogosz_ucp_send_initialization.Tie as tie
+
+returns : tie.Need-returns
+returns c =
+    let a = c .before .before .before .before .args in
+    let m = held initializationStruct (now (a .message)) in
+    struct-sends initializationFormat m (now (a .buffer)) (omega (arith, body-length m)) (omega (arith, body-length m)) (c .before .before .write .ensures)
+    (c .before .before .write .kept .1 .0) (c .frame-written .ensures)
+
+pub ostrogosz-ucp-send-initialization-spec : {M : Type 1} → statement M
+ostrogosz-ucp-send-initialization-spec = tie.close (tie.spec (λ c κs. search needs) (λ c κs. search needs) returns)

@@ -1,0 +1,22 @@
+-- `c_ucp_report::send` meets its contract: its two halves make up a send. Assumes nothing.
+use native.Mathlib.Omega.{arith}
+use denote.Ref.{now}
+use Rattle.ucp_kinds.specs.Report10.{reportFormat}
+use Rattle.c_lent.specs.Structs.{held}
+use Rattle.c_lent.proofs.Sends.{struct-sends}
+use Rattle.c_ucp_report.specs.Struct.{reportStruct}
+use Rattle.c_ucp_report.proofs.Held.{body-length}
+use borrow.Author.Needs.{needs}
+use Rattle.c_ucp_report.proofs.send.Statement.{statement}
+use Rattle.c_ucp_report.proofs.send.Tie as tie
+
+returns : tie.Need-returns
+returns c =
+    let a = c .before .before .before .before .args in
+    let report = held reportStruct (now (a .message)) in
+    let size = body-length (a .id) report in
+    struct-sends (reportFormat (a .id)) report (now (a .buffer)) (omega (arith, size)) (omega (arith, size)) (c .before .before .write .ensures)
+    (c .before .before .write .kept .1 .1 .0) (c .frame-written .ensures)
+
+pub send-spec : {M : Type 1} → statement M
+send-spec = tie.close (tie.spec (λ c κs. search needs) (λ c κs. search needs) returns)
