@@ -4,12 +4,13 @@ use mathlib.Core.Bool.{Bool, true, false}
 use mathlib.Core.List.{List, [], _∷_, _++_}
 use Prim.Native.Nat.{ℕ, zero, suc, _*_, _^_, _<_}
 use native.Mathlib.Omega.{arith}
-use lib.ListN.{drop, replicate}
-use Rattle.field_layout.specs.Layout.{Within, bitOf, Run, octetRun, layoutWidths, Whole}
-use Rattle.field_layout.proofs.RoundTrips.{fields-octets}
-use Rattle.field_format.specs.Format.{Sort, field, Number, numberTo, numberOf, tested, Typed, Sound, _&_, Row, made, RowTyped, rowTested, RowSound}
-use Rattle.field_format.proofs.Columns.{row-before, row-within, row-back}
-use Rattle.c_lent.specs.Structs.{isYes, Member, bool, low, text, padding, structRuns, structColumns, structRowOf, structRowTo, structRowFrom, Struct, RightStruct, stored, held, TypedIn}
+use lib.ListN.{length, drop, replicate}
+use Rattle.crc_polynomial.specs.Polynomial.{Octets}
+use Rattle.field_layout.specs.Layout.{Within, bitOf, Run, octetRun, layoutWidths, layoutFields, Whole, textAt}
+use Rattle.field_layout.proofs.RoundTrips.{fields-octets, fields-within}
+use Rattle.field_format.specs.Format.{Sort, Column, field, letters, Number, numberTo, numberOf, tested, Typed, Sound, _&_, Row, made, RowTyped, rowTested, RowSound}
+use Rattle.field_format.proofs.Columns.{row-before, row-within, row-back, Again, row-again as columns-again}
+use Rattle.c_lent.specs.Structs.{isYes, Member, bool, low, text, padding, structRuns, structColumns, structRowOf, structRowTo, structRowFrom, Struct, RightStruct, structSize, stored, held, TypedIn}
 
 yes-bit : (b : Bool) → isYes (bitOf b) ≡ b
 yes-bit true = refl
@@ -90,3 +91,59 @@ held-stored s ok a t =
     ∙ ap (made (structColumns (s .members)) (s .value))
     (row-again true (s .members) (structRowOf (s .members) a) (ok .sound) (t .0) (t .1))
     ∙ ok .back a
+
+-- ---- what octets hold is typed, and has room
+-- a number within its width
+module _ (s : Sort) (w n : ℕ) (sound : Sound (field s w)) (h : n < 2 ^ w) where
+  number-again : Again (field s w ∷ []) (n ∷ [])
+  number-again = columns-again (field s w ∷ []) (n ∷ []) (sound, tt) (h, tt)
+
+-- eight octets, and what is behind them
+text-typed : (ws vs : List ℕ) → Within (8 ∷ 8 ∷ 8 ∷ 8 ∷ 8 ∷ 8 ∷ 8 ∷ 8 ∷ ws) vs → Typed letters (textAt vs 0) × Within ws (drop 8 vs)
+text-typed ws [] h = absurd h
+text-typed ws (a ∷ []) h = absurd (h .1)
+text-typed ws (a ∷ b ∷ []) h = absurd (h .1 .1)
+text-typed ws (a ∷ b ∷ c ∷ []) h = absurd (h .1 .1 .1)
+text-typed ws (a ∷ b ∷ c ∷ d ∷ []) h = absurd (h .1 .1 .1 .1)
+text-typed ws (a ∷ b ∷ c ∷ d ∷ e ∷ []) h = absurd (h .1 .1 .1 .1 .1)
+text-typed ws (a ∷ b ∷ c ∷ d ∷ e ∷ f ∷ []) h = absurd (h .1 .1 .1 .1 .1 .1)
+text-typed ws (a ∷ b ∷ c ∷ d ∷ e ∷ f ∷ g ∷ []) h = absurd (h .1 .1 .1 .1 .1 .1 .1)
+text-typed ws (a ∷ b ∷ c ∷ d ∷ e ∷ f ∷ g ∷ i ∷ vs) h =
+    ((h .0, h .1 .0, h .1 .1 .0, h .1 .1 .1 .0, h .1 .1 .1 .1 .0, h .1 .1 .1 .1 .1 .0, h .1 .1 .1 .1 .1 .1 .0, h .1 .1 .1 .1 .1 .1 .1 .0), h .1 .1 .1 .1 .1 .1 .1 .1)
+
+padding-dropped : (n : ℕ) (rs : List Run) (vs : List ℕ) → Within (layoutWidths (replicate n octetRun ++ rs)) vs → Within (layoutWidths rs) (drop n vs)
+padding-dropped zero rs vs h = h
+padding-dropped (suc n) rs [] h = absurd h
+padding-dropped (suc n) rs (v ∷ vs) h = padding-dropped n rs vs (h .1)
+
+-- each number is one that its type has, and the tests of its room change nothing
+abbrev RowOk : (cs : List Column) → Row cs → Type 0
+RowOk cs r = RowTyped cs r × ((b : Bool) → rowTested b cs r ≡ b)
+
+module _ {A : Type 0} where
+  row-typed : (ms : List (Member A)) (vs : List ℕ) → RowSound (structColumns ms) → Within (layoutWidths (structRuns ms)) vs
+      → RowOk (structColumns ms) (structRowFrom ms vs)
+  row-typed [] vs s h = (tt, λ b. refl)
+  row-typed (bool get ∷ ms) [] s h = absurd h
+  row-typed (bool get ∷ ms) (v ∷ vs) s h = let r = row-typed ms vs (s .1) (h .1) in ((tt, r .0), r .1)
+  row-typed (low n k get ∷ ms) [] s h = absurd h
+  row-typed (low n k get ∷ ms) (v ∷ vs) s h =
+      let r = row-typed ms vs (s .1) (h .1) in
+      let a = number-again k (n * 8) v (s .0) (h .0) in
+      ((a .typed .0, r .0), λ b. r .1 (tested b (field k (n * 8)) (numberOf k (n * 8) v)) ∙ a .fit b)
+  row-typed (text get ∷ ms) vs s h =
+      let t = text-typed (layoutWidths (structRuns ms)) vs h in
+      let r = row-typed ms (drop 8 vs) (s .1) (t .1) in
+      ((t .0, r .0), r .1)
+  row-typed (padding n ∷ ms) vs s h = row-typed ms (drop n vs) s (padding-dropped n (structRuns ms) vs h)
+
+-- where the members of a value made of members are these
+pub held-typed : {A : Type 0} (s : Struct A) → RightStruct s
+    → ((r : Row (structColumns (s .members))) → structRowOf (s .members) (made (structColumns (s .members)) (s .value) r) ≡ r)
+    → (message : List ℕ) → Octets message → length message ≡ structSize s → TypedIn s (held s message)
+unfolding held
+held-typed s ok again message is n =
+    let vs : List ℕ = layoutFields (structRuns (s .members)) message in
+    let r = row-typed (s .members) vs (ok .sound) (fields-within (structRuns (s .members)) message (whole (s .members)) is n) in
+    let e = again (structRowFrom (s .members) vs) in
+    rw e (r .0, r .1 true)

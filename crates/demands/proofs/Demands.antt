@@ -21,7 +21,8 @@ use Rattle.refusals.specs.Numbers as because
 use Rattle.ucp_receiver.specs.declared.Answer.the-variants.{Nothing}
 use Rattle.c_ucp_receiver.specs.Numbers.{restIn, answerIn, answerValue}
 use Rattle.thm_mavlink_messages.proofs.RoundTrips as mavlink-trips
-use Rattle.thm_ucp_messages.proofs.Delivery.{sent-is-delivered}
+use Rattle.thm_c_messages.proofs.EachKind.{lent-round-trips}
+use Rattle.thm_ucp_messages.proofs.Delivery.{sent-is-delivered, delivered-writes-back}
 use Rattle.thm_ucp_messages.proofs.ReadBack as message-read
 use Rattle.thm_ucp_messages.proofs.WriteBack as message-write
 use Rattle.ucp_messages.specs.Messages.{messageFits, messageBody}
@@ -159,6 +160,7 @@ demand2 =
       answersByHistory = answers;
       stretchIsAnswered = stretch-is-answered;
       deliveredIsFrame = put-out-is-frame;
+      deliveredWritesBack = delivered-writes-back;
       frameIsDelivered = frame-is-put-out;
       countsByHistory = counts;
       everyOctetCounted = every-octet-counted;
@@ -172,6 +174,7 @@ demand2 =
       messageReadsBack = message-read.written-reads-back;
       messageWritesBack = message-write.accepted-writes-back;
       uplinkReadsBack = message-read.uplink-reads-back;
+      lentMessagesReadAndWriteBack = lent-round-trips;
       sentIsDelivered = sent-is-delivered;
       mavlinkReadsBack = mavlink-trips.written-reads-back;
       mavlinkWritesBack = mavlink-trips.accepted-writes-back;

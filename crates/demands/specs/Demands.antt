@@ -29,7 +29,8 @@ use Rattle.mavlink_messages.specs.declared.Read.the-variants as mavlink-read
 use Rattle.mavlink_messages.specs.Messages.{readDue, writeDue, messageFrame, inRange, payloadOf}
 use Rattle.mavlink_messages.specs.Refusals.{MavlinkShort, MavlinkWrongStart, MavlinkUnknownId, MavlinkWrongLength, MavlinkWrongCheck, MavlinkOutsideRange}
 use Rattle.thm_mavlink_messages.specs.RoundTrips as mavlink-trips
-use Rattle.thm_ucp_messages.specs.Delivery.{SentIsDelivered}
+use Rattle.thm_c_messages.specs.RoundTrips.{LentRoundTrips}
+use Rattle.thm_ucp_messages.specs.Delivery.{SentIsDelivered, DeliveredWritesBack}
 use Rattle.thm_ucp_messages.specs.RoundTrips as message-trips
 use Rattle.ucp_receiver.specs.declared.Record.{Record}
 use Rattle.ucp_receiver.specs.declared.Received.{Received}
@@ -195,6 +196,7 @@ pub record Demand2 : Type 0 where
   pub stretchIsAnswered : StretchIsAnswered
   -- "each frame delivered writes back to the same bytes", and each frame written is delivered
   pub deliveredIsFrame : PutOutIsFrame
+  pub deliveredWritesBack : DeliveredWritesBack
   pub frameIsDelivered : FrameIsPutOut
   -- "Every byte received on the UCP line is counted once, under the class its history gives"
   pub countsByHistory : CountsByHistory
@@ -213,6 +215,8 @@ pub record Demand2 : Type 0 where
   pub messageReadsBack : message-trips.MessageReadsBack
   pub messageWritesBack : message-trips.MessageWritesBack
   pub uplinkReadsBack : message-trips.UplinkReadsBack
+  -- of the calls that C links for one kind, `ostrogosz_ucp_read_..` and `ostrogosz_ucp_write_..`, by `ReadsInto` and `WritesStructBody`
+  pub lentMessagesReadAndWriteBack : LentRoundTrips
   pub sentIsDelivered : SentIsDelivered
   pub mavlinkReadsBack : mavlink-trips.MavlinkReadsBack
   pub mavlinkWritesBack : mavlink-trips.MavlinkWritesBack

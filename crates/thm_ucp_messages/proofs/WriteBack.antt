@@ -1,15 +1,18 @@
 -- An accepted body writes back to the same octets, by its kind's format. Assumes nothing.
 use mathlib.Core.Path.{_≡_, refl, sym, ap, _∙_, subst}
 use mathlib.Core.Bool.{Bool, true, false, cond}
-use mathlib.Core.List.{List, [], _∷_}
+use mathlib.Core.List.{List, [], _∷_, _++_}
 use mathlib.Core.Logic.{_⊎_, inl, inr}
-use Prim.Native.Nat.{ℕ}
+use Prim.Native.Nat.{ℕ, _≤_}
 use native.Mathlib.Omega.{arith}
-use borrow.Author.Tests.{eqb-true, eq-eqb}
+use borrow.Author.Tests.{eqb-true, eq-eqb, le-ltb}
 use lib.Dec.{eqb}
 use lib.ListN.{length, getD, drop, length-drop}
 use Rattle.crc_polynomial.specs.Polynomial.{Octets}
 use Rattle.field_format.specs.Format.{Format, Right, HasId, fits, bodyOf, valueIn}
+use Rattle.output_writing.specs.declared.Written.{Written}
+use Rattle.output_writing.specs.Writing.{wrote, writerAnswer, outputAfter}
+use Rattle.ucp_answers.specs.Writes.{bodyDue, WritesBody}
 use Rattle.ucp_answers.specs.Refusals.{refusalOf, reads}
 use Rattle.ucp_answers.proofs.RoundTrips as formats
 use Rattle.ucp_messages.specs.declared.Kind.{Kind}
@@ -25,7 +28,7 @@ use Rattle.ucp_kinds.specs.Request44.{requestFormat}
 use Rattle.ucp_kinds.specs.Control45.{controlFormat}
 use Rattle.ucp_kinds.specs.Initialization117.{initializationFormat}
 use Rattle.ucp_messages.specs.Kinds.{kindOf, kindIn}
-use Rattle.ucp_messages.specs.Messages.{means, refused, meansUnlessRefused, answerAs, messageFits, messageBody}
+use Rattle.ucp_messages.specs.Messages.{ReaderAnswer, means, refused, meansUnlessRefused, payloadBy, answerAs, messageDue, messageFits, messageBody}
 use Rattle.thm_ucp_messages.specs.RoundTrips.{MessageWritesBack}
 
 -- ---- the ID of a kind
@@ -95,7 +98,7 @@ means-so n x m = go (eqb n 0) refl
 
 -- the message writes back
 abbrev Back : List ℕ → Message → Type 0
-Back body m = (messageFits m (drop 1 body) ≡ true) × (messageBody m (drop 1 body) ≡ body)
+Back body m = (messageFits m (payloadBy (means m) body) ≡ true) × (messageBody m (payloadBy (means m) body) ≡ body)
 
 uplink-same : (body : List ℕ) → length body ≡ 436 → getD body 0 0 ≡ 7 → 7 ∷ drop 1 body ≡ body
 uplink-same [] n e = absurd (omega arith)
@@ -103,8 +106,8 @@ uplink-same (x ∷ xs) n e = ap (λ (y : ℕ). y ∷ xs) (sym e)
 
 module _ (body : List ℕ) (m : Message) (h : Octets body) where
   -- where its kind has a format
-  by-format : {A : Type 0} (f : Format A) → Right f → (g : A → Message) → ((a : A) → messageFits (g a) (drop 1 body) ≡ fits f a)
-      → ((a : A) → messageBody (g a) (drop 1 body) ≡ bodyOf f a) → HasId (f .head) body
+  by-format : {A : Type 0} (f : Format A) → Right f → (g : A → Message) → ((a : A) → messageFits (g a) (payloadBy (means (g a)) body) ≡ fits f a)
+      → ((a : A) → messageBody (g a) (payloadBy (means (g a)) body) ≡ bodyOf f a) → HasId (f .head) body
       → reads f refused (λ x. means (g x)) body ≡ means m → Back body m
   unfolding reads
   by-format f ok g fitted bodied i a =
@@ -130,5 +133,18 @@ module _ (body : List ℕ) (m : Message) (h : Octets body) where
       by-format initializationFormat initialization-right message.Initialization (λ x. refl) (λ x. refl) (id-is body Initialization e refl) a
   by-kind Unknown e a = let z : _≡_ {A = ℕ} 0 1 = cc in absurd (omega arith)
 
+-- ---- calls
+-- a body that fits, and has room, is written
+written : {fits : Bool} {body output after : List ℕ} {w : Written} (same : List ℕ) → fits ≡ true → body ≡ same → length same ≤ length output
+    → WritesBody fits body output w after → (writerAnswer w ≡ wrote (length same)) × (after ≡ same ++ drop (length same) output)
+unfolding bodyDue
+written {fits} {body} {output} {after} {w} same f e room call =
+    let a : writerAnswer w ≡ wrote (length same) = call .answers ∙ rw (f, e, le-ltb (length output) (length same) room) in
+    (a, call .leaves ∙ (λ i. outputAfter (e i) output (a i)))
+
 pub accepted-writes-back : MessageWritesBack
-accepted-writes-back body m h = by-kind body m h (kindIn body) refl
+accepted-writes-back body payload output after m r w h reading e gives room call =
+    let due : messageDue body ≡ means m = sym reading ∙ e in
+    let back = by-kind body m h (kindIn body) refl due in
+    let same : payload ≡ payloadBy (means m) body = gives ∙ ap (λ (answer : ReaderAnswer). payloadBy answer body) due in
+    written body (ap (messageFits m) same ∙ back .0) (ap (messageBody m) same ∙ back .1) room call

@@ -1,2 +1,3 @@
 pub mod BodyKind
 pub mod Readers
+pub mod Payload

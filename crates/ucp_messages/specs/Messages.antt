@@ -13,8 +13,9 @@ use Rattle.ucp_messages.specs.declared.Kind.the-variants as kind
 use Rattle.ucp_messages.specs.declared.Message.{Message}
 use Rattle.ucp_messages.specs.declared.Message.the-variants.{Heartbeat, Uplink, Ownship, GeometricAltitude, Traffic, Request, Control, Initialization}
 use mathlib.Core.Path.{_≡_}
-use mathlib.Core.List.{List}
+use mathlib.Core.List.{List, []}
 use Prim.Native.Nat.{ℕ}
+use lib.ListN.{drop}
 use Rattle.refusals.specs.Numbers as because
 use Rattle.ucp_answers.specs.Refusals
 use Rattle.ucp_answers.specs.Refusals.{refusalOf, reads}
@@ -108,3 +109,17 @@ messageFits m = carriedFits (carriedBy m)
 
 unfoldable pub messageBody : Message → List ℕ → List ℕ
 messageBody m = carriedBody (carriedBy m)
+
+-- ---- an uplink's payload, which is no part of the message: the body without its first octet
+abbrev carriedPayload : Carried → List ℕ → List ℕ
+carriedPayload (value f a) body = []
+carriedPayload payload body = drop 1 body
+
+-- of another message, and of a body that is refused, there is none
+abbrev pub payloadBy : ReaderAnswer → List ℕ → List ℕ
+payloadBy (refused number) body = []
+payloadBy (means message) body = carriedPayload (carriedBy message) body
+
+-- one call, whole: the body, and the octets that are given
+abbrev pub GivesPayload : List ℕ → List ℕ → Type 0
+GivesPayload body given = given ≡ payloadBy (messageDue body) body

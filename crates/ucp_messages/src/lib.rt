@@ -19,7 +19,7 @@ use ucp_kinds::uplink_7;
 ghost use mathlib.Core.Path.{_≡_};
 ghost use Rattle.ucp_answers.specs.Writes.{WritesBody};
 ghost use Rattle.ucp_messages.specs.Kinds.{kindOf};
-ghost use Rattle.ucp_messages.specs.Messages.{Reads, messageFits, messageBody};
+ghost use Rattle.ucp_messages.specs.Messages.{Reads, GivesPayload, messageFits, messageBody};
 
 // The kinds of message. An ID that is none of theirs is of an unknown kind.
 pub enum Kind {
@@ -90,6 +90,19 @@ pub fn read_message(body: &[u8]) -> Read
         Kind::Initialization => kinds::initialization(body),
         Kind::Unknown => Read::Refused(refusals::UNKNOWN_ID),
     }
+}
+
+// The payload of an uplink, which is a part of its body. Of another message, and of a body that is refused, there is none.
+pub fn uplink_payload(body: &[u8]) -> &[u8]
+    ensures { λ r. ⌜ GivesPayload (now (body .entry)) (now r) ⌝ }
+{
+    if body.len() != 436 {
+        return &body[..0];
+    }
+    if body[0] != 7 {
+        return &body[..0];
+    }
+    &body[1..]
 }
 
 // Writes a message's body at the start of output. Only an uplink takes the payload. Refusals: 13, a field outside its range or

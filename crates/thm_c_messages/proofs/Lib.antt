@@ -1,0 +1,3 @@
+pub mod Accepted
+pub mod Structs
+pub mod EachKind
