@@ -7,13 +7,12 @@ use borrow.Author.Tests.{eq-eqb, le-ltb}
 use lib.Dec.{eqb}
 use lib.ListN.{length, getD}
 use Rattle.mavlink_frame.specs.declared.Kind.{Kind}
-use Rattle.mavlink_frame.specs.declared.Found.the-variants.{Frame, Refused}
-use Rattle.mavlink_frame.specs.Reader.{headerAt, checkAt, checkDue, foundOf}
+use Rattle.mavlink_frame.specs.Reader.{refused, frame, headerAt, checkAt, checkDue, foundOf}
 use Rattle.c_mavlink.specs.Ids.{refusalBeforeCheck, idNumbers}
 
 -- a frame of a kind that is there is named, whether its check is right or wrong
 either : (right : Bool) (k : Kind) (s : List ℕ)
-    → idNumbers 0 s ≡ idNumbers (refusalBeforeCheck (cond right (Frame (k .id) (headerAt s) (k .length + 8)) (Refused 24))) s
+    → idNumbers 0 s ≡ idNumbers (refusalBeforeCheck (cond right (frame (k .id) (headerAt s) (k .length + 8)) (refused 24))) s
 either true k s = refl
 either false k s = refl
 

@@ -10,15 +10,12 @@ use lib.ListN.{length, getD}
 use Rattle.field_format.specs.Format.{Format, valueIn}
 use Rattle.mavlink_frame.specs.declared.Header.{Header}
 use Rattle.mavlink_frame.specs.declared.Kind.{Kind}
-use Rattle.mavlink_frame.specs.declared.Found.{Found}
-use Rattle.mavlink_frame.specs.declared.Found.the-variants as found-as
-use Rattle.mavlink_frame.specs.declared.Lookup.{Lookup}
-use Rattle.mavlink_frame.specs.Frame.{mavlinkKind, start}
-use Rattle.mavlink_frame.specs.Reader.{headerAt, payloadAt, found}
+use Rattle.mavlink_frame.specs.Reader as found-as
+use Rattle.mavlink_frame.specs.Frame.{KindAnswer, mavlinkKind, start}
+use Rattle.mavlink_frame.specs.Reader.{FrameAnswer, headerAt, payloadAt, found}
 use Rattle.mavlink_frame.proofs.reader.Accepted.{Accepted, accepted}
 use Rattle.mavlink_frame.proofs.reader.Numbers.{numbered}
 use Rattle.mavlink_messages.specs.declared.Message as message-as
-use Rattle.mavlink_messages.specs.declared.Read.{Read}
 use Rattle.mavlink_messages.specs.Messages.{judgedBy, payloadRead, readBy}
 use Rattle.c_lent.specs.Structs.{stored}
 use Rattle.c_mavlink.specs.Structs.{headerStruct, messageStored}
@@ -36,7 +33,7 @@ module _ (id : ℕ) (s : List ℕ) where
     unfolding foundAs
     as-found = rw e
 
-    pub not-found : {number : ℕ} → found s ≡ found-as.Refused number → Tested id s number
+    pub not-found : {number : ℕ} → found s ≡ found-as.refused number → Tested id s number
     not-found {number} f =
         let some = numbered s number f in
         record { refused = λ h. as-found ∙ f; taken = λ z. absurd (omega arith) }
@@ -51,7 +48,7 @@ module _ (id : ℕ) (s : List ℕ) where
         let not-other : not (eqb (getD s 5 0) id) ≡ false = rw (there, first) at e in
         sym (a .numbered) ∙ eqb-true _ _ (not-false _ not-other)
 
-    taken-by : {i : ℕ} {h : Header} {used : ℕ} → found s ≡ found-as.Frame i h used → Accepted s i h used → TakenBy (mavlinkKind id) s
+    taken-by : {i : ℕ} {h : Header} {used : ℕ} → found s ≡ found-as.frame i h used → Accepted s i h used → TakenBy (mavlinkKind id) s
     taken-by f a =
         let k = a .kind in
         let same = same-kind a in
@@ -62,18 +59,18 @@ module _ (id : ℕ) (s : List ℕ) where
         record {
           room = omega arith;
           is = ap (λ (n : ℕ). foundAs n s) here ∙ as-found ∙ f
-              ∙ (λ j. found-as.Frame (sym (a .named) j) (a .header j) (a .ends j));
+              ∙ (λ j. found-as.frame (sym (a .named) j) (a .header j) (a .ends j));
         }
         in
-        subst (λ (l : Lookup). TakenBy l s) (sym (a .known) ∙ ap mavlinkKind same) t
+        subst (λ (l : KindAnswer). TakenBy l s) (sym (a .known) ∙ ap mavlinkKind same) t
 
-    pub own-kind : {i : ℕ} {h : Header} {used : ℕ} → found s ≡ found-as.Frame i h used → Tested id s 0
+    pub own-kind : {i : ℕ} {h : Header} {used : ℕ} → found s ≡ found-as.frame i h used → Tested id s 0
     own-kind {i} {h} {used} f = record { refused = λ z. absurd (omega arith); taken = λ z. taken-by f (accepted s i h used f) }
 
 -- ---- the answers
 module _ (header message : List ℕ) where
   -- refused up to the check
-  pub frame-refused : (id : ℕ) (s : List ℕ) {number : ℕ} → foundAs id s ≡ found-as.Refused number
+  pub frame-refused : (id : ℕ) (s : List ℕ) {number : ℕ} → foundAs id s ≡ found-as.refused number
       → ReadsMavlink (readAs id s) header message number header message
   frame-refused id s e = rw e (record { answers = refl; leaves-header = refl; leaves-message = refl })
 
@@ -87,7 +84,7 @@ module _ (header message : List ℕ) where
     due : {fits : Bool} → f .ranges (valueIn f (payloadAt (k .length) s)) ≡ fits
         → readAs (k .id) s ≡ judgedBy fits (headerAt s) (k .length + 8) (is (valueIn f (payloadAt (k .length) s)))
     due e =
-        ap (λ (found : Found). readBy found s) (t .is)
+        ap (λ (found : FrameAnswer). readBy found s) (t .is)
         ∙ ap (λ (n : ℕ). payloadRead (k .id) (headerAt s) (k .length + 8) (payloadAt n s)) size
         ∙ reads (headerAt s) (k .length + 8) (payloadAt (k .length) s)
         ∙ ap (λ (b : Bool). judgedBy b (headerAt s) (k .length + 8) (is (valueIn f (payloadAt (k .length) s)))) e

@@ -6,15 +6,13 @@ use Prim.Native.Nat.{ℕ, zero, suc, _+_}
 use lib.Dec.{eqb}
 use lib.ListN.{getD}
 use Rattle.refusals.specs.Numbers as because
-use Rattle.mavlink_frame.specs.declared.Found.{Found}
-use Rattle.mavlink_frame.specs.declared.Found.the-variants.{Frame, Refused}
-use Rattle.mavlink_frame.specs.Reader.{found}
+use Rattle.mavlink_frame.specs.Reader.{FrameAnswer, refused, frame, found}
 use Rattle.c_mavlink.specs.declared.OstrogoszMavlinkId.{OstrogoszMavlinkId}
 
 -- the refusal that is due before the check is looked at; 0, where none is
-abbrev pub refusalBeforeCheck : Found → ℕ
-refusalBeforeCheck (Frame id h used) = 0
-refusalBeforeCheck (Refused number) = cond (eqb number because.mavlinkWrongCheck) 0 number
+abbrev pub refusalBeforeCheck : FrameAnswer → ℕ
+refusalBeforeCheck (frame id h used) = 0
+refusalBeforeCheck (refused number) = cond (eqb number because.mavlinkWrongCheck) 0 number
 
 -- a refusal's number, and all else 0; or no refusal, the message ID, and how many octets the frame has
 abbrev pub idNumbers : ℕ → List ℕ → OstrogoszMavlinkId

@@ -7,13 +7,10 @@ use Prim.Native.Nat.{ℕ}
 use lib.Dec.{eqb, leb}
 use lib.ListN.{length, getD}
 use Rattle.refusals.specs.Numbers as because
-use Rattle.mavlink_frame.specs.declared.Found.{Found}
-use Rattle.mavlink_frame.specs.declared.Found.the-variants as found-as
+use Rattle.mavlink_frame.specs.Reader as found-as
 use Rattle.mavlink_frame.specs.Frame.{start}
-use Rattle.mavlink_frame.specs.Reader.{found}
-use Rattle.mavlink_messages.specs.declared.Read.{Read}
-use Rattle.mavlink_messages.specs.declared.Read.the-variants.{Message, Refused}
-use Rattle.mavlink_messages.specs.Messages.{readBy}
+use Rattle.mavlink_frame.specs.Reader.{FrameAnswer, found}
+use Rattle.mavlink_messages.specs.Messages.{MavlinkAnswer, refused, means, readBy}
 use Rattle.c_lent.specs.Structs.{stored}
 use Rattle.c_mavlink.specs.Structs.{headerStruct, messageStored}
 
@@ -22,28 +19,28 @@ abbrev pub isOther : ℕ → List ℕ → Bool
 isOther id s = leb 6 (length s) && (eqb (getD s 0 0) start && not (eqb (getD s 5 0) id))
 
 -- as `found` and `readDue`, but at the test of the message ID 22 for another kind's too
-unfoldable pub foundAs : ℕ → List ℕ → Found
-foundAs id s = cond (isOther id s) (found-as.Refused because.mavlinkUnknownId) (found s)
+unfoldable pub foundAs : ℕ → List ℕ → FrameAnswer
+foundAs id s = cond (isOther id s) (found-as.refused because.mavlinkUnknownId) (found s)
 
-abbrev pub readAs : ℕ → List ℕ → Read
+abbrev pub readAs : ℕ → List ℕ → MavlinkAnswer
 readAs id s = readBy (foundAs id s) s
 
 -- the refusal's number; 0 where a message is read
-abbrev pub readNumber : Read → ℕ
-readNumber (Refused number) = number
-readNumber (Message h used m f) = 0
+abbrev pub readNumber : MavlinkAnswer → ℕ
+readNumber (refused number) = number
+readNumber (means h used m f) = 0
 
 -- what the struct for the header then holds, and that for the message: what it held, where the call is refused
-abbrev pub headerLeft : List ℕ → Read → List ℕ
-headerLeft before (Refused number) = before
-headerLeft before (Message h used m f) = stored headerStruct h
+abbrev pub headerLeft : List ℕ → MavlinkAnswer → List ℕ
+headerLeft before (refused number) = before
+headerLeft before (means h used m f) = stored headerStruct h
 
-abbrev pub messageLeft : List ℕ → Read → List ℕ
-messageLeft before (Refused number) = before
-messageLeft before (Message h used m f) = messageStored m
+abbrev pub messageLeft : List ℕ → MavlinkAnswer → List ℕ
+messageLeft before (refused number) = before
+messageLeft before (means h used m f) = messageStored m
 
 -- one call, whole: what is due, and both structs as at entry; the answer, and both as at return
-pub record ReadsMavlink (due : Read) (header message : List ℕ) (answer : ℕ) (headerAfter messageAfter : List ℕ) : Type 0 where
+pub record ReadsMavlink (due : MavlinkAnswer) (header message : List ℕ) (answer : ℕ) (headerAfter messageAfter : List ℕ) : Type 0 where
   pub answers : answer ≡ readNumber due
   pub leaves-header : headerAfter ≡ headerLeft header due
   pub leaves-message : messageAfter ≡ messageLeft message due

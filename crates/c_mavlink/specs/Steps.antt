@@ -4,23 +4,21 @@ use mathlib.Core.List.{List}
 use Prim.Native.Nat.{ℕ, _+_, _<_, _≤_}
 use lib.ListN.{length}
 use Rattle.mavlink_frame.specs.declared.Kind.{Kind}
-use Rattle.mavlink_frame.specs.declared.Lookup.{Lookup}
-use Rattle.mavlink_frame.specs.declared.Lookup.the-variants.{Known, Unknown}
-use Rattle.mavlink_frame.specs.declared.Found.the-variants.{Frame, Refused}
-use Rattle.mavlink_frame.specs.Frame.{mavlinkKind}
-use Rattle.mavlink_frame.specs.Reader.{headerAt}
+use Rattle.mavlink_frame.specs.Frame.{KindAnswer, known, unknown, mavlinkKind}
+use Rattle.mavlink_frame.specs.Reader.{frame, headerAt}
+use Rattle.mavlink_frame.specs.Reader as found-as
 use Rattle.c_mavlink.specs.Readers.{foundAs}
 
 -- an input that begins with a right frame of a kind
 pub record Taken (k : Kind) (s : List ℕ) : Type 0 where
   pub room : k .length + 8 ≤ length s
-  pub is : foundAs (k .id) s ≡ Frame (k .id) (headerAt s) (k .length + 8)
+  pub is : foundAs (k .id) s ≡ frame (k .id) (headerAt s) (k .length + 8)
 
-abbrev pub TakenBy : Lookup → List ℕ → Type 0
-TakenBy (Known k) s = Taken k s
-TakenBy Unknown s = ⊥
+abbrev pub TakenBy : KindAnswer → List ℕ → Type 0
+TakenBy (known k) s = Taken k s
+TakenBy unknown s = ⊥
 
 -- the refusal that is due up to the check; 0 where the frame is right
 pub record Tested (id : ℕ) (s : List ℕ) (refusal : ℕ) : Type 0 where
-  pub refused : 0 < refusal → foundAs id s ≡ Refused refusal
+  pub refused : 0 < refusal → foundAs id s ≡ found-as.refused refusal
   pub taken : refusal ≡ 0 → TakenBy (mavlinkKind id) s

@@ -25,7 +25,7 @@ use Rattle.ucp_writer.specs.Writes.{WritesFrame}
 use Rattle.mavlink_frame.specs.declared.Header.{Header}
 use Rattle.mavlink_messages.specs.declared.Message as mavlink
 use Rattle.mavlink_messages.specs.declared.Read.{Read as MavlinkRead}
-use Rattle.mavlink_messages.specs.declared.Read.the-variants as mavlink-read
+use Rattle.mavlink_messages.specs.Messages as MavlinkReads
 use Rattle.mavlink_messages.specs.Messages.{readDue, writeDue, messageFrame, inRange, payloadOf}
 use Rattle.mavlink_messages.specs.Refusals.{MavlinkShort, MavlinkWrongStart, MavlinkUnknownId, MavlinkWrongLength, MavlinkWrongCheck, MavlinkOutsideRange}
 use Rattle.thm_mavlink_messages.specs.RoundTrips as mavlink-trips
@@ -116,19 +116,25 @@ pub record Demand1 : Type 0 where
       ↔ (((number ≡ because.field) × (messageFits m payload ≡ false))
       ⊎ ((number ≡ because.outputLength) × (messageFits m payload ≡ true) × (length output < length (messageBody m payload))))
   pub mavlinkReaderRefuses :
-      (input : List ℕ) (number : ℕ) → readDue input ≡ mavlink-read.Refused number → (20 ≤ number) × (number ≤ 25)
+      (input : List ℕ) (number : ℕ) → readDue input ≡ MavlinkReads.refused number → (20 ≤ number) × (number ≤ 25)
   pub mavlinkReaderRefuses20 :
-      (input : List ℕ) (r : MavlinkRead) → r ≡ readDue input → (r ≡ mavlink-read.Refused because.mavlinkShort) ↔ MavlinkShort input
+      (input : List ℕ) (r : MavlinkRead) → MavlinkReads.mavlinkAnswer r ≡ readDue input
+      → (MavlinkReads.mavlinkAnswer r ≡ MavlinkReads.refused because.mavlinkShort) ↔ MavlinkShort input
   pub mavlinkReaderRefuses21 :
-      (input : List ℕ) (r : MavlinkRead) → r ≡ readDue input → (r ≡ mavlink-read.Refused because.mavlinkStart) ↔ MavlinkWrongStart input
+      (input : List ℕ) (r : MavlinkRead) → MavlinkReads.mavlinkAnswer r ≡ readDue input
+      → (MavlinkReads.mavlinkAnswer r ≡ MavlinkReads.refused because.mavlinkStart) ↔ MavlinkWrongStart input
   pub mavlinkReaderRefuses22 :
-      (input : List ℕ) (r : MavlinkRead) → r ≡ readDue input → (r ≡ mavlink-read.Refused because.mavlinkUnknownId) ↔ MavlinkUnknownId input
+      (input : List ℕ) (r : MavlinkRead) → MavlinkReads.mavlinkAnswer r ≡ readDue input
+      → (MavlinkReads.mavlinkAnswer r ≡ MavlinkReads.refused because.mavlinkUnknownId) ↔ MavlinkUnknownId input
   pub mavlinkReaderRefuses23 :
-      (input : List ℕ) (r : MavlinkRead) → r ≡ readDue input → (r ≡ mavlink-read.Refused because.mavlinkLength) ↔ MavlinkWrongLength input
+      (input : List ℕ) (r : MavlinkRead) → MavlinkReads.mavlinkAnswer r ≡ readDue input
+      → (MavlinkReads.mavlinkAnswer r ≡ MavlinkReads.refused because.mavlinkLength) ↔ MavlinkWrongLength input
   pub mavlinkReaderRefuses24 :
-      (input : List ℕ) (r : MavlinkRead) → r ≡ readDue input → (r ≡ mavlink-read.Refused because.mavlinkWrongCheck) ↔ MavlinkWrongCheck input
+      (input : List ℕ) (r : MavlinkRead) → MavlinkReads.mavlinkAnswer r ≡ readDue input
+      → (MavlinkReads.mavlinkAnswer r ≡ MavlinkReads.refused because.mavlinkWrongCheck) ↔ MavlinkWrongCheck input
   pub mavlinkReaderRefuses25 :
-      (input : List ℕ) (r : MavlinkRead) → r ≡ readDue input → (r ≡ mavlink-read.Refused because.mavlinkField) ↔ MavlinkOutsideRange input
+      (input : List ℕ) (r : MavlinkRead) → MavlinkReads.mavlinkAnswer r ≡ readDue input
+      → (MavlinkReads.mavlinkAnswer r ≡ MavlinkReads.refused because.mavlinkField) ↔ MavlinkOutsideRange input
   pub mavlinkWriterRefuses :
       (m : mavlink.Message) (h : Header) (output after : List ℕ) (r : Written) (number : ℕ)
       → Writing (writeDue m output) (messageFrame m h) output r after

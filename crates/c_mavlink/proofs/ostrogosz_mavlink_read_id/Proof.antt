@@ -2,6 +2,7 @@
 use mathlib.Core.Path.{sym, ap, _∙_}
 use borrow.Author.Tests.{eq-eqb, ne-eqb, lt-ltb, le-ltb}
 use denote.Ref.{now}
+use Rattle.mavlink_frame.specs.Frame.{kindAnswer}
 use Rattle.mavlink_frame.specs.Reader.{foundBy, found}
 use Rattle.c_mavlink.specs.Ids.{refusalBeforeCheck, idNumbers}
 use borrow.Author.Needs.{needs}
@@ -27,7 +28,7 @@ returns-4 c =
     let s = now (c .before .before .before .before .before .before .before .before .before .before .before .args .input) in
     rw (ne-eqb _ _ (c .before .before .before .before .before .before .before .before .before .if1 .left), eq-eqb _ _ (c .before .before .before .before .before .before .before .if2 .left), le-ltb _ _ (c .before .before .before .before .before .before .if3 .left))
     (c .id-of .ensures
-    ∙ ap (λ l. idNumbers (refusalBeforeCheck (foundBy l s)) s) (sym (c .before .before .kind .given .1) ∙ c .before .before .before .before .kind-of .ensures))
+    ∙ ap (λ l. idNumbers (refusalBeforeCheck (foundBy l s)) s) (sym (ap kindAnswer (c .before .before .kind .given .1)) ∙ c .before .before .before .before .kind-of .ensures))
 
 returns-5 : tie.Need-returns-5
 unfolding found
@@ -35,7 +36,7 @@ returns-5 c =
     let s = now (c .before .before .before .before .before .before .before .before .before .before .args .input) in
     rw (ne-eqb _ _ (c .before .before .before .before .before .before .before .before .if1 .left), eq-eqb _ _ (c .before .before .before .before .before .before .if2 .left), le-ltb _ _ (c .before .before .before .before .before .if3 .left))
     (c .refused4 .ensures
-    ∙ ap (λ l. idNumbers (refusalBeforeCheck (foundBy l s)) s) (sym (c .before .enum-told .given .1) ∙ c .before .before .before .kind-of .ensures))
+    ∙ ap (λ l. idNumbers (refusalBeforeCheck (foundBy l s)) s) (sym (ap kindAnswer (c .before .enum-told .given .1)) ∙ c .before .before .before .kind-of .ensures))
 
 pub ostrogosz-mavlink-read-id-spec : {M : Type 1} → statement M
 ostrogosz-mavlink-read-id-spec =

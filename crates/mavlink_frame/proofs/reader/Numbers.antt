@@ -6,41 +6,37 @@ use Prim.Native.Nat.{ℕ, _+_, _<_}
 use native.Mathlib.Omega.{arith}
 use lib.Dec.{eqb, ltb}
 use lib.ListN.{length, getD}
-use Rattle.mavlink_frame.specs.declared.Lookup.{Lookup}
-use Rattle.mavlink_frame.specs.declared.Lookup.the-variants.{Known, Unknown}
-use Rattle.mavlink_frame.specs.declared.Found.{Found}
-use Rattle.mavlink_frame.specs.declared.Found.the-variants.{Frame, Refused}
-use Rattle.mavlink_frame.specs.Frame.{mavlinkKind, start}
-use Rattle.mavlink_frame.specs.Reader.{checkAt, checkDue, foundOf, foundBy, found}
+use Rattle.mavlink_frame.specs.Frame.{KindAnswer, known, unknown, mavlinkKind, start}
+use Rattle.mavlink_frame.specs.Reader.{FrameAnswer, refused, frame, checkAt, checkDue, foundOf, foundBy, found}
 
-abbrev numberIn : Found → ℕ
-numberIn (Frame id h used) = 1
-numberIn (Refused number) = number
+abbrev numberIn : FrameAnswer → ℕ
+numberIn (frame id h used) = 1
+numberIn (refused number) = number
 
 -- where two answers have one, so does a choice of them
-either : (t : Bool) (a b : Found) → 0 < numberIn a → 0 < numberIn b → 0 < numberIn (cond t a b)
+either : (t : Bool) (a b : FrameAnswer) → 0 < numberIn a → 0 < numberIn b → 0 < numberIn (cond t a b)
 either true a b h k = h
 either false a b h k = k
 
 one : 0 < 1
 one = omega arith
 
-by-kind : (l : Lookup) (s : List ℕ) → 0 < numberIn (foundBy l s)
+by-kind : (l : KindAnswer) (s : List ℕ) → 0 < numberIn (foundBy l s)
 unfolding foundOf
-by-kind Unknown s = omega arith
-by-kind (Known k) s =
-    either (eqb (getD s 1 0) (k .length)) _ (Refused 23)
-    (either (ltb (length s) (k .length + 8)) (Refused 20) _ (omega arith)
-    (either (eqb (checkAt (k .length) s) (checkDue (k .length) (k .extra) s)) (Frame (k .id) _ (k .length + 8)) (Refused 24) one (omega arith)))
+by-kind unknown s = omega arith
+by-kind (known k) s =
+    either (eqb (getD s 1 0) (k .length)) _ (refused 23)
+    (either (ltb (length s) (k .length + 8)) (refused 20) _ (omega arith)
+    (either (eqb (checkAt (k .length) s) (checkDue (k .length) (k .extra) s)) (frame (k .id) _ (k .length + 8)) (refused 24) one (omega arith)))
     (omega arith)
 
 all : (s : List ℕ) → 0 < numberIn (found s)
 unfolding found
 all s =
-    either (eqb (length s) 0) (Refused 20) _ (omega arith)
-    (either (eqb (getD s 0 0) start) _ (Refused 21)
-    (either (ltb (length s) 6) (Refused 20) (foundBy (mavlinkKind (getD s 5 0)) s) (omega arith) (by-kind (mavlinkKind (getD s 5 0)) s))
+    either (eqb (length s) 0) (refused 20) _ (omega arith)
+    (either (eqb (getD s 0 0) start) _ (refused 21)
+    (either (ltb (length s) 6) (refused 20) (foundBy (mavlinkKind (getD s 5 0)) s) (omega arith) (by-kind (mavlinkKind (getD s 5 0)) s))
     (omega arith))
 
-pub numbered : (s : List ℕ) (number : ℕ) → found s ≡ Refused number → 0 < number
-numbered s number e = subst (λ (f : Found). 0 < numberIn f) e (all s)
+pub numbered : (s : List ℕ) (number : ℕ) → found s ≡ refused number → 0 < number
+numbered s number e = subst (λ (f : FrameAnswer). 0 < numberIn f) e (all s)
