@@ -26,9 +26,9 @@ unless mark (pos n) = cond (eqb n mark) NoData (Known (pos n))
 unless mark (negsuc n) = Known (negsuc n)
 
 -- what a raw number means
-abbrev pub readingOf : Meaning → Reading
-readingOf noData = NoData
-readingOf (meantValue z) = Known z
+abbrev pub meantReading : Meaning → Reading
+meantReading noData = NoData
+meantReading (meantValue z) = Known z
 
 -- behind a number
 abbrev pub unitShown : Unit → List ℕ
@@ -73,10 +73,10 @@ quotedText t = quoted (textOctets t)
 -- ---- the raw numbers of messages 10, 11 and 20
 
 abbrev pub reportAltitude : ℕ → Value
-reportAltitude n = reading Ones Feet (readingOf (altitudeMeans n))
+reportAltitude n = reading Ones Feet (meantReading (altitudeMeans n))
 
 abbrev pub rate : ℤ → Value
-rate z = reading Ones FeetPerMinute (readingOf (rateMeans z))
+rate z = reading Ones FeetPerMinute (meantReading (rateMeans z))
 
 abbrev pub geometricAltitude : ℤ → Value
 geometricAltitude z = reading Ones Feet (Known (geometricMeans z))
