@@ -1,11 +1,11 @@
--- `c_lent::put_16` meets its contract. Assumes nothing.
+-- `c_ucp_report::put_16` meets its contract. Assumes nothing.
 use Prim.Native.Nat.{_/_, _%_}
 use denote.Ref.{now}
 use lib.ListN.{length-set}
-use Rattle.c_lent.proofs.Puts.{two-put}
+use Rattle.c_ucp_report.proofs.Puts.{two-put}
 use borrow.Author.Needs.{needs}
-use Rattle.c_lent.proofs.put_16.Statement.{statement}
-use Rattle.c_lent.proofs.put_16.Tie as tie
+use Rattle.c_ucp_report.proofs.put_16.Statement.{statement}
+use Rattle.c_ucp_report.proofs.put_16.Tie as tie
 
 returns : tie.Need-returns
 returns c = two-put (now (c .args .message)) (c .args .at) (c .args .number % 256) (c .args .number / 256)
