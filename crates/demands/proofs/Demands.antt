@@ -15,7 +15,7 @@ use Rattle.ucp_frame.specs.Stretch.{Verdict, silent, refused, delivered}
 use Rattle.ucp_frame.proofs.Frame.{frame-length-longest}
 use Rattle.output_writing.specs.Writing.{outputAfter}
 use Rattle.thm_mavlink_messages.proofs.RoundTrips as mavlink-trips
-use Rattle.thm_c_messages.proofs.EachKind.{lent-round-trips}
+use Rattle.thm_c_messages.proofs.EachKind.{lent-round-trips, lent-sent-is-delivered}
 use Rattle.thm_ucp_messages.proofs.Delivery.{sent-is-delivered, delivered-writes-back}
 use Rattle.thm_ucp_messages.proofs.ReadBack as message-read
 use Rattle.thm_ucp_messages.proofs.WriteBack as message-write
@@ -128,6 +128,7 @@ demand2 =
       messageWritesBack = message-write.accepted-writes-back;
       uplinkReadsBack = message-read.uplink-reads-back;
       lentMessagesReadAndWriteBack = lent-round-trips;
+      lentMessageSentIsDelivered = lent-sent-is-delivered;
       sentIsDelivered = sent-is-delivered;
       mavlinkReadsBack = mavlink-trips.written-reads-back;
       mavlinkWritesBack = mavlink-trips.accepted-writes-back;
