@@ -30,6 +30,7 @@ use Rattle.mavlink_messages.specs.Messages.{readDue, writeDue, messageFrame, in
 use Rattle.mavlink_messages.specs.Refusals.{MavlinkShort, MavlinkWrongStart, MavlinkUnknownId, MavlinkWrongLength, MavlinkWrongCheck, MavlinkOutsideRange}
 use Rattle.thm_mavlink_messages.specs.RoundTrips as mavlink-trips
 use Rattle.thm_c_messages.specs.RoundTrips.{LentRoundTrips}
+use Rattle.thm_c_messages.specs.Delivery.{LentSentIsDelivered}
 use Rattle.thm_ucp_messages.specs.Delivery.{SentIsDelivered, DeliveredWritesBack}
 use Rattle.thm_ucp_messages.specs.RoundTrips as message-trips
 use Rattle.ucp_receiver.specs.declared.Record.{Record}
@@ -221,8 +222,10 @@ pub record Demand2 : Type 0 where
   pub messageReadsBack : message-trips.MessageReadsBack
   pub messageWritesBack : message-trips.MessageWritesBack
   pub uplinkReadsBack : message-trips.UplinkReadsBack
-  -- of the calls that C links for one kind, `ostrogosz_ucp_read_..` and `ostrogosz_ucp_write_..`, by `ReadsInto` and `WritesStructBody`
+  -- of the calls that C links for one kind, `ostrogosz_ucp_read_..`, `ostrogosz_ucp_write_..` and `ostrogosz_ucp_send_..`, by
+  -- `ReadsInto`, `WritesStructBody` and `SendsStruct` (c_lent)
   pub lentMessagesReadAndWriteBack : LentRoundTrips
+  pub lentMessageSentIsDelivered : LentSentIsDelivered
   pub sentIsDelivered : SentIsDelivered
   pub mavlinkReadsBack : mavlink-trips.MavlinkReadsBack
   pub mavlinkWritesBack : mavlink-trips.MavlinkWritesBack

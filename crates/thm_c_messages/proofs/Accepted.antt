@@ -2,6 +2,7 @@
 use mathlib.Core.Path.{_≡_, refl, sym, ap, ap₂, _∙_}
 use mathlib.Core.Bool.{Bool, true, false, cond, _&&_}
 use mathlib.Core.List.{List, [], _∷_, _++_}
+use mathlib.Core.Logic.{_⊎_, inl, inr}
 use Prim.Native.Nat.{ℕ, _≤_, _<_}
 use native.Mathlib.Omega.{arith}
 use borrow.Author.Tests.{le-ltb, lt-ltb, ltb-true, ltb-false, eqb-true, eq-eqb}
@@ -12,6 +13,12 @@ use Rattle.field_format.proofs.Conjunction.{both}
 use Rattle.output_writing.specs.declared.OstrogoszWritten.{OstrogoszWritten}
 use Rattle.output_writing.specs.Writing.{WriterAnswer, refused, wrote, outputAfter, writtenNumbers, WritingNumbers}
 use Rattle.ucp_answers.specs.Writes.{bodyDue}
+use Rattle.ucp_frame.specs.Frame.{frame}
+use Rattle.ucp_frame.specs.Stretch.{delivered}
+use Rattle.ucp_writer.specs.Sends.{sendDue}
+use Rattle.ucp_writer.proofs.room.Due.{refused-so}
+use Rattle.thm_ucp_receiver.specs.Line.{Observed}
+use Rattle.thm_ucp_receiver.specs.Promises.{AnswersAs}
 use Rattle.c_lent.specs.Reads.{hasId, refusalAs, FillsStruct}
 
 -- ---- a writer's call
@@ -40,6 +47,35 @@ unfolding bodyDue
 writes {fits} {body} {output} {w} {after} same f e room call =
     let due : bodyDue fits body output ≡ wrote (length same) = rw (f, e, le-ltb (length output) (length same) room) in
     (call .answers ∙ ap writtenNumbers due, call .leaves ∙ ap₂ (λ (b : List ℕ) (a : WriterAnswer). outputAfter b output a) e due)
+
+-- ---- a send
+-- no refusal: a frame was written
+module _ (fits : Bool) (body buffer : List ℕ) (w : OstrogoszWritten) where
+  sent-as : (a : WriterAnswer) → sendDue fits body buffer ≡ a → w ≡ writtenNumbers a → w .refusal ≡ 0 → a ≡ wrote (w .length)
+  unfolding sendDue
+  sent-as (wrote octets) e is none = ap wrote (sym (ap (λ (o : OstrogoszWritten). o .length) is))
+  sent-as (refused number) e is none = absurd (not-zero fits e)
+    where
+      zero-refused : number ≡ 0
+      zero-refused = sym (ap (λ (o : OstrogoszWritten). o .refusal) is) ∙ none
+
+      some : (number ≡ 7) ⊎ (number ≡ 8) → ⊥
+      some (inl s) = omega (arith, zero-refused)
+      some (inr e) = omega (arith, zero-refused)
+
+      not-zero : (f : Bool) → sendDue f body buffer ≡ refused number → ⊥
+      not-zero true h = some (refused-so body buffer number (sym h))
+      not-zero false h = let n : 13 ≡ number = cc in omega (arith, n, zero-refused)
+
+  pub sent-accepted : {after : List ℕ} → WritingNumbers (sendDue fits body buffer) (frame body) buffer w after → w .refusal ≡ 0
+      → (sendDue fits body buffer ≡ wrote (w .length)) × (after ≡ outputAfter (frame body) buffer (wrote (w .length)))
+  sent-accepted call none =
+      let e = sent-as (sendDue fits body buffer) refl (call .answers) none in
+      (e, call .leaves ∙ ap (outputAfter (frame body) buffer) e)
+
+-- the octets that a call delivered
+pub put-out : (body : List ℕ) (o : Observed) → AnswersAs (delivered body) o → take (length body) (o .outputThen) ≡ body
+put-out body o a = ap (take (length body)) (a .puts) ∙ take-append-seam body (drop (length body) (o .output))
 
 -- ---- a reader's call
 -- no refusal is due, and then the struct is filled

@@ -1,4 +1,4 @@
--- Each kind's format and its struct are of the same values, so both round trips hold of its calls. Assumes nothing.
+-- Each kind's format and its struct are of the same values, so both round trips and the delivery hold of its calls. Assumes nothing.
 use mathlib.Core.Path.{_≡_, refl, sym, ap, _∙_, subst}
 use mathlib.Core.Bool.{Bool, true}
 use mathlib.Core.List.{List, [], _∷_}
@@ -34,9 +34,12 @@ use Rattle.c_ucp_control.specs.Struct.{controlStruct}
 use Rattle.c_ucp_control.proofs.Agree.{control-struct-right}
 use Rattle.c_ucp_initialization.specs.Struct.{initializationStruct}
 use Rattle.c_ucp_initialization.proofs.Agree.{initialization-struct-right}
+use Rattle.c_ucp_uplink.specs.Uplink.{ReadsUplink}
+use Rattle.thm_ucp_messages.proofs.Delivery.{sent-body}
 use Rattle.thm_c_messages.specs.RoundTrips.{UplinkRoundTrips, LentRoundTrips}
-use Rattle.thm_c_messages.proofs.Accepted.{accepted, writes, fills, of-kind, kind-of}
-use Rattle.thm_c_messages.proofs.Structs.{SameValues, struct-round-trips}
+use Rattle.thm_c_messages.specs.Delivery.{UplinkSentIsDelivered, LentSentIsDelivered}
+use Rattle.thm_c_messages.proofs.Accepted.{accepted, writes, sent-accepted, put-out, fills, of-kind, kind-of}
+use Rattle.thm_c_messages.proofs.Structs.{SameValues, struct-round-trips, struct-sent-is-delivered}
 
 -- ---- what a writer tested, one by one
 abbrev RowTests : (cs : List Column) → Row cs → Type 0
@@ -203,14 +206,19 @@ payload-back : (body : List ℕ) → getD body 0 0 ≡ 7 → length body ≡ 436
 payload-back [] e n = absurd (omega arith)
 payload-back (x ∷ xs) e n = ap (λ (y : ℕ). y ∷ xs) (sym e)
 
-uplink-round-trips : UplinkRoundTrips
+uplink-reads-back : (payload before left : List ℕ) (r : ℕ) → uplinkFits payload ≡ true → ReadsUplink (uplinkBody payload) before r left
+    → (r ≡ 0) × (left ≡ payload)
 unfolding uplinkFits refusalBy
+uplink-reads-back payload before left r fit reading =
+    let n = eqb-true (length payload) 435 fit in
+    fills reading (of-kind 7 (uplinkBody payload) (uplinkRefusal (uplinkBody payload)) (omega arith) refl (rw n))
+
+uplink-round-trips : UplinkRoundTrips
+unfolding uplinkFits
 uplink-round-trips = (
   λ payload output after before left w r call none reading.
       let l = accepted call none in
-      let n = eqb-true (length payload) 435 (l .fit) in
-      let due = of-kind 7 (uplinkBody payload) (uplinkRefusal (uplinkBody payload)) (omega arith) refl (rw n) in
-      fills (rw (l .whole) at reading) due,
+      uplink-reads-back payload before left r (l .fit) (rw (l .whole) at reading),
   λ body before payload output after w reading enough call.
       let k = kind-of 7 body (uplinkRefusal body) (reading .answers) in
       let n = eqb-true (length body) 436 (none-due (eqb (length body) 436) true true (k .1) .0) in
@@ -229,4 +237,23 @@ lent-round-trips = record {
   request = struct-round-trips requestFormat requestStruct request-same;
   control = struct-round-trips controlFormat controlStruct control-same;
   initialization = struct-round-trips initializationFormat initializationStruct initialization-same;
+}
+
+uplink-sent-is-delivered : UplinkSentIsDelivered
+uplink-sent-is-delivered payload buffer after w call none before later o line ends enough =
+    let body : List ℕ = uplinkBody payload in
+    let e = sent-accepted (uplinkFits payload) body buffer w call none in
+    let d = sent-body (uplinkFits payload) body buffer (e .0) (e .1) before later o line ends enough in
+    (d .1, λ lent left r reading. uplink-reads-back payload lent left r (d .0) (rw (put-out body o (d .1)) at reading))
+
+pub lent-sent-is-delivered : LentSentIsDelivered
+lent-sent-is-delivered = record {
+  heartbeat = struct-sent-is-delivered heartbeatFormat heartbeatStruct heartbeat-same;
+  uplink = uplink-sent-is-delivered;
+  ownship = struct-sent-is-delivered (reportFormat 10) reportStruct (report-same 10);
+  geometricAltitude = struct-sent-is-delivered geometricFormat geometricStruct geometric-same;
+  traffic = struct-sent-is-delivered (reportFormat 20) reportStruct (report-same 20);
+  request = struct-sent-is-delivered requestFormat requestStruct request-same;
+  control = struct-sent-is-delivered controlFormat controlStruct control-same;
+  initialization = struct-sent-is-delivered initializationFormat initializationStruct initialization-same;
 }

@@ -1,4 +1,4 @@
--- Both round trips through a struct, proved once for every format and every struct of the same values. Assumes nothing.
+-- Both round trips through a struct, and the delivery of what it holds, proved once for every format and every struct of the same values. Assumes nothing.
 use mathlib.Core.Path.{_≡_, refl, sym, ap, _∙_, subst}
 use mathlib.Core.Bool.{true}
 use mathlib.Core.List.{List, [], _∷_, _++_}
@@ -12,8 +12,11 @@ use Rattle.ucp_answers.specs.Refusals.{refusalOf}
 use Rattle.ucp_answers.proofs.RoundTrips.{none-due, body-accepted, accepted-writes-back}
 use Rattle.c_lent.specs.Structs.{Struct, RightStruct, structColumns, structRowOf, structSize, stored, held, TypedIn}
 use Rattle.c_lent.proofs.Structs.{held-stored, held-typed}
+use Rattle.c_lent.specs.Reads.{ReadsInto}
+use Rattle.thm_ucp_messages.proofs.Delivery.{sent-body}
 use Rattle.thm_c_messages.specs.RoundTrips.{StructReadsBack, StructWritesBack, StructRoundTrips}
-use Rattle.thm_c_messages.proofs.Accepted.{accepted, writes, fills, of-kind, kind-of}
+use Rattle.thm_c_messages.specs.Delivery.{StructSentIsDelivered}
+use Rattle.thm_c_messages.proofs.Accepted.{accepted, writes, sent-accepted, put-out, fills, of-kind, kind-of}
 use borrow.Author.Tests.{eqb-true}
 
 -- a kind's format and its struct are right, and of the same values
@@ -38,16 +41,22 @@ id-of [] body h e = absurd (omega arith)
 id-of (x ∷ xs) body h e = e
 
 module _ {A : Type 0} (f : Format A) (s : Struct A) (ok : SameValues f s) where
-  struct-reads-back : StructReadsBack f s
+  -- what a struct holds, where it fits, is read back from its body
+  body-reads-back : (message before left : List ℕ) (r : ℕ) → Octets message → length message ≡ structSize s → fits f (held s message) ≡ true
+      → ReadsInto f s (bodyOf f (held s message)) before r left → (r ≡ 0) × (left ≡ stored s (held s message))
   unfolding bodyOf
-  struct-reads-back message output after before left w r is n call none reading =
+  body-reads-back message before left r is n fit reading =
       let a : A = held s message in
       let t : TypedAs f a = ok .typed a (held-typed s (ok .struct) (ok .again) message is n) in
-      let l = accepted call none in
       let h = head-first (f .head) _ (ok .some-id) in
-      let due = of-kind (getD (f .head) 0 0) (bodyOf f a) (refusalOf f (bodyOf f a)) (h .0) (h .1) (body-accepted f (ok .format) a t (l .fit)) in
-      let k = fills (rw (l .whole) at reading) due in
-      (k .0, k .1 ∙ ap (stored s) (value-back f (ok .format) a t (room f (ok .format) a t (l .fit))))
+      let due = of-kind (getD (f .head) 0 0) (bodyOf f a) (refusalOf f (bodyOf f a)) (h .0) (h .1) (body-accepted f (ok .format) a t fit) in
+      let k = fills reading due in
+      (k .0, k .1 ∙ ap (stored s) (value-back f (ok .format) a t (room f (ok .format) a t fit)))
+
+  struct-reads-back : StructReadsBack f s
+  struct-reads-back message output after before left w r is n call none reading =
+      let l = accepted call none in
+      body-reads-back message before left r is n (l .fit) (rw (l .whole) at reading)
 
   struct-writes-back : StructWritesBack f s
   unfolding refusalOf
@@ -64,3 +73,10 @@ module _ {A : Type 0} (f : Format A) (s : Struct A) (ok : SameValues f s) where
 
   pub struct-round-trips : StructRoundTrips f s
   struct-round-trips = (struct-reads-back, struct-writes-back)
+
+  pub struct-sent-is-delivered : StructSentIsDelivered f s
+  struct-sent-is-delivered message buffer after w is n call none before later o line ends enough =
+      let body : List ℕ = bodyOf f (held s message) in
+      let e = sent-accepted (fits f (held s message)) body buffer w call none in
+      let d = sent-body (fits f (held s message)) body buffer (e .0) (e .1) before later o line ends enough in
+      (d .1, λ lent left r reading. body-reads-back message lent left r is n (d .0) (rw (put-out body o (d .1)) at reading))
