@@ -4,6 +4,7 @@ pub mod Ranges
 pub mod Static
 pub mod Agree
 pub mod Readers
+pub mod OneKind
 pub mod Ids
 pub mod Writers
 pub mod Failures

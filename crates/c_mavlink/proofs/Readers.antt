@@ -29,7 +29,7 @@ module _ (id : ℕ) (s : List ℕ) where
   other-kind e = record { refused = λ h. rw e; taken = λ z. absurd (omega arith) }
 
   module _ (e : isOther id s ≡ false) where
-    as-found : foundAs id s ≡ found s
+    pub as-found : foundAs id s ≡ found s
     unfolding foundAs
     as-found = rw e
 

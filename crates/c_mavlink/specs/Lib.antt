@@ -3,4 +3,5 @@ pub mod Readers
 pub mod Ids
 pub mod Writers
 pub mod Failures
+pub mod OneKind
 pub mod Steps

@@ -19,9 +19,9 @@ pub data FrameAnswer : Type 0 where
   frame : ℕ → Header → ℕ → FrameAnswer
 
 -- the paper's number and values of each case
-abbrev pub frameAnswer : Found → FrameAnswer
-frameAnswer (Refused number) = refused number
-frameAnswer (Frame id h used) = frame id h used
+abbrev pub foundAnswer : Found → FrameAnswer
+foundAnswer (Refused number) = refused number
+foundAnswer (Frame id h used) = frame id h used
 
 -- octets 2, 3 and 4
 abbrev pub headerAt : List ℕ → Header

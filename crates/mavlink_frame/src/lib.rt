@@ -5,7 +5,7 @@ pub mod writer;
 ghost use mathlib.Core.Path.{_≡_};
 ghost use Rattle.mavlink_frame.specs.Frame.{kindAnswer, mavlinkKind};
 
-// What stands at the start of an input. `frameAnswer` of specs/Reader.antt gives the paper's number and values of each case.
+// What stands at the start of an input. `foundAnswer` of specs/Reader.antt gives the paper's number and values of each case.
 pub enum Found {
     // A frame with its check right: its message ID, its header, and how many octets it has. Its payload is from 6 on.
     Frame(u8, Header, usize),
