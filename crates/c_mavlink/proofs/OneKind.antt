@@ -24,7 +24,7 @@ use Rattle.mavlink_messages.specs.Failures.{FailureAnswer}
 use Rattle.mavlink_messages.specs.Messages.{MavlinkAnswer, refused, means, idOf, inRange, failuresOf, messageJudged, payloadRead, readBy, readDue}
 use Rattle.mavlink_messages.specs.Refusals.{HasHeader}
 use Rattle.c_mavlink.specs.Readers.{isOther, foundAs, readAs}
-use Rattle.c_mavlink.specs.Ids.{refusalBeforeCheck, idNumbers, idDue}
+use Rattle.c_mavlink.specs.Ids.{refusalBeforeCheck, idNumbers, mavlinkIdDue}
 use Rattle.c_mavlink.specs.OneKind.{OneKind}
 use Rattle.c_mavlink.proofs.Readers.{as-found}
 
@@ -102,7 +102,7 @@ module _ (s : List ℕ) (h : Header) (used : ℕ) (m : Message) (f : FailureAnsw
             passes = ap refusalBeforeCheck q;
           }
 
-  named : (readAs (idOf m) s ≡ means h used m f) × (idDue s ≡ record { refusal = 0; id = idOf m; used = used })
+  named : (readAs (idOf m) s ≡ means h used m f) × (mavlinkIdDue s ≡ record { refusal = 0; id = idOf m; used = used })
   named = (
     own (idOf m) s (is-found .id) ∙ e,
     ap (λ (n : ℕ). idNumbers n s) (is-found .passes) ∙ (λ i. record { refusal = 0; id = is-found .id i; used = is-found .ends i }),

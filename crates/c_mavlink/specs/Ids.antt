@@ -19,5 +19,5 @@ abbrev pub idNumbers : ℕ → List ℕ → OstrogoszMavlinkId
 idNumbers zero s = record { refusal = 0; id = getD s 5 0; used = getD s 1 0 + 8 }
 idNumbers (suc n) s = record { refusal = suc n; id = 0; used = 0 }
 
-abbrev pub idDue : List ℕ → OstrogoszMavlinkId
-idDue s = idNumbers (refusalBeforeCheck (found s)) s
+abbrev pub mavlinkIdDue : List ℕ → OstrogoszMavlinkId
+mavlinkIdDue s = idNumbers (refusalBeforeCheck (found s)) s

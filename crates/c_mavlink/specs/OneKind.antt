@@ -10,7 +10,7 @@ use Rattle.mavlink_messages.specs.Failures.{FailureAnswer}
 use Rattle.mavlink_messages.specs.Messages.{refused, means, idOf, readDue}
 use Rattle.mavlink_messages.specs.Refusals.{HasHeader}
 use Rattle.c_mavlink.specs.Readers.{readAs}
-use Rattle.c_mavlink.specs.Ids.{idDue}
+use Rattle.c_mavlink.specs.Ids.{mavlinkIdDue}
 
 pub record OneKind : Type 0 where
   -- an input whose message ID is the kind's, and one that has no whole header, is read as the reader of every kind reads it
@@ -20,4 +20,4 @@ pub record OneKind : Type 0 where
   pub other : (id : ℕ) (s : List ℕ) → HasHeader s → (getD s 5 0 ≡ id → ⊥) → readAs id s ≡ refused because.mavlinkUnknownId
   -- a message that the reader of every kind reads is read by its own kind's, which the call for the ID names, with the frame's octets
   pub named : (s : List ℕ) (h : Header) (used : ℕ) (m : Message) (f : FailureAnswer) → readDue s ≡ means h used m f
-      → (readAs (idOf m) s ≡ means h used m f) × (idDue s ≡ record { refusal = 0; id = idOf m; used = used })
+      → (readAs (idOf m) s ≡ means h used m f) × (mavlinkIdDue s ≡ record { refusal = 0; id = idOf m; used = used })

@@ -14,7 +14,7 @@ ghost use Prim.Native.Nat.{_≤_};
 ghost use lib.ListN.{length};
 ghost use Rattle.mavlink_frame.specs.Reader.{foundOf};
 ghost use Rattle.mavlink_messages.specs.Failures.{failuresIn};
-ghost use Rattle.c_mavlink.specs.Ids.{refusalBeforeCheck, idNumbers, idDue};
+ghost use Rattle.c_mavlink.specs.Ids.{refusalBeforeCheck, idNumbers, mavlinkIdDue};
 ghost use Rattle.c_mavlink.specs.Failures.{failureNumbers};
 
 // The refusals' numbers as C has them.
@@ -82,7 +82,7 @@ fn id_of(kind: Kind, input: &[u8]) -> OstrogoszMavlinkId
 // looked at.
 #[no_mangle]
 pub extern "C" fn ostrogosz_mavlink_read_id(input: &[u8]) -> OstrogoszMavlinkId
-    ensures { λ r. ⌜ r ≡ idDue (now (input .entry)) ⌝ }
+    ensures { λ r. ⌜ r ≡ mavlinkIdDue (now (input .entry)) ⌝ }
 {
     let n = input.len();
     if n == 0 {
