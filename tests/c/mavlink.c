@@ -8,24 +8,29 @@
 #define HEAD 6
 #define LONGEST OSTROGOSZ_MAVLINK_LONGEST_FRAME
 
+/* A message of every kind, and its header. */
+struct message {
+    struct ostrogosz_mavlink_header header;
+    struct ostrogosz_mavlink_data_stream data_stream;
+    struct ostrogosz_mavlink_static static_data;
+    struct ostrogosz_mavlink_dynamic dynamic;
+    struct ostrogosz_mavlink_status status;
+    struct ostrogosz_mavlink_traffic traffic;
+};
+
 /* A value of every kind, in which all fields differ from their neighbours. */
-static const struct ostrogosz_mavlink_message sample = {
-    0,
-    0,
-    0,
+static const struct message sample = {
     {0xA1, 0xB2, 0xC3},
-    0,
-    0,
     {0x1234, 0x56, 0x78, 0x9A, 0xBC},
     {0x0A0B0C,
-     0x25,
      0x1122,
      {'A', 'B', ' ', '1', '2', 'Z', ' ', '9'},
      0,
      19,
      15,
      5,
-     17},
+     17,
+     0x25},
     {0x01020304,
      0x05060708,
      -2,
@@ -107,7 +112,6 @@ static const uint8_t dynamic_packet[50] = {
 
 static const struct ostrogosz_mavlink_static said_static = {
     0xA01234,
-    0x25,
     0,
     {'P', 'I', 'N', 'G', '2', '0', '2', '0'},
     0,
@@ -115,6 +119,7 @@ static const struct ostrogosz_mavlink_static said_static = {
     1,
     4,
     1,
+    0x25,
 };
 
 static const struct ostrogosz_mavlink_dynamic said_dynamic = {
@@ -139,157 +144,124 @@ static const struct ostrogosz_mavlink_dynamic said_dynamic = {
 
 /* Writes the part of m that a kind has. */
 static struct ostrogosz_written
-write_frame(uint32_t id, const struct ostrogosz_mavlink_message *m, size_t room)
+write_frame(uint32_t id, const struct message *m, size_t room)
 {
     uint8_t *to = fresh_output();
 
     switch (id) {
     case OSTROGOSZ_MAVLINK_ID_DATA_STREAM:
-        return ostrogosz_mavlink_write_data_stream(m->data_stream, m->header,
+        return ostrogosz_mavlink_write_data_stream(&m->data_stream, &m->header,
                                                    to, room);
     case OSTROGOSZ_MAVLINK_ID_STATIC:
-        return ostrogosz_mavlink_write_static(m->static_data, m->header, to,
+        return ostrogosz_mavlink_write_static(&m->static_data, &m->header, to,
                                               room);
     case OSTROGOSZ_MAVLINK_ID_DYNAMIC:
-        return ostrogosz_mavlink_write_dynamic(m->dynamic, m->header, to, room);
+        return ostrogosz_mavlink_write_dynamic(&m->dynamic, &m->header, to,
+                                               room);
     case OSTROGOSZ_MAVLINK_ID_STATUS:
-        return ostrogosz_mavlink_write_status(m->status, m->header, to, room);
+        return ostrogosz_mavlink_write_status(&m->status, &m->header, to, room);
     default:
-        return ostrogosz_mavlink_write_traffic(m->traffic, m->header, to, room);
+        return ostrogosz_mavlink_write_traffic(&m->traffic, &m->header, to,
+                                               room);
     }
 }
 
-/* Padding differs, so structs are compared field by field. */
+/* What the structs hold before a call that reads into them. */
+static struct message read;
 
-static int same_header(const struct ostrogosz_mavlink_header *a,
-                       const struct ostrogosz_mavlink_header *b)
+/* Reads an input as a kind. */
+static uint32_t read_as(uint32_t id, const uint8_t *input, size_t length)
 {
-    return a->sequence == b->sequence && a->system == b->system &&
-           a->component == b->component;
-}
-
-static int same_data_stream(const struct ostrogosz_mavlink_data_stream *a,
-                            const struct ostrogosz_mavlink_data_stream *b)
-{
-    return a->req_message_rate == b->req_message_rate &&
-           a->target_system == b->target_system &&
-           a->target_component == b->target_component &&
-           a->req_stream_id == b->req_stream_id &&
-           a->start_stop == b->start_stop;
-}
-
-static int same_static(const struct ostrogosz_mavlink_static *a,
-                       const struct ostrogosz_mavlink_static *b)
-{
-    return a->icao == b->icao && a->integrity == b->integrity &&
-           a->stall_speed == b->stall_speed &&
-           memcmp(a->callsign, b->callsign, sizeof a->callsign) == 0 &&
-           a->capability == b->capability && a->emitter == b->emitter &&
-           a->alw_encode == b->alw_encode &&
-           a->gps_lat_offs == b->gps_lat_offs &&
-           a->gps_lon_offs == b->gps_lon_offs;
-}
-
-static int same_dynamic(const struct ostrogosz_mavlink_dynamic *a,
-                        const struct ostrogosz_mavlink_dynamic *b)
-{
-    return a->utc_time == b->utc_time && a->latitude == b->latitude &&
-           a->longitude == b->longitude && a->alt_pres == b->alt_pres &&
-           a->alt_gnss == b->alt_gnss && a->acc_horiz == b->acc_horiz &&
-           a->acc_vert == b->acc_vert && a->acc_vel == b->acc_vel &&
-           a->vel_vert == b->vel_vert && a->ns_vog == b->ns_vog &&
-           a->ew_vog == b->ew_vog && a->state == b->state &&
-           a->squawk == b->squawk && a->fix_type == b->fix_type &&
-           a->num_sats == b->num_sats && a->em_status == b->em_status &&
-           a->control == b->control;
-}
-
-static int same_traffic(const struct ostrogosz_mavlink_traffic *a,
-                        const struct ostrogosz_mavlink_traffic *b)
-{
-    return a->icao_address == b->icao_address && a->lat == b->lat &&
-           a->lon == b->lon && a->altitude == b->altitude &&
-           a->heading == b->heading && a->hor_velocity == b->hor_velocity &&
-           a->ver_velocity == b->ver_velocity &&
-           a->valid_flags == b->valid_flags && a->squawk == b->squawk &&
-           a->altitude_type == b->altitude_type &&
-           memcmp(a->callsign, b->callsign, sizeof a->callsign) == 0 &&
-           a->callsign_ninth == b->callsign_ninth &&
-           a->emitter_type == b->emitter_type && a->tslc == b->tslc;
-}
-
-static int same_fields(const struct ostrogosz_mavlink_message *a,
-                       const struct ostrogosz_mavlink_message *b)
-{
-    return a->refusal == b->refusal && a->id == b->id && a->used == b->used &&
-           same_header(&a->header, &b->header) && a->failures == b->failures &&
-           a->lowest_failure == b->lowest_failure &&
-           same_data_stream(&a->data_stream, &b->data_stream) &&
-           same_static(&a->static_data, &b->static_data) &&
-           same_dynamic(&a->dynamic, &b->dynamic) &&
-           a->status.status == b->status.status &&
-           same_traffic(&a->traffic, &b->traffic);
-}
-
-/* The fields of m that a kind has, in a frame of this length; all others are
- * 0. */
-static struct ostrogosz_mavlink_message
-part(uint32_t id, size_t length, const struct ostrogosz_mavlink_message *m)
-{
-    struct ostrogosz_mavlink_message p;
-
-    memset(&p, 0, sizeof p);
-    p.id = id;
-    p.used = length;
-    p.header = m->header;
     switch (id) {
     case OSTROGOSZ_MAVLINK_ID_DATA_STREAM:
-        p.data_stream = m->data_stream;
+        return ostrogosz_mavlink_read_data_stream(input, length, &read.header,
+                                                  &read.data_stream);
+    case OSTROGOSZ_MAVLINK_ID_STATIC:
+        return ostrogosz_mavlink_read_static(input, length, &read.header,
+                                             &read.static_data);
+    case OSTROGOSZ_MAVLINK_ID_DYNAMIC:
+        return ostrogosz_mavlink_read_dynamic(input, length, &read.header,
+                                              &read.dynamic);
+    case OSTROGOSZ_MAVLINK_ID_STATUS:
+        return ostrogosz_mavlink_read_status(input, length, &read.header,
+                                             &read.status);
+    default:
+        return ostrogosz_mavlink_read_traffic(input, length, &read.header,
+                                              &read.traffic);
+    }
+}
+
+/* The header and the part of m that a kind has, its padding zero, among octets
+ * that no call changes. Fields have no padding between them but at the end. */
+static void put_part(struct message *to, uint32_t id, const struct message *m)
+{
+    to->header = m->header;
+    switch (id) {
+    case OSTROGOSZ_MAVLINK_ID_DATA_STREAM:
+        to->data_stream = m->data_stream;
         break;
     case OSTROGOSZ_MAVLINK_ID_STATIC:
-        p.static_data = m->static_data;
+        to->static_data = m->static_data;
         break;
     case OSTROGOSZ_MAVLINK_ID_DYNAMIC:
-        p.dynamic = m->dynamic;
+        memset(&to->dynamic, 0, sizeof to->dynamic);
+        memcpy(&to->dynamic, &m->dynamic, 42);
         break;
     case OSTROGOSZ_MAVLINK_ID_STATUS:
-        p.status = m->status;
-        p.failures = 3; /* of 0x1A: bits 1, 3 and 4 */
-        p.lowest_failure = 1;
+        to->status = m->status;
         break;
     default:
-        p.traffic = m->traffic;
+        memset(&to->traffic, 0, sizeof to->traffic);
+        memcpy(&to->traffic, &m->traffic, 38);
         break;
     }
-    return p;
 }
 
-/* The input reads as that part of m, whose frame has this length. */
+/* The input reads as that part of m, whose frame has this length: every octet
+ * of the structs is written, padding too, and no other. */
 static int reads(const uint8_t *input, size_t input_length, size_t length,
-                 const struct ostrogosz_mavlink_message *m)
+                 const struct message *m)
 {
-    struct ostrogosz_mavlink_message read =
-        ostrogosz_mavlink_read(input, input_length);
-    struct ostrogosz_mavlink_message due = part(input[5], length, m);
+    struct ostrogosz_mavlink_id id =
+        ostrogosz_mavlink_read_id(input, input_length);
+    struct message due;
 
-    return same_fields(&read, &due);
+    memset(&due, HELD, sizeof due);
+    put_part(&due, input[5], m);
+    memset(&read, HELD, sizeof read);
+    return id.refusal == 0 && id.id == input[5] && id.used == length &&
+           read_as(input[5], input, input_length) == 0 &&
+           memcmp(&read, &due, sizeof read) == 0;
 }
 
-static int read_refused(const uint8_t *input, size_t length, uint32_t number)
+/* A kind's reader refuses the input with this number, and changes no octet. */
+static int refused_as(uint32_t kind, const uint8_t *input, size_t length,
+                      uint32_t number)
 {
-    struct ostrogosz_mavlink_message read =
-        ostrogosz_mavlink_read(input, length);
-    struct ostrogosz_mavlink_message due;
+    struct message due;
 
-    memset(&due, 0, sizeof due);
-    due.refusal = number;
-    return same_fields(&read, &due);
+    memset(&due, HELD, sizeof due);
+    memset(&read, HELD, sizeof read);
+    return read_as(kind, input, length) == number &&
+           memcmp(&read, &due, sizeof read) == 0;
+}
+
+/* The reader of a kind refuses the input, and so does the call that tells the
+ * ID, unless it is for check or fields. */
+static int read_refused(uint32_t kind, const uint8_t *input, size_t length,
+                        uint32_t number)
+{
+    struct ostrogosz_mavlink_id id = ostrogosz_mavlink_read_id(input, length);
+    int told = number < 24 ? id.refusal == number && id.id == 0 && id.used == 0
+                           : id.refusal == 0 && id.id == kind;
+
+    return told && refused_as(kind, input, length, number);
 }
 
 /* Each way, with octets behind it, and in room that is generous, exact, one
  * short and none. */
 static void try_frame(const uint8_t *frame, size_t length,
-                      const struct ostrogosz_mavlink_message *m)
+                      const struct message *m)
 {
     uint8_t longer[LONGEST + 1];
     uint32_t id = frame[5];
@@ -316,7 +288,7 @@ static void try_frames(void)
 
 static void try_packets(void)
 {
-    struct ostrogosz_mavlink_message m;
+    struct message m;
 
     memset(&m, 0, sizeof m);
     m.static_data = said_static;
@@ -330,7 +302,7 @@ static void try_packets(void)
 /* Every status, and its failures. */
 static void try_statuses(void)
 {
-    struct ostrogosz_mavlink_message read;
+    struct ostrogosz_mavlink_failures found;
     struct ostrogosz_mavlink_status status;
     unsigned number, bit, failures, lowest;
     int held = 1;
@@ -345,17 +317,18 @@ static void try_statuses(void)
             }
         }
         status.status = (uint8_t)number;
-        (void)ostrogosz_mavlink_write_status(status, sample.header,
+        (void)ostrogosz_mavlink_write_status(&status, &sample.header,
                                              fresh_output(), 9);
-        read = ostrogosz_mavlink_read(output, 9);
-        held = held && read.refusal == 0 && read.status.status == number &&
-               read.failures == failures && read.lowest_failure == lowest;
+        found = ostrogosz_mavlink_count_failures(status.status);
+        held = held && read_as(203, output, 9) == 0 &&
+               read.status.status == number && found.count == failures &&
+               found.lowest == lowest;
     }
     EXPECT(held);
 }
 
 /* 25, whatever the room: it is tested before 8. */
-static int field_refused(uint32_t id, const struct ostrogosz_mavlink_message *m)
+static int field_refused(uint32_t id, const struct message *m)
 {
     return refused(write_frame(id, m, ROOM), 25) &&
            refused(write_frame(id, m, 0), 25);
@@ -364,7 +337,7 @@ static int field_refused(uint32_t id, const struct ostrogosz_mavlink_message *m)
 /* A field of a kind: first a value that is still in range. */
 #define TRY_FIELD(id, field, fits, wide)                                     \
     do {                                                                     \
-        struct ostrogosz_mavlink_message m = sample;                         \
+        struct message m = sample;                                           \
         m.field = fits;                                                      \
         EXPECT(write_frame(id, &m, ROOM).refusal == 0);                      \
         m.field = wide;                                                      \
@@ -422,9 +395,9 @@ static int changed_refused(size_t kind, size_t place, uint8_t octet,
 
     memcpy(frame, kinds[kind].frame, sizeof frame);
     frame[place] = octet;
-    held = read_refused(frame, length, before);
+    held = read_refused(kinds[kind].id, frame, length, before);
     seal(frame, length, kinds[kind].extra);
-    return held && read_refused(frame, length, sealed);
+    return held && read_refused(kinds[kind].id, frame, length, sealed);
 }
 
 /* In the order of the tests. */
@@ -434,17 +407,33 @@ static void try_read_refusals(void)
 
     for (i = 0; i < KINDS; i++) {
         const uint8_t *frame = kinds[i].frame;
+        uint32_t id = kinds[i].id;
         int held = 1;
 
         for (length = 0; length < kinds[i].length; length++) {
-            held = held && read_refused(frame, length, 20);
+            held = held && read_refused(id, frame, length, 20);
         }
         EXPECT(held);
         EXPECT(changed_refused(i, 0, 0xFD, 21, 21));
         EXPECT(changed_refused(i, 5, 204, 22, 22));
         EXPECT(changed_refused(i, 1, 2, 23, 23));
-        EXPECT(read_refused(frame + 1, 1, OSTROGOSZ_REFUSAL_MAVLINK_START));
+        EXPECT(read_refused(id, frame + 1, 1, OSTROGOSZ_REFUSAL_MAVLINK_START));
     }
+}
+
+/* A kind's reader takes no other kind's frame. */
+static void try_other_kinds(void)
+{
+    size_t i, j;
+    int held = 1;
+
+    for (i = 0; i < KINDS; i++) {
+        for (j = 0; j < KINDS; j++) {
+            held = held && (i == j || refused_as(kinds[i].id, kinds[j].frame,
+                                                 kinds[j].length, 22));
+        }
+    }
+    EXPECT(held);
 }
 
 static int check_refused(size_t kind, size_t place)
@@ -453,7 +442,7 @@ static int check_refused(size_t kind, size_t place)
 
     memcpy(frame, kinds[kind].frame, sizeof frame);
     frame[place] ^= 1;
-    return read_refused(frame, kinds[kind].length,
+    return read_refused(kinds[kind].id, frame, kinds[kind].length,
                         OSTROGOSZ_REFUSAL_MAVLINK_WRONG_CHECK);
 }
 
@@ -492,38 +481,11 @@ static void try_no_pointer(void)
 {
     struct ostrogosz_written written;
 
-    EXPECT(read_refused(NULL, 0, OSTROGOSZ_REFUSAL_MAVLINK_SHORT));
+    EXPECT(read_refused(202, NULL, 0, OSTROGOSZ_REFUSAL_MAVLINK_SHORT));
     written =
-        ostrogosz_mavlink_write_status(sample.status, sample.header, NULL, 0);
+        ostrogosz_mavlink_write_status(&sample.status, &sample.header, NULL, 0);
     EXPECT(written.refusal == OSTROGOSZ_REFUSAL_OUTPUT_LENGTH &&
            written.length == 0);
-}
-
-/* The structs as this compiler lays them out, on which a binding of another
- * language may rely. */
-static void try_layout(void)
-{
-    EXPECT(sizeof(struct ostrogosz_mavlink_header) == 3);
-    EXPECT(sizeof(struct ostrogosz_mavlink_data_stream) == 6);
-    EXPECT(sizeof(struct ostrogosz_mavlink_static) == 24);
-    EXPECT(offsetof(struct ostrogosz_mavlink_static, stall_speed) == 6);
-    EXPECT(offsetof(struct ostrogosz_mavlink_static, callsign) == 8);
-    EXPECT(offsetof(struct ostrogosz_mavlink_static, gps_lon_offs) == 20);
-    EXPECT(sizeof(struct ostrogosz_mavlink_dynamic) == 44);
-    EXPECT(offsetof(struct ostrogosz_mavlink_dynamic, control) == 41);
-    EXPECT(sizeof(struct ostrogosz_mavlink_status) == 1);
-    EXPECT(sizeof(struct ostrogosz_mavlink_traffic) == 40);
-    EXPECT(offsetof(struct ostrogosz_mavlink_traffic, callsign) == 27);
-    EXPECT(offsetof(struct ostrogosz_mavlink_traffic, tslc) == 37);
-    EXPECT(sizeof(struct ostrogosz_mavlink_message) == 152);
-    EXPECT(offsetof(struct ostrogosz_mavlink_message, used) == 8);
-    EXPECT(offsetof(struct ostrogosz_mavlink_message, header) == 16);
-    EXPECT(offsetof(struct ostrogosz_mavlink_message, failures) == 20);
-    EXPECT(offsetof(struct ostrogosz_mavlink_message, data_stream) == 28);
-    EXPECT(offsetof(struct ostrogosz_mavlink_message, static_data) == 36);
-    EXPECT(offsetof(struct ostrogosz_mavlink_message, dynamic) == 60);
-    EXPECT(offsetof(struct ostrogosz_mavlink_message, status) == 104);
-    EXPECT(offsetof(struct ostrogosz_mavlink_message, traffic) == 108);
 }
 
 int main(void)
@@ -533,9 +495,9 @@ int main(void)
     try_statuses();
     try_fields();
     try_read_refusals();
+    try_other_kinds();
     try_checks();
     try_read_fields();
     try_no_pointer();
-    try_layout();
     return finish();
 }

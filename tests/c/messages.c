@@ -5,12 +5,22 @@
 #include "ostrogosz.h"
 #include "output.h"
 
-#define PAYLOAD 435
+#define PAYLOAD OSTROGOSZ_UCP_UPLINK_PAYLOAD
 
-/* A value of every kind, in which all fields differ from their neighbours. */
-static const struct ostrogosz_message sample = {
-    0,
-    0,
+/* A message of every kind. */
+struct message {
+    struct ostrogosz_ucp_heartbeat heartbeat;
+    struct ostrogosz_ucp_report report; /* 10 and 20 */
+    struct ostrogosz_ucp_geometric_altitude geometric_altitude;
+    struct ostrogosz_ucp_request request;
+    struct ostrogosz_ucp_control control;
+    struct ostrogosz_ucp_initialization initialization;
+    uint8_t payload[PAYLOAD];
+};
+
+/* A value of every kind, in which all fields differ from their neighbours. Not
+ * constant for the payload, which is filled in. */
+static struct message sample = {
     {0x11, 0x22, 0x4433, 0x5566},
     {1,
      2,
@@ -30,13 +40,13 @@ static const struct ostrogosz_message sample = {
      9},
     {-5, 0x1234},
     {0x2B},
-    {true,
-     false,
-     true,
-     false,
-     true,
+    {1,
+     0,
+     1,
+     0,
+     1,
      2,
-     true,
+     1,
      0x01020304,
      7654,
      9,
@@ -49,6 +59,7 @@ static const struct ostrogosz_message sample = {
      15,
      5,
      17},
+    {0},
 };
 
 /* The body of that value in each kind but the uplink. */
@@ -84,183 +95,209 @@ static void fill_uplink(void)
     for (i = 0; i < sizeof uplink; i++) {
         uplink[i] = (uint8_t)(7 * (i + 1) + i / 256);
     }
+    memcpy(sample.payload, uplink + 1, PAYLOAD);
 }
 
 /* Writes the part of m that a kind has. */
 static struct ostrogosz_written write_body(uint32_t id,
-                                           const struct ostrogosz_message *m,
+                                           const struct message *m,
                                            size_t room)
 {
     uint8_t *to = fresh_output();
 
     switch (id) {
-    case OSTROGOSZ_ID_HEARTBEAT:
-        return ostrogosz_write_heartbeat(m->heartbeat, to, room);
-    case OSTROGOSZ_ID_UPLINK:
-        return ostrogosz_write_uplink(uplink + 1, PAYLOAD, to, room);
-    case OSTROGOSZ_ID_OWNSHIP:
-        return ostrogosz_write_ownship(m->report, to, room);
-    case OSTROGOSZ_ID_GEOMETRIC_ALTITUDE:
-        return ostrogosz_write_geometric_altitude(m->geometric_altitude, to,
-                                                  room);
-    case OSTROGOSZ_ID_TRAFFIC:
-        return ostrogosz_write_traffic(m->report, to, room);
-    case OSTROGOSZ_ID_REQUEST:
-        return ostrogosz_write_request(m->request, to, room);
-    case OSTROGOSZ_ID_CONTROL:
-        return ostrogosz_write_control(m->control, to, room);
+    case OSTROGOSZ_UCP_ID_HEARTBEAT:
+        return ostrogosz_ucp_write_heartbeat(&m->heartbeat, to, room);
+    case OSTROGOSZ_UCP_ID_UPLINK:
+        return ostrogosz_ucp_write_uplink(uplink + 1, PAYLOAD, to, room);
+    case OSTROGOSZ_UCP_ID_OWNSHIP:
+        return ostrogosz_ucp_write_ownship(&m->report, to, room);
+    case OSTROGOSZ_UCP_ID_GEOMETRIC_ALTITUDE:
+        return ostrogosz_ucp_write_geometric_altitude(&m->geometric_altitude,
+                                                      to, room);
+    case OSTROGOSZ_UCP_ID_TRAFFIC:
+        return ostrogosz_ucp_write_traffic(&m->report, to, room);
+    case OSTROGOSZ_UCP_ID_REQUEST:
+        return ostrogosz_ucp_write_request(&m->request, to, room);
+    case OSTROGOSZ_UCP_ID_CONTROL:
+        return ostrogosz_ucp_write_control(&m->control, to, room);
     default:
-        return ostrogosz_write_initialization(m->initialization, to, room);
+        return ostrogosz_ucp_write_initialization(&m->initialization, to, room);
     }
 }
 
 /* Sends the part of m that a kind has. */
 static struct ostrogosz_written send_frame(uint32_t id,
-                                           const struct ostrogosz_message *m)
+                                           const struct message *m)
 {
     uint8_t *to = fresh_output();
 
     switch (id) {
-    case OSTROGOSZ_ID_HEARTBEAT:
-        return ostrogosz_send_heartbeat(m->heartbeat, to);
-    case OSTROGOSZ_ID_UPLINK:
-        return ostrogosz_send_uplink(uplink + 1, PAYLOAD, to);
-    case OSTROGOSZ_ID_OWNSHIP:
-        return ostrogosz_send_ownship(m->report, to);
-    case OSTROGOSZ_ID_GEOMETRIC_ALTITUDE:
-        return ostrogosz_send_geometric_altitude(m->geometric_altitude, to);
-    case OSTROGOSZ_ID_TRAFFIC:
-        return ostrogosz_send_traffic(m->report, to);
-    case OSTROGOSZ_ID_REQUEST:
-        return ostrogosz_send_request(m->request, to);
-    case OSTROGOSZ_ID_CONTROL:
-        return ostrogosz_send_control(m->control, to);
+    case OSTROGOSZ_UCP_ID_HEARTBEAT:
+        return ostrogosz_ucp_send_heartbeat(&m->heartbeat, to);
+    case OSTROGOSZ_UCP_ID_UPLINK:
+        return ostrogosz_ucp_send_uplink(uplink + 1, PAYLOAD, to);
+    case OSTROGOSZ_UCP_ID_OWNSHIP:
+        return ostrogosz_ucp_send_ownship(&m->report, to);
+    case OSTROGOSZ_UCP_ID_GEOMETRIC_ALTITUDE:
+        return ostrogosz_ucp_send_geometric_altitude(&m->geometric_altitude,
+                                                     to);
+    case OSTROGOSZ_UCP_ID_TRAFFIC:
+        return ostrogosz_ucp_send_traffic(&m->report, to);
+    case OSTROGOSZ_UCP_ID_REQUEST:
+        return ostrogosz_ucp_send_request(&m->request, to);
+    case OSTROGOSZ_UCP_ID_CONTROL:
+        return ostrogosz_ucp_send_control(&m->control, to);
     default:
-        return ostrogosz_send_initialization(m->initialization, to);
+        return ostrogosz_ucp_send_initialization(&m->initialization, to);
     }
 }
 
-/* Padding differs, so structs are compared field by field. */
+/* What a struct holds before a call that reads into it. */
+static struct message read;
 
-static int same_heartbeat(const struct ostrogosz_heartbeat *a,
-                          const struct ostrogosz_heartbeat *b)
+/* Reads a body as a kind. */
+static uint32_t read_as(uint32_t id, const uint8_t *body, size_t length)
 {
-    return a->status_1 == b->status_1 && a->status_2 == b->status_2 &&
-           a->time_stamp == b->time_stamp && a->counts == b->counts;
-}
-
-static int same_report(const struct ostrogosz_report *a,
-                       const struct ostrogosz_report *b)
-{
-    return a->alert == b->alert && a->address_type == b->address_type &&
-           a->address == b->address && a->latitude == b->latitude &&
-           a->longitude == b->longitude && a->altitude == b->altitude &&
-           a->miscellaneous == b->miscellaneous && a->nic == b->nic &&
-           a->nacp == b->nacp && a->speed == b->speed &&
-           a->vertical_rate == b->vertical_rate && a->track == b->track &&
-           a->emitter == b->emitter &&
-           memcmp(a->callsign, b->callsign, sizeof a->callsign) == 0 &&
-           a->emergency == b->emergency && a->spare == b->spare;
-}
-
-static int same_altitude(const struct ostrogosz_geometric_altitude *a,
-                         const struct ostrogosz_geometric_altitude *b)
-{
-    return a->altitude == b->altitude && a->metrics == b->metrics;
-}
-
-static int same_control(const struct ostrogosz_control *a,
-                        const struct ostrogosz_control *b)
-{
-    return a->es_enabled == b->es_enabled && a->mode_s == b->mode_s &&
-           a->mode_c == b->mode_c && a->mode_a == b->mode_a &&
-           a->ident == b->ident && a->air_ground == b->air_ground &&
-           a->baro_checked == b->baro_checked && a->altitude == b->altitude &&
-           a->squawk == b->squawk && a->emergency == b->emergency &&
-           memcmp(a->identity, b->identity, sizeof a->identity) == 0;
-}
-
-static int same_initialization(const struct ostrogosz_initialization *a,
-                               const struct ostrogosz_initialization *b)
-{
-    return a->version == b->version && a->address == b->address &&
-           a->emitter == b->emitter &&
-           memcmp(a->callsign, b->callsign, sizeof a->callsign) == 0 &&
-           a->stall_speed == b->stall_speed && a->size == b->size &&
-           a->lateral == b->lateral && a->longitudinal == b->longitudinal;
-}
-
-static int same_fields(const struct ostrogosz_message *a,
-                       const struct ostrogosz_message *b)
-{
-    return same_heartbeat(&a->heartbeat, &b->heartbeat) &&
-           same_report(&a->report, &b->report) &&
-           same_altitude(&a->geometric_altitude, &b->geometric_altitude) &&
-           a->request.requested_id == b->request.requested_id &&
-           same_control(&a->control, &b->control) &&
-           same_initialization(&a->initialization, &b->initialization);
-}
-
-/* The fields of m that a kind has; all others are 0. */
-static struct ostrogosz_message part(uint32_t id,
-                                     const struct ostrogosz_message *m)
-{
-    struct ostrogosz_message p;
-
-    memset(&p, 0, sizeof p);
     switch (id) {
-    case OSTROGOSZ_ID_HEARTBEAT:
-        p.heartbeat = m->heartbeat;
+    case OSTROGOSZ_UCP_ID_HEARTBEAT:
+        return ostrogosz_ucp_read_heartbeat(body, length, &read.heartbeat);
+    case OSTROGOSZ_UCP_ID_UPLINK:
+        return ostrogosz_ucp_read_uplink(body, length, read.payload);
+    case OSTROGOSZ_UCP_ID_OWNSHIP:
+        return ostrogosz_ucp_read_ownship(body, length, &read.report);
+    case OSTROGOSZ_UCP_ID_GEOMETRIC_ALTITUDE:
+        return ostrogosz_ucp_read_geometric_altitude(body, length,
+                                                     &read.geometric_altitude);
+    case OSTROGOSZ_UCP_ID_TRAFFIC:
+        return ostrogosz_ucp_read_traffic(body, length, &read.report);
+    case OSTROGOSZ_UCP_ID_REQUEST:
+        return ostrogosz_ucp_read_request(body, length, &read.request);
+    case OSTROGOSZ_UCP_ID_CONTROL:
+        return ostrogosz_ucp_read_control(body, length, &read.control);
+    default:
+        return ostrogosz_ucp_read_initialization(body, length,
+                                                 &read.initialization);
+    }
+}
+
+/* The part of m that a kind has, its padding zero, among octets that no call
+ * changes. */
+static void put_part(struct message *to, uint32_t id, const struct message *m)
+{
+    switch (id) {
+    case OSTROGOSZ_UCP_ID_HEARTBEAT:
+        to->heartbeat = m->heartbeat;
         break;
-    case OSTROGOSZ_ID_OWNSHIP:
-    case OSTROGOSZ_ID_TRAFFIC:
-        p.report = m->report;
+    case OSTROGOSZ_UCP_ID_UPLINK:
+        memcpy(to->payload, m->payload, PAYLOAD);
         break;
-    case OSTROGOSZ_ID_GEOMETRIC_ALTITUDE:
-        p.geometric_altitude = m->geometric_altitude;
+    case OSTROGOSZ_UCP_ID_OWNSHIP:
+    case OSTROGOSZ_UCP_ID_TRAFFIC:
+        memset(&to->report, 0, sizeof to->report);
+        to->report.alert = m->report.alert;
+        to->report.address_type = m->report.address_type;
+        to->report.address = m->report.address;
+        to->report.latitude = m->report.latitude;
+        to->report.longitude = m->report.longitude;
+        to->report.altitude = m->report.altitude;
+        to->report.miscellaneous = m->report.miscellaneous;
+        to->report.nic = m->report.nic;
+        to->report.nacp = m->report.nacp;
+        to->report.speed = m->report.speed;
+        to->report.vertical_rate = m->report.vertical_rate;
+        to->report.track = m->report.track;
+        to->report.emitter = m->report.emitter;
+        memcpy(to->report.callsign, m->report.callsign, 8);
+        to->report.emergency = m->report.emergency;
+        to->report.spare = m->report.spare;
         break;
-    case OSTROGOSZ_ID_REQUEST:
-        p.request = m->request;
+    case OSTROGOSZ_UCP_ID_GEOMETRIC_ALTITUDE:
+        to->geometric_altitude = m->geometric_altitude;
         break;
-    case OSTROGOSZ_ID_CONTROL:
-        p.control = m->control;
+    case OSTROGOSZ_UCP_ID_REQUEST:
+        to->request = m->request;
         break;
-    case OSTROGOSZ_ID_INITIALIZATION:
-        p.initialization = m->initialization;
+    case OSTROGOSZ_UCP_ID_CONTROL:
+        memset(&to->control, 0, sizeof to->control);
+        to->control.es_enabled = m->control.es_enabled;
+        to->control.mode_s = m->control.mode_s;
+        to->control.mode_c = m->control.mode_c;
+        to->control.mode_a = m->control.mode_a;
+        to->control.ident = m->control.ident;
+        to->control.air_ground = m->control.air_ground;
+        to->control.baro_checked = m->control.baro_checked;
+        to->control.altitude = m->control.altitude;
+        to->control.squawk = m->control.squawk;
+        to->control.emergency = m->control.emergency;
+        memcpy(to->control.identity, m->control.identity, 8);
         break;
     default:
+        memset(&to->initialization, 0, sizeof to->initialization);
+        to->initialization.version = m->initialization.version;
+        to->initialization.address = m->initialization.address;
+        to->initialization.emitter = m->initialization.emitter;
+        memcpy(to->initialization.callsign, m->initialization.callsign, 8);
+        to->initialization.stall_speed = m->initialization.stall_speed;
+        to->initialization.size = m->initialization.size;
+        to->initialization.lateral = m->initialization.lateral;
+        to->initialization.longitudinal = m->initialization.longitudinal;
         break;
     }
-    return p;
 }
 
-/* The body reads as the part of m that its kind has. */
-static int reads(const uint8_t *body, size_t length,
-                 const struct ostrogosz_message *m)
+/* The body reads as the part of m that its kind has: every octet of the struct
+ * is written, padding too, and no other. */
+static int reads(const uint8_t *body, size_t length, const struct message *m)
 {
-    struct ostrogosz_message read = ostrogosz_read_message(body, length);
-    struct ostrogosz_message due = part(body[0], m);
+    struct message due;
+    struct ostrogosz_ucp_id id = ostrogosz_ucp_read_id(body, length);
 
-    return read.refusal == 0 && read.id == body[0] && same_fields(&read, &due);
+    memset(&due, HELD, sizeof due);
+    put_part(&due, body[0], m);
+    memset(&read, HELD, sizeof read);
+    return id.refusal == 0 && id.id == body[0] &&
+           read_as(body[0], body, length) == 0 &&
+           memcmp(&read, &due, sizeof read) == 0;
 }
 
+/* A kind's reader refuses the body with this number, and changes no octet. */
+static int refused_as(uint32_t id, const uint8_t *body, size_t length,
+                      uint32_t number)
+{
+    struct message due;
+
+    memset(&due, HELD, sizeof due);
+    memset(&read, HELD, sizeof read);
+    return read_as(id, body, length) == number &&
+           memcmp(&read, &due, sizeof read) == 0;
+}
+
+/* The reader of the body's own kind refuses it; every kind's does where the ID
+ * is unknown. */
 static int read_refused(const uint8_t *body, size_t length, uint32_t number)
 {
-    struct ostrogosz_message read = ostrogosz_read_message(body, length);
-    struct ostrogosz_message zero;
+    struct ostrogosz_ucp_id id = ostrogosz_ucp_read_id(body, length);
 
-    memset(&zero, 0, sizeof zero);
-    return read.refusal == number && read.id == 0 && same_fields(&read, &zero);
+    if (number == OSTROGOSZ_REFUSAL_UNKNOWN_ID) {
+        return id.refusal == number && id.id == 0 &&
+               refused_as(0, body, length, number) &&
+               refused_as(7, body, length, number) &&
+               refused_as(20, body, length, number) &&
+               refused_as(45, body, length, number);
+    }
+    return id.refusal == 0 && id.id == body[0] &&
+           refused_as(body[0], body, length, number);
 }
 
 /* What is sent is the frame of the body. */
-static int sends(uint32_t id, const struct ostrogosz_message *m,
+static int sends(uint32_t id, const struct message *m,
                  const uint8_t *body, size_t length)
 {
-    uint8_t frame[OSTROGOSZ_LONGEST_FRAME];
+    uint8_t frame[OSTROGOSZ_UCP_LONGEST_FRAME];
     struct ostrogosz_written due;
 
-    due = ostrogosz_write_frame(body, length, frame, sizeof frame);
+    due = ostrogosz_ucp_write_frame(body, length, frame, sizeof frame);
     return due.refusal == 0 && wrote(send_frame(id, m), frame, due.length);
 }
 
@@ -283,15 +320,49 @@ static void try_bodies(void)
         try_body(kinds[i].id, kinds[i].body, kinds[i].length);
     }
     fill_uplink();
-    EXPECT(uplink[0] == OSTROGOSZ_ID_UPLINK);
-    try_body(OSTROGOSZ_ID_UPLINK, uplink, 1 + PAYLOAD);
+    EXPECT(uplink[0] == OSTROGOSZ_UCP_ID_UPLINK);
+    try_body(OSTROGOSZ_UCP_ID_UPLINK, uplink, 1 + PAYLOAD);
+}
+
+/* A kind's reader takes no other kind's body, whatever its length. */
+static void try_other_kinds(void)
+{
+    size_t i;
+    size_t j;
+    int held = 1;
+
+    for (i = 0; i < KINDS; i++) {
+        for (j = 0; j < KINDS; j++) {
+            held = held && (i == j || refused_as(kinds[i].id, kinds[j].body,
+                                                 kinds[j].length, 10));
+        }
+        held = held && refused_as(kinds[i].id, uplink, 1 + PAYLOAD, 10);
+        held = held && refused_as(7, kinds[i].body, kinds[i].length, 10);
+    }
+    EXPECT(held);
+}
+
+/* Any octet but 0 is a yes. */
+static void try_yes(void)
+{
+    struct message m = sample;
+    unsigned yes;
+    int held = 1;
+
+    for (yes = 1; yes < 256; yes++) {
+        m.control.es_enabled = m.control.mode_c = (uint8_t)yes;
+        m.control.ident = m.control.baro_checked = (uint8_t)(256 - yes);
+        held = held && wrote(write_body(45, &m, 18), kinds[5].body, 18);
+        held = held && sends(45, &m, kinds[5].body, 18);
+    }
+    EXPECT(held);
 }
 
 /* Every octet of flags of a Control, each way. */
 static void try_flags(void)
 {
     uint8_t body[18];
-    struct ostrogosz_message m = sample;
+    struct message m = sample;
     unsigned flags;
     int held = 1;
 
@@ -312,7 +383,7 @@ static void try_flags(void)
 }
 
 /* 13, whatever the room: it is tested before 8. */
-static int field_refused(uint32_t id, const struct ostrogosz_message *m)
+static int field_refused(uint32_t id, const struct message *m)
 {
     return refused(write_body(id, m, ROOM), 13) &&
            refused(write_body(id, m, 0), 13) && refused(send_frame(id, m), 13);
@@ -321,7 +392,7 @@ static int field_refused(uint32_t id, const struct ostrogosz_message *m)
 /* A field of a report, Ownship and Traffic: first a value that still fits. */
 #define TRY_REPORT(field, fits, wide)                                        \
     do {                                                                     \
-        struct ostrogosz_message m = sample;                                 \
+        struct message m = sample;                                 \
         m.report.field = fits;                                               \
         EXPECT(write_body(10, &m, 28).refusal == 0);                         \
         EXPECT(write_body(20, &m, 28).refusal == 0);                         \
@@ -352,7 +423,7 @@ static void try_report_fields(void)
 /* A field of another kind: first a value that still fits. */
 #define TRY_FIELD(id, field, fits, wide)                                     \
     do {                                                                     \
-        struct ostrogosz_message m = sample;                                 \
+        struct message m = sample;                                 \
         m.field = fits;                                                      \
         EXPECT(write_body(id, &m, ROOM).refusal == 0);                       \
         m.field = wide;                                                      \
@@ -382,11 +453,12 @@ static void try_payloads(void)
     size_t i;
 
     for (i = 0; i < sizeof lengths / sizeof lengths[0]; i++) {
-        written = ostrogosz_write_uplink(uplink, lengths[i], fresh_output(), 0);
+        written = ostrogosz_ucp_write_uplink(uplink, lengths[i], fresh_output(),
+                                             0);
         EXPECT(refused(written, 13));
-        written = ostrogosz_write_uplink(uplink, lengths[i], output, ROOM);
+        written = ostrogosz_ucp_write_uplink(uplink, lengths[i], output, ROOM);
         EXPECT(refused(written, 13));
-        written = ostrogosz_send_uplink(uplink, lengths[i], output);
+        written = ostrogosz_ucp_send_uplink(uplink, lengths[i], output);
         EXPECT(refused(written, 13));
     }
 }
@@ -432,41 +504,22 @@ static void try_no_pointer(void)
     struct ostrogosz_written written;
 
     EXPECT(read_refused(NULL, 0, OSTROGOSZ_REFUSAL_UNKNOWN_ID));
-    written = ostrogosz_write_request(sample.request, NULL, 0);
+    written = ostrogosz_ucp_write_request(&sample.request, NULL, 0);
     EXPECT(written.refusal == 8 && written.length == 0);
-    written = ostrogosz_write_uplink(uplink, PAYLOAD, NULL, 0);
+    written = ostrogosz_ucp_write_uplink(uplink, PAYLOAD, NULL, 0);
     EXPECT(written.refusal == 8 && written.length == 0);
-    EXPECT(refused(ostrogosz_write_uplink(NULL, 0, fresh_output(), ROOM), 13));
-    EXPECT(refused(ostrogosz_send_uplink(NULL, 0, fresh_output()), 13));
-}
-
-/* The structs as this compiler lays them out, on which a binding of another
- * language may rely. */
-static void try_layout(void)
-{
-    EXPECT(sizeof(struct ostrogosz_written) == 16);
-    EXPECT(offsetof(struct ostrogosz_written, length) == 8);
-    EXPECT(sizeof(struct ostrogosz_heartbeat) == 6);
-    EXPECT(sizeof(struct ostrogosz_report) == 40);
-    EXPECT(offsetof(struct ostrogosz_report, callsign) == 28);
-    EXPECT(sizeof(struct ostrogosz_geometric_altitude) == 4);
-    EXPECT(sizeof(struct ostrogosz_request) == 1);
-    EXPECT(sizeof(struct ostrogosz_control) == 24);
-    EXPECT(offsetof(struct ostrogosz_control, identity) == 15);
-    EXPECT(sizeof(struct ostrogosz_initialization) == 24);
-    EXPECT(offsetof(struct ostrogosz_initialization, longitudinal) == 20);
-    EXPECT(sizeof(struct ostrogosz_message) == 112);
-    EXPECT(offsetof(struct ostrogosz_message, report) == 16);
-    EXPECT(offsetof(struct ostrogosz_message, control) == 64);
+    written = ostrogosz_ucp_write_uplink(NULL, 0, fresh_output(), ROOM);
+    EXPECT(refused(written, 13));
+    EXPECT(refused(ostrogosz_ucp_send_uplink(NULL, 0, fresh_output()), 13));
 }
 
 /* Whether a measure is known and has this value. */
-static int measures(struct ostrogosz_measure measure, int32_t value)
+static int measures(struct ostrogosz_ucp_measure measure, int32_t value)
 {
     return measure.known == 1 && measure.value == value;
 }
 
-static int measures_nothing(struct ostrogosz_measure measure)
+static int measures_nothing(struct ostrogosz_ucp_measure measure)
 {
     return measure.known == 0 && measure.value == 0;
 }
@@ -474,30 +527,31 @@ static int measures_nothing(struct ostrogosz_measure measure)
 /* What raw numbers mean, at the edges and at the no data marks. */
 static void try_meanings(void)
 {
-    EXPECT(measures(ostrogosz_altitude_in_feet(0), -1000));
-    EXPECT(measures(ostrogosz_altitude_in_feet(240), 5000));
-    EXPECT(measures(ostrogosz_altitude_in_feet(0xFFE), 101350));
-    EXPECT(measures_nothing(ostrogosz_altitude_in_feet(0xFFF)));
-    EXPECT(measures(ostrogosz_rate_in_feet_per_minute(1), 64));
-    EXPECT(measures(ostrogosz_rate_in_feet_per_minute(-2047), -131008));
-    EXPECT(measures_nothing(ostrogosz_rate_in_feet_per_minute(-2048)));
-    EXPECT(ostrogosz_geometric_altitude_in_feet(-100) == -500);
-    EXPECT(ostrogosz_degrees_e7(0x1FEF15) == 449070668);
-    EXPECT(ostrogosz_degrees_e7(0xA88978 - 0x1000000) == -1229948616);
-    EXPECT(ostrogosz_degrees_e7(-0x800000) == -1800000000);
-    EXPECT(ostrogosz_degrees_e7(0x400000) == 900000000);
+    EXPECT(measures(ostrogosz_ucp_altitude_in_feet(0), -1000));
+    EXPECT(measures(ostrogosz_ucp_altitude_in_feet(240), 5000));
+    EXPECT(measures(ostrogosz_ucp_altitude_in_feet(0xFFE), 101350));
+    EXPECT(measures_nothing(ostrogosz_ucp_altitude_in_feet(0xFFF)));
+    EXPECT(measures(ostrogosz_ucp_rate_in_feet_per_minute(1), 64));
+    EXPECT(measures(ostrogosz_ucp_rate_in_feet_per_minute(-2047), -131008));
+    EXPECT(measures_nothing(ostrogosz_ucp_rate_in_feet_per_minute(-2048)));
+    EXPECT(ostrogosz_ucp_geometric_altitude_in_feet(-100) == -500);
+    EXPECT(ostrogosz_ucp_degrees_e7(0x1FEF15) == 449070668);
+    EXPECT(ostrogosz_ucp_degrees_e7(0xA88978 - 0x1000000) == -1229948616);
+    EXPECT(ostrogosz_ucp_degrees_e7(-0x800000) == -1800000000);
+    EXPECT(ostrogosz_ucp_degrees_e7(0x400000) == 900000000);
 }
 
 int main(void)
 {
     try_meanings();
     try_bodies();
+    try_other_kinds();
+    try_yes();
     try_flags();
     try_report_fields();
     try_other_fields();
     try_payloads();
     try_read_refusals();
     try_no_pointer();
-    try_layout();
     return finish();
 }

@@ -5,30 +5,30 @@
 #include "ostrogosz.h"
 #include "output.h"
 
-static struct ostrogosz_receiver receiver;
+static struct ostrogosz_ucp_receiver receiver;
 
 static int store_is_zero(const uint8_t *store)
 {
-    static const uint8_t zeros[OSTROGOSZ_STORE] = {0};
+    static const uint8_t zeros[OSTROGOSZ_UCP_STORE] = {0};
 
     return memcmp(store, zeros, sizeof zeros) == 0;
 }
 
 /* What every flag leaves, counts excepted. */
-static int flag_left(const struct ostrogosz_receiver *r)
+static int flag_left(const struct ostrogosz_ucp_receiver *r)
 {
-    return store_is_zero(r->store) && r->line[OSTROGOSZ_LINE_STORED] == 0 &&
-           r->line[OSTROGOSZ_LINE_PHASE] == OSTROGOSZ_PHASE_READING;
+    return store_is_zero(r->store) && r->line[OSTROGOSZ_UCP_LINE_STORED] == 0 &&
+           r->line[OSTROGOSZ_UCP_LINE_PHASE] == OSTROGOSZ_UCP_PHASE_READING;
 }
 
 static int counts_are(uint32_t flags, uint32_t delivered, uint32_t refused,
                       uint32_t skipped, uint32_t open)
 {
-    return receiver.line[OSTROGOSZ_LINE_FLAGS] == flags &&
-           receiver.line[OSTROGOSZ_LINE_DELIVERED] == delivered &&
-           receiver.line[OSTROGOSZ_LINE_REFUSED] == refused &&
-           receiver.line[OSTROGOSZ_LINE_SKIPPED] == skipped &&
-           receiver.line[OSTROGOSZ_LINE_OPEN] == open;
+    return receiver.line[OSTROGOSZ_UCP_LINE_FLAGS] == flags &&
+           receiver.line[OSTROGOSZ_UCP_LINE_DELIVERED] == delivered &&
+           receiver.line[OSTROGOSZ_UCP_LINE_REFUSED] == refused &&
+           receiver.line[OSTROGOSZ_UCP_LINE_SKIPPED] == skipped &&
+           receiver.line[OSTROGOSZ_UCP_LINE_OPEN] == open;
 }
 
 /* A fresh receiver's answer at the end of a line, by the slice; and by the
@@ -36,16 +36,17 @@ static int counts_are(uint32_t flags, uint32_t delivered, uint32_t refused,
 static int answers(const uint8_t *line, size_t length, size_t room,
                    uint32_t kind, uint32_t value)
 {
-    struct ostrogosz_answer answer = {0, 0};
-    struct ostrogosz_taken taken;
+    struct ostrogosz_ucp_answer answer = {0, 0};
+    struct ostrogosz_ucp_taken taken;
     size_t i;
 
-    ostrogosz_line_start(&receiver);
+    ostrogosz_ucp_receiver_start(&receiver);
     for (i = 0; i < length && answer.kind == 0; i++) {
-        answer = ostrogosz_line_receive(&receiver, line[i], output, room);
+        answer =
+            ostrogosz_ucp_receiver_receive(&receiver, line[i], output, room);
     }
-    ostrogosz_line_start(&receiver);
-    taken = ostrogosz_line_receive_slice(&receiver, line, length,
+    ostrogosz_ucp_receiver_start(&receiver);
+    taken = ostrogosz_ucp_receiver_receive_slice(&receiver, line, length,
                                          fresh_output(), room);
     return i == length && taken.taken == length && answer.kind == kind &&
            answer.value == value && taken.kind == kind && taken.value == value;
@@ -110,38 +111,39 @@ static void try_listed_line(void)
     static const uint8_t line[] = {0x7E, 0x2C, 0x01, 0x01, 0x2C, 0x7E, 0x2C,
                                    0x02, 0x2B, 0xC5, 0xE7, 0x7E, 0x7D, 0x7E};
     static const uint32_t due[][3] = {{1, 2, 6}, {1, 3, 6}, {2, 2, 2}};
-    struct ostrogosz_taken t;
+    struct ostrogosz_ucp_taken t;
     size_t at = 0;
     size_t i;
 
-    ostrogosz_line_start(&receiver);
+    ostrogosz_ucp_receiver_start(&receiver);
     for (i = 0; i < 3; i++) {
-        t = ostrogosz_line_receive_slice(&receiver, line + at, sizeof line - at,
-                                         output, OSTROGOSZ_LONGEST_BODY);
+        t = ostrogosz_ucp_receiver_receive_slice(&receiver, line + at,
+                                                 sizeof line - at, output,
+                                                 OSTROGOSZ_UCP_LONGEST_BODY);
         EXPECT(t.kind == due[i][0] && t.value == due[i][1]);
         EXPECT(t.taken == due[i][2]);
         at += t.taken;
     }
     EXPECT(at == sizeof line && counts_are(4, 9, 1, 0, 0));
-    EXPECT(ostrogosz_line_octets(&receiver) == 14);
+    EXPECT(ostrogosz_ucp_receiver_octets(&receiver) == 14);
 }
 
 /* Where a length is 0 the pointer is never followed. */
 static void try_no_pointer(void)
 {
     static const uint8_t line[] = {0x00, 0x7E, 0x2C, 0x01, 0x01, 0x2C};
-    struct ostrogosz_answer answer;
-    struct ostrogosz_taken taken;
+    struct ostrogosz_ucp_answer answer;
+    struct ostrogosz_ucp_taken taken;
 
-    ostrogosz_line_start(&receiver);
-    taken = ostrogosz_line_receive_slice(&receiver, NULL, 0, NULL, 0);
+    ostrogosz_ucp_receiver_start(&receiver);
+    taken = ostrogosz_ucp_receiver_receive_slice(&receiver, NULL, 0, NULL, 0);
     EXPECT(taken.kind == 0 && taken.value == 0 && taken.taken == 0);
-    taken = ostrogosz_line_receive_slice(&receiver, line, 6, NULL, 0);
+    taken = ostrogosz_ucp_receiver_receive_slice(&receiver, line, 6, NULL, 0);
     EXPECT(taken.kind == 0 && taken.value == 0 && taken.taken == 6);
     EXPECT(counts_are(1, 0, 0, 1, 4));
     EXPECT(memcmp(receiver.store, line + 2, 4) == 0);
-    EXPECT(receiver.line[OSTROGOSZ_LINE_STORED] == 4);
-    answer = ostrogosz_line_receive(&receiver, 0x7E, NULL, 0);
+    EXPECT(receiver.line[OSTROGOSZ_UCP_LINE_STORED] == 4);
+    answer = ostrogosz_ucp_receiver_receive(&receiver, 0x7E, NULL, 0);
     EXPECT(answer.kind == 2 && answer.value == 6 && flag_left(&receiver));
 }
 
@@ -152,16 +154,54 @@ static void try_byte_map(void)
     uint8_t dump[sizeof receiver];
 
     EXPECT(sizeof receiver == 468);
-    EXPECT(offsetof(struct ostrogosz_receiver, store) == 0);
-    EXPECT(offsetof(struct ostrogosz_receiver, line) == 440);
+    EXPECT(offsetof(struct ostrogosz_ucp_receiver, store) == 0);
+    EXPECT(offsetof(struct ostrogosz_ucp_receiver, line) == 440);
 
-    ostrogosz_line_start(&receiver);
-    ostrogosz_line_receive_slice(&receiver, line, sizeof line, output, ROOM);
+    ostrogosz_ucp_receiver_start(&receiver);
+    ostrogosz_ucp_receiver_receive_slice(&receiver, line, sizeof line, output,
+                                         ROOM);
     memcpy(dump, &receiver, sizeof dump);
     EXPECT(dump[0] == 0x2C && dump[1] == 0);
-    EXPECT(dump[440] == OSTROGOSZ_PHASE_ESCAPE && dump[444] == 1);
+    EXPECT(dump[440] == OSTROGOSZ_UCP_PHASE_ESCAPE && dump[444] == 1);
     EXPECT(dump[448] == 1 && dump[452] == 0 && dump[456] == 0);
     EXPECT(dump[460] == 1 && dump[464] == 2);
+}
+
+/* A dump in every phase: after each of these lines, the phase and the octets
+ * stored. */
+static void try_phases(void)
+{
+    static const struct {
+        size_t length;
+        uint8_t line[5];
+        uint8_t phase;
+        uint8_t stored;
+    } cases[] = {
+        {1, {0x2C}, 0, 0},
+        {2, {0x7E, 0x2C}, 1, 1},
+        {4, {0x7E, 0x2C, 0x02, 0x7D}, 2, 2},
+        {5, {0x7E, 0x2C, 0x02, 0x7D, 0x00}, 3, 2},
+        {5, {0x7E, 0x2C, 0x7D, 0x5E, 0x7E}, 1, 0},
+    };
+    uint8_t dump[sizeof receiver];
+    size_t i;
+
+    for (i = 0; i < sizeof cases / sizeof cases[0]; i++) {
+        ostrogosz_ucp_receiver_start(&receiver);
+        ostrogosz_ucp_receiver_receive_slice(
+            &receiver, cases[i].line, cases[i].length, output, ROOM);
+        memcpy(dump, &receiver, sizeof dump);
+        EXPECT(dump[440] == cases[i].phase && dump[444] == cases[i].stored);
+    }
+    /* The 439th unstuffed octet is one too many. */
+    ostrogosz_ucp_receiver_start(&receiver);
+    for (i = 0; i < 440; i++) {
+        ostrogosz_ucp_receiver_receive(&receiver, i == 0 ? 0x7E : 0x2C, output,
+                                       ROOM);
+    }
+    memcpy(dump, &receiver, sizeof dump);
+    EXPECT(dump[440] == OSTROGOSZ_UCP_PHASE_TOO_LONG);
+    EXPECT(dump[444] + 256 * dump[445] == OSTROGOSZ_UCP_STORE);
 }
 
 /* Each count runs round at 2^32. */
@@ -171,30 +211,30 @@ static void try_counts_that_run_round(void)
                                    0x00, 0x7E, 0x00, 0x00};
     size_t i;
 
-    ostrogosz_line_start(&receiver);
-    for (i = OSTROGOSZ_LINE_FLAGS; i < OSTROGOSZ_LINE; i++) {
+    ostrogosz_ucp_receiver_start(&receiver);
+    for (i = OSTROGOSZ_UCP_LINE_FLAGS; i < OSTROGOSZ_UCP_LINE; i++) {
         receiver.line[i] = UINT32_MAX;
     }
     for (i = 0; i < sizeof line; i++) {
-        ostrogosz_line_receive(&receiver, line[i], output, ROOM);
+        ostrogosz_ucp_receiver_receive(&receiver, line[i], output, ROOM);
     }
     EXPECT(counts_are(2, 3, 0, UINT32_MAX, 2));
-    receiver.line[OSTROGOSZ_LINE_OPEN] = UINT32_MAX;
-    ostrogosz_line_receive(&receiver, 0x00, output, ROOM);
+    receiver.line[OSTROGOSZ_UCP_LINE_OPEN] = UINT32_MAX;
+    ostrogosz_ucp_receiver_receive(&receiver, 0x00, output, ROOM);
     EXPECT(counts_are(2, 3, 0, UINT32_MAX, 0));
-    ostrogosz_line_start(&receiver);
-    receiver.line[OSTROGOSZ_LINE_SKIPPED] = UINT32_MAX;
-    ostrogosz_line_receive(&receiver, 0x00, output, ROOM);
+    ostrogosz_ucp_receiver_start(&receiver);
+    receiver.line[OSTROGOSZ_UCP_LINE_SKIPPED] = UINT32_MAX;
+    ostrogosz_ucp_receiver_receive(&receiver, 0x00, output, ROOM);
     EXPECT(counts_are(0, 0, 0, 0, 0));
 }
 
 /* A record that no line leads to, between octets that must stay. */
 struct guarded {
     uint8_t before[16];
-    uint8_t store[OSTROGOSZ_STORE];
+    uint8_t store[OSTROGOSZ_UCP_STORE];
     uint8_t behind[16];
     uint32_t line_before[4];
-    uint32_t line[OSTROGOSZ_LINE];
+    uint32_t line[OSTROGOSZ_UCP_LINE];
     uint32_t line_behind[4];
 };
 
@@ -222,19 +262,19 @@ static void try_record(uint32_t phase, uint32_t stored)
 
     for (octet = 0; octet < 256; octet++) {
         memset(&g, HELD, sizeof g);
-        g.line[OSTROGOSZ_LINE_PHASE] = phase;
-        g.line[OSTROGOSZ_LINE_STORED] = stored;
-        ostrogosz_receive(g.store, g.line, (uint8_t)octet, output, ROOM);
+        g.line[OSTROGOSZ_UCP_LINE_PHASE] = phase;
+        g.line[OSTROGOSZ_UCP_LINE_STORED] = stored;
+        ostrogosz_ucp_receive(g.store, g.line, (uint8_t)octet, output, ROOM);
         held = held && guards_hold(&g);
     }
     EXPECT(held);
-    ostrogosz_receive(g.store, g.line, 0x7E, output, ROOM);
+    ostrogosz_ucp_receive(g.store, g.line, 0x7E, output, ROOM);
     EXPECT(guards_hold(&g) && store_is_zero(g.store));
-    EXPECT(g.line[OSTROGOSZ_LINE_PHASE] == OSTROGOSZ_PHASE_READING);
-    EXPECT(g.line[OSTROGOSZ_LINE_STORED] == 0);
+    EXPECT(g.line[OSTROGOSZ_UCP_LINE_PHASE] == OSTROGOSZ_UCP_PHASE_READING);
+    EXPECT(g.line[OSTROGOSZ_UCP_LINE_STORED] == 0);
 
     memset(&g, HELD, sizeof g);
-    ostrogosz_receiver_start(g.store, g.line);
+    ostrogosz_ucp_start(g.store, g.line);
     EXPECT(guards_hold(&g) && store_is_zero(g.store));
 }
 
@@ -261,6 +301,7 @@ int main(void)
     try_listed_line();
     try_no_pointer();
     try_byte_map();
+    try_phases();
     try_counts_that_run_round();
     try_records();
     return finish();

@@ -38,16 +38,16 @@ static const struct vector vectors[] = {
 static struct ostrogosz_written write_frame(const uint8_t *body, size_t length,
                                             size_t room)
 {
-    return ostrogosz_write_frame(body, length, fresh_output(), room);
+    return ostrogosz_ucp_write_frame(body, length, fresh_output(), room);
 }
 
 static void try_vector(const struct vector *v)
 {
     struct ostrogosz_written written;
 
-    EXPECT(ostrogosz_frame_check(v->body, v->body_length) == v->check);
+    EXPECT(ostrogosz_ucp_frame_check(v->body, v->body_length) == v->check);
 
-    written = write_frame(v->body, v->body_length, OSTROGOSZ_LONGEST_FRAME);
+    written = write_frame(v->body, v->body_length, OSTROGOSZ_UCP_LONGEST_FRAME);
     EXPECT(wrote(written, v->frame, v->frame_length));
 
     written = write_frame(v->body, v->body_length, v->frame_length);
@@ -59,7 +59,7 @@ static void try_vector(const struct vector *v)
 
 static void try_lengths(void)
 {
-    static const uint8_t zeros[OSTROGOSZ_LONGEST_BODY + 1] = {0};
+    static const uint8_t zeros[OSTROGOSZ_UCP_LONGEST_BODY + 1] = {0};
     struct ostrogosz_written written;
 
     EXPECT(refused(write_frame(zeros, 0, ROOM), 7));
@@ -75,19 +75,19 @@ static void try_lengths(void)
 /* Every octet is escaped, those of the check too. */
 static void try_longest_frame(void)
 {
-    uint8_t body[OSTROGOSZ_LONGEST_BODY];
+    uint8_t body[OSTROGOSZ_UCP_LONGEST_BODY];
     struct ostrogosz_written written;
 
     memset(body, 0x7E, sizeof body);
     body[1] = body[373] = 0x7D;
 
-    written = write_frame(body, sizeof body, OSTROGOSZ_LONGEST_FRAME);
+    written = write_frame(body, sizeof body, OSTROGOSZ_UCP_LONGEST_FRAME);
     EXPECT(written.refusal == 0);
-    EXPECT(written.length == OSTROGOSZ_LONGEST_FRAME);
-    EXPECT(output[OSTROGOSZ_LONGEST_FRAME - 1] == 0x7E);
-    EXPECT(kept_from(OSTROGOSZ_LONGEST_FRAME));
+    EXPECT(written.length == OSTROGOSZ_UCP_LONGEST_FRAME);
+    EXPECT(output[OSTROGOSZ_UCP_LONGEST_FRAME - 1] == 0x7E);
+    EXPECT(kept_from(OSTROGOSZ_UCP_LONGEST_FRAME));
 
-    written = write_frame(body, sizeof body, OSTROGOSZ_LONGEST_FRAME - 1);
+    written = write_frame(body, sizeof body, OSTROGOSZ_UCP_LONGEST_FRAME - 1);
     EXPECT(refused(written, OSTROGOSZ_REFUSAL_OUTPUT_LENGTH));
 }
 
@@ -97,12 +97,12 @@ static void try_no_pointer(void)
     static const uint8_t body[] = {0x2C, 0x01};
     struct ostrogosz_written written;
 
-    EXPECT(ostrogosz_frame_check(NULL, 0) == 0);
+    EXPECT(ostrogosz_ucp_frame_check(NULL, 0) == 0);
     EXPECT(refused(write_frame(NULL, 0, ROOM), 7));
 
-    written = ostrogosz_write_frame(body, sizeof body, NULL, 0);
+    written = ostrogosz_ucp_write_frame(body, sizeof body, NULL, 0);
     EXPECT(written.refusal == 8 && written.length == 0);
-    written = ostrogosz_write_frame(NULL, 0, NULL, 0);
+    written = ostrogosz_ucp_write_frame(NULL, 0, NULL, 0);
     EXPECT(written.refusal == 7 && written.length == 0);
 }
 

@@ -14,7 +14,7 @@ use Rattle.c_lent.specs.Structs.{Struct, stored}
 use Rattle.c_lent.specs.Reads.{hasId, refusalAs, ReadsInto}
 use Rattle.c_lent.specs.Steps.{firstRefusal}
 
-pub its-id : (id : ℕ) (body : List ℕ) → (length body ≡ 0 → ⊥) → getD body 0 0 ≡ id → hasId id body ≡ true
+its-id : (id : ℕ) (body : List ℕ) → (length body ≡ 0 → ⊥) → getD body 0 0 ≡ id → hasId id body ≡ true
 its-id id body some is = rw (lt-ltb 0 (length body) (omega arith), eq-eqb _ _ is)
 
 no-id : (id : ℕ) (body : List ℕ) → length body ≡ 0 → hasId id body ≡ false
@@ -68,18 +68,12 @@ module _ {A : Type 0} (f : Format A) (s : Struct A) (body before : List ℕ) whe
   unfolding refusalAs
   other-kind h = rw h (record { answers = refl; leaves = refl })
 
-  pub no-octet : length body ≡ 0 → ReadsInto f s body before 10 before
-  no-octet h = other-kind (no-id id body h)
-
-  pub other-id : (length body ≡ 0 → ⊥) → (getD body 0 0 ≡ id → ⊥) → ReadsInto f s body before 10 before
-  other-id some differs = other-kind (not-its-id id body some differs)
-
   module _ (own : hasId id body ≡ true) where
     refused : (number : ℕ) → refusalOf f body ≡ number → (number ≡ 0 → ⊥) → ReadsInto f s body before number before
     unfolding refusalAs
     refused number e some = rw (own, e) (record { answers = refl; leaves = rw (ne-eqb _ _ some) })
 
-    pub refused-11 : (length body ≡ bodySize f → ⊥) → ReadsInto f s body before 11 before
+    refused-11 : (length body ≡ bodySize f → ⊥) → ReadsInto f s body before 11 before
     refused-11 n = refused 11 (exactly-11 f body .1 n) (omega arith)
 
     module _ (n : length body ≡ bodySize f) where

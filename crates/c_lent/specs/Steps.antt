@@ -1,4 +1,4 @@
--- What the functions do that more than one kind's calls share. Assumes nothing.
+-- What the calls of more than one kind do. Assumes nothing.
 use mathlib.Core.Bool.{true}
 use mathlib.Core.List.{List, [], _∷_}
 use Prim.Native.Nat.{ℕ, _/_, _%_}
@@ -11,9 +11,6 @@ use Rattle.c_lent.specs.Reads.{refusalAs}
 abbrev pub firstRefusal : ℕ → ℕ → List ℕ → ℕ
 firstRefusal id size body = refusalAs id body (refusalBy (eqb (length body) size) true true)
 
--- numbers in a struct: 16 bits, and 32
+-- a number of 16 bits in a struct
 abbrev pub twoOf : ℕ → List ℕ
 twoOf n = n % 256 ∷ n / 256 ∷ []
-
-abbrev pub fourOf : ℕ → List ℕ
-fourOf n = n % 16777216 % 65536 % 256 ∷ n % 16777216 % 65536 / 256 ∷ n % 16777216 / 65536 ∷ n / 16777216 ∷ []

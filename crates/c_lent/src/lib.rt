@@ -3,11 +3,8 @@
 use output_writing::OstrogoszWritten;
 use ucp_frame::FrameBuffer;
 ghost use mathlib.Core.Path.{_≡_};
-ghost use Prim.Native.Nat.{_+_, _≤_};
-ghost use lib.ListN.{length};
-ghost use lib.Seq.{sets};
 ghost use Rattle.c_lent.specs.Sends.{FramesWritten};
-ghost use Rattle.c_lent.specs.Steps.{firstRefusal, twoOf, fourOf};
+ghost use Rattle.c_lent.specs.Steps.{firstRefusal};
 
 // The refusals' numbers as C has them.
 pub const OUTPUT_LENGTH: u32 = refusals::OUTPUT_LENGTH as u32;
@@ -35,26 +32,6 @@ pub fn first_refusal(body: &[u8], id: u8, size: usize) -> u32
         return MESSAGE_LENGTH;
     }
     0
-}
-
-// A number of 16 bits, and one of 32, least significant octet first: compiled, one store.
-pub fn put_16(message: &mut [u8], at: usize, number: u16)
-    requires { ⌜ at + 2 ≤ length (now message) ⌝ }
-    ensures { λ r. ⌜ now (message .exit) ≡ sets (now (message .entry)) at (twoOf number) ⌝ }
-{
-    message[at] = (number % 256) as u8;
-    message[at + 1] = (number / 256) as u8;
-}
-
-pub fn put_32(message: &mut [u8], at: usize, number: u32)
-    requires { ⌜ at + 4 ≤ length (now message) ⌝ }
-    ensures { λ r. ⌜ now (message .exit) ≡ sets (now (message .entry)) at (fourOf number) ⌝ }
-{
-    let low = number % 16777216 % 65536;
-    message[at] = (low % 256) as u8;
-    message[at + 1] = (low / 256) as u8;
-    message[at + 2] = (number % 16777216 / 65536) as u8;
-    message[at + 3] = (number / 16777216) as u8;
 }
 
 // The second half of a send: what a kind's writer gave, and the buffer that it wrote to. A refusal has no length, so that nothing is

@@ -1,4 +1,7 @@
-pub mod Read
-pub mod Writer
-pub mod BlankMessages
-pub mod Lowest
+pub mod Structs
+pub mod Readers
+pub mod Ids
+pub mod Writers
+pub mod Failures
+pub mod OneKind
+pub mod Steps

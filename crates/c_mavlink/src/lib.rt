@@ -1,195 +1,113 @@
-// The MAVLink messages for C; include/ostrogosz.h says the same in C.
-pub mod blank_messages;
+// The MAVLink messages for C: a message and the header of its frame lie in the caller's structs, which are lent as their octets;
+// include/ostrogosz.h says the same in C.
+mod data_stream;
+mod dynamic;
+mod frames;
+mod static_data;
+mod status;
+mod traffic;
 
-use mavlink_frame::Header;
-use mavlink_messages::DataStream;
-use mavlink_messages::Dynamic;
-use mavlink_messages::Failures;
-use mavlink_messages::Message;
-use mavlink_messages::Read;
-use mavlink_messages::Static;
-use mavlink_messages::Status;
-use mavlink_messages::Traffic;
-use output_writing::OstrogoszWritten;
+use mavlink_frame::Kind;
+use mavlink_frame::Lookup;
 ghost use mathlib.Core.Path.{_≡_};
-ghost use Rattle.mavlink_messages.specs.Messages.{readDue};
-ghost use Rattle.c_mavlink.specs.Writer.{WritesMavlinkForC};
-ghost use Rattle.c_mavlink.specs.BlankMessages.{noDataStream, noStatic, noDynamic, noStatus, noTraffic};
-ghost use Rattle.c_mavlink.specs.Read.{noMavlinkMessage, framed, mavlinkNumbers, readNumbers};
+ghost use Prim.Native.Nat.{_≤_};
+ghost use lib.ListN.{length};
+ghost use Rattle.mavlink_frame.specs.Reader.{foundOf};
+ghost use Rattle.mavlink_messages.specs.Failures.{failuresIn};
+ghost use Rattle.c_mavlink.specs.Ids.{refusalBeforeCheck, idNumbers, mavlinkIdDue};
+ghost use Rattle.c_mavlink.specs.Failures.{failureNumbers};
 
-// What stands at the start of an input, in numbers.
+// The refusals' numbers as C has them.
+const SHORT: u32 = refusals::MAVLINK_SHORT as u32;
+
+const START: u32 = refusals::MAVLINK_START as u32;
+
+const UNKNOWN_ID: u32 = refusals::MAVLINK_UNKNOWN_ID as u32;
+
+const LENGTH: u32 = refusals::MAVLINK_LENGTH as u32;
+
+const FIELD: u32 = refusals::MAVLINK_FIELD as u32;
+
+// What kind of frame stands at the start of an input.
 #[repr(C)]
-pub struct OstrogoszMavlinkMessage {
-    // 0, or a refusal's number: 20 to 25. On a refusal all else is 0.
+pub struct OstrogoszMavlinkId {
+    // 0, or a refusal's number: 20 to 23. On a refusal all else is 0.
     pub refusal: u32,
     // 66, 201, 202, 203 or 246.
     pub id: u32,
     // How many octets the frame has.
     pub used: usize,
-    pub header: Header,
-    // How many of the failure bits 1 to 4 of a status are set, and the lowest of them; 0 where none is.
-    pub failures: u32,
-    pub lowest_failure: u32,
-    // The one that `id` names; the others are all 0.
-    pub data_stream: DataStream,
-    pub static_data: Static,
-    pub dynamic: Dynamic,
-    pub status: Status,
-    pub traffic: Traffic,
 }
 
-// Every number 0.
-fn blank() -> OstrogoszMavlinkMessage
-    ensures { λ r. ⌜ r ≡ noMavlinkMessage ⌝ }
+// The failures that a status reports.
+#[repr(C)]
+pub struct OstrogoszMavlinkFailures {
+    // How many of the failure bits 1 to 4 are set.
+    pub count: u32,
+    // The lowest of them; 0 where none is.
+    pub lowest: u32,
+}
+
+fn refused(refusal: u32) -> OstrogoszMavlinkId
+    ensures { λ r. ⌜ r ≡ record { refusal = refusal; id = 0; used = 0 } ⌝ }
 {
-    OstrogoszMavlinkMessage {
-        refusal: 0,
+    OstrogoszMavlinkId {
+        refusal,
         id: 0,
         used: 0,
-        header: blank_messages::header(),
-        failures: 0,
-        lowest_failure: 0,
-        data_stream: blank_messages::data_stream(),
-        static_data: blank_messages::static_data(),
-        dynamic: blank_messages::dynamic(),
-        status: blank_messages::status(),
-        traffic: blank_messages::traffic(),
     }
 }
 
-// All but the message.
-fn framed(header: Header, used: usize, failures: Failures) -> OstrogoszMavlinkMessage
-    ensures { λ r. ⌜ r ≡ framed header used failures 0 noDataStream noStatic noDynamic noStatus noTraffic ⌝ }
+// The tests of a frame of a kind, of which six octets are there, up to the check.
+fn id_of(kind: Kind, input: &[u8]) -> OstrogoszMavlinkId
+    requires { ⌜ 6 ≤ length (now input) ⌝ }
+    ensures { λ r. ⌜ r ≡ idNumbers (refusalBeforeCheck (foundOf kind (now (input .entry)))) (now (input .entry)) ⌝ }
 {
-    let lowest = failures.lowest;
-    let mut numbers = blank();
-    numbers.used = used;
-    numbers.header = header;
-    numbers.failures = failures.count;
-    numbers.lowest_failure = blank_messages::lowest_number(lowest);
-    numbers
-}
-
-fn message_numbers(
-    header: Header,
-    used: usize,
-    message: Message,
-    failures: Failures,
-) -> OstrogoszMavlinkMessage
-    ensures { λ r. ⌜ r ≡ mavlinkNumbers header used message failures ⌝ }
-{
-    let mut numbers = framed(header, used, failures);
-    match message {
-        Message::DataStream(data_stream) => {
-            numbers.id = 66;
-            numbers.data_stream = data_stream;
-            numbers
-        }
-        Message::Static(static_data) => {
-            numbers.id = 201;
-            numbers.static_data = static_data;
-            numbers
-        }
-        Message::Dynamic(dynamic) => {
-            numbers.id = 202;
-            numbers.dynamic = dynamic;
-            numbers
-        }
-        Message::Status(status) => {
-            numbers.id = 203;
-            numbers.status = status;
-            numbers
-        }
-        Message::Traffic(traffic) => {
-            numbers.id = 246;
-            numbers.traffic = traffic;
-            numbers
-        }
+    let length = input[1];
+    if length != kind.length {
+        return refused(LENGTH);
+    }
+    let used = length as usize + 8;
+    if input.len() < used {
+        return refused(SHORT);
+    }
+    OstrogoszMavlinkId {
+        refusal: 0,
+        id: input[5] as u32,
+        used,
     }
 }
 
-fn refusal_number(number: u8) -> OstrogoszMavlinkMessage
-    ensures { λ r. ⌜ r ≡ readNumbers (Read.Refused number) ⌝ }
-{
-    let mut numbers = blank();
-    numbers.refusal = number as u32;
-    numbers
-}
-
-// Reads the message in the frame at the start of input. Octets behind the frame are left.
+// The message ID of the frame at the start of input, and how many octets the frame has. Neither its check nor its fields are
+// looked at.
 #[no_mangle]
-pub extern "C" fn ostrogosz_mavlink_read(input: &[u8]) -> OstrogoszMavlinkMessage
-    ensures { λ r. ⌜ r ≡ readNumbers (readDue (now (input .entry))) ⌝ }
+pub extern "C" fn ostrogosz_mavlink_read_id(input: &[u8]) -> OstrogoszMavlinkId
+    ensures { λ r. ⌜ r ≡ mavlinkIdDue (now (input .entry)) ⌝ }
 {
-    match mavlink_messages::read_message(input) {
-        Read::Message(header, used, message, failures) => message_numbers(
-            header,
-            used,
-            message,
-            failures,
-        ),
-        Read::Refused(number) => refusal_number(number),
+    let n = input.len();
+    if n == 0 {
+        return refused(SHORT);
+    }
+    let first = input[0];
+    if first != 0xFE {
+        return refused(START);
+    }
+    if n < 6 {
+        return refused(SHORT);
+    }
+    match mavlink_frame::kind_of(input[5]) {
+        Lookup::Known(kind) => id_of(kind, input),
+        Lookup::Unknown => refused(UNKNOWN_ID),
     }
 }
 
-// Writes the frame of a message at the start of output. On a refusal nothing is written.
-fn write(message: Message, header: Header, output: &mut [u8]) -> OstrogoszWritten
-    ensures { λ r. ⌜ WritesMavlinkForC message header (now (output .entry)) r (now (output .exit)) ⌝ }
-{
-    output_writing::in_numbers(mavlink_messages::write_message(message, header, output))
-}
-
+// The failure bits of a status.
 #[no_mangle]
-pub extern "C" fn ostrogosz_mavlink_write_data_stream(
-    data_stream: DataStream,
-    header: Header,
-    output: &mut [u8],
-) -> OstrogoszWritten
-    ensures { λ r. ⌜ WritesMavlinkForC (Message.DataStream data_stream) header (now (output .entry)) r (now (output .exit)) ⌝ }
+pub extern "C" fn ostrogosz_mavlink_count_failures(status: u8) -> OstrogoszMavlinkFailures
+    ensures { λ r. ⌜ r ≡ failureNumbers (failuresIn status) ⌝ }
 {
-    write(Message::DataStream(data_stream), header, output)
-}
-
-#[no_mangle]
-pub extern "C" fn ostrogosz_mavlink_write_static(
-    static_data: Static,
-    header: Header,
-    output: &mut [u8],
-) -> OstrogoszWritten
-    ensures { λ r. ⌜ WritesMavlinkForC (Message.Static static_data) header (now (output .entry)) r (now (output .exit)) ⌝ }
-{
-    write(Message::Static(static_data), header, output)
-}
-
-#[no_mangle]
-pub extern "C" fn ostrogosz_mavlink_write_dynamic(
-    dynamic: Dynamic,
-    header: Header,
-    output: &mut [u8],
-) -> OstrogoszWritten
-    ensures { λ r. ⌜ WritesMavlinkForC (Message.Dynamic dynamic) header (now (output .entry)) r (now (output .exit)) ⌝ }
-{
-    write(Message::Dynamic(dynamic), header, output)
-}
-
-#[no_mangle]
-pub extern "C" fn ostrogosz_mavlink_write_status(
-    status: Status,
-    header: Header,
-    output: &mut [u8],
-) -> OstrogoszWritten
-    ensures { λ r. ⌜ WritesMavlinkForC (Message.Status status) header (now (output .entry)) r (now (output .exit)) ⌝ }
-{
-    write(Message::Status(status), header, output)
-}
-
-#[no_mangle]
-pub extern "C" fn ostrogosz_mavlink_write_traffic(
-    traffic: Traffic,
-    header: Header,
-    output: &mut [u8],
-) -> OstrogoszWritten
-    ensures { λ r. ⌜ WritesMavlinkForC (Message.Traffic traffic) header (now (output .entry)) r (now (output .exit)) ⌝ }
-{
-    write(Message::Traffic(traffic), header, output)
+    OstrogoszMavlinkFailures {
+        count: mavlink_messages::failure_bits::count_failures(status),
+        lowest: mavlink_messages::failure_bits::lowest_failure(status),
+    }
 }

@@ -2,13 +2,11 @@
 use output_writing::OstrogoszWritten;
 ghost use mathlib.Core.Path.{_≡_};
 ghost use Rattle.crc_gdl90.specs.Check.{frameCheck};
-ghost use Rattle.ucp_frame.specs.Frame.{frame};
-ghost use Rattle.ucp_writer.specs.Room.{frameDue};
-ghost use Rattle.output_writing.specs.Writing.{WritingNumbers};
+ghost use Rattle.c_ucp_frames.specs.Frames.{WritesFrameNumbers};
 
 // The frame check sequence of a body of any length.
 #[no_mangle]
-pub extern "C" fn ostrogosz_frame_check(body: &[u8]) -> u16
+pub extern "C" fn ostrogosz_ucp_frame_check(body: &[u8]) -> u16
     ensures { λ r. ⌜ r ≡ frameCheck (now (body .entry)) ⌝ }
 {
     crc_gdl90::frame_check(body)
@@ -16,8 +14,8 @@ pub extern "C" fn ostrogosz_frame_check(body: &[u8]) -> u16
 
 // Writes the frame of body at the start of output. Refusals: 7, then 8. On a refusal nothing is written.
 #[no_mangle]
-pub extern "C" fn ostrogosz_write_frame(body: &[u8], output: &mut [u8]) -> OstrogoszWritten
-    ensures { λ r. ⌜ WritingNumbers (frameDue (now (body .entry)) (now (output .entry))) (frame (now (body .entry))) (now (output .entry)) r (now (output .exit)) ⌝ }
+pub extern "C" fn ostrogosz_ucp_write_frame(body: &[u8], output: &mut [u8]) -> OstrogoszWritten
+    ensures { λ r. ⌜ WritesFrameNumbers (now (body .entry)) (now (output .entry)) r (now (output .exit)) ⌝ }
 {
     output_writing::in_numbers(ucp_writer::write_frame(body, output))
 }

@@ -1,22 +1,9 @@
 -- What raw numbers mean, as numbers for C. Assumes nothing.
-use lib.IntN.{ℤ, pos}
-use Rattle.ucp_meanings.specs.declared.Altitude.{Altitude}
-use Rattle.ucp_meanings.specs.declared.Altitude.the-variants as altitude
-use Rattle.ucp_meanings.specs.declared.Rate.{Rate}
-use Rattle.ucp_meanings.specs.declared.Rate.the-variants as rate
+use lib.IntN.{pos}
+use Rattle.ucp_meanings.specs.Meanings.{Meaning, noData, value}
 use Rattle.c_ucp_meanings.specs.declared.OstrogoszMeasure.{OstrogoszMeasure}
 
-abbrev pub measured : ℤ → OstrogoszMeasure
-measured value = record { known = 1; value = value }
-
--- no data has the value 0
-abbrev pub unknown : OstrogoszMeasure
-unknown = record { known = 0; value = pos 0 }
-
-abbrev pub inFeet : Altitude → OstrogoszMeasure
-inFeet altitude.NoData = unknown
-inFeet (altitude.Feet feet) = measured feet
-
-abbrev pub inFeetPerMinute : Rate → OstrogoszMeasure
-inFeetPerMinute rate.NoData = unknown
-inFeetPerMinute (rate.FeetPerMinute feet) = measured feet
+-- known is 1 beside a value; no data has the value 0
+abbrev pub measureOf : Meaning → OstrogoszMeasure
+measureOf noData = record { known = 0; value = pos 0 }
+measureOf (value number) = record { known = 1; value = number }

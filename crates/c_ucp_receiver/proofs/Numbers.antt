@@ -20,7 +20,12 @@ phase-back Escape = refl
 phase-back BadEscape = refl
 phase-back TooLong = refl
 
-answer-back : (a : Answer) → answerIn (answerKind a) (answerValue a) ≡ a
+pub record-back : (receiver : Record) → recordIn (recordNumbers receiver) ≡ receiver
+record-back receiver =
+    ap (λ (p : Phase). record { rest = record { phase = p; stored = receiver .rest .stored }; counts = receiver .counts })
+    (phase-back (receiver .rest .phase))
+
+pub answer-back : (a : Answer) → answerIn (answerKind a) (answerValue a) ≡ a
 answer-back Nothing = refl
 answer-back (Delivered octets) = refl
 answer-back (Refused number) = refl
@@ -28,9 +33,7 @@ answer-back (Refused number) = refl
 module _ (line : List ℕ) (kind value : ℕ) (receiver : Record) (answer : Answer)
     (l : line ≡ recordNumbers receiver) (k : kind ≡ answerKind answer) (v : value ≡ answerValue answer) where
   record-is : recordIn line ≡ receiver
-  record-is =
-      ap recordIn l
-      ∙ ap (λ (p : Phase). record { rest = record { phase = p; stored = receiver .rest .stored }; counts = receiver .counts }) (phase-back (receiver .rest .phase))
+  record-is = ap recordIn l ∙ record-back receiver
 
   answer-is : answerIn kind value ≡ answer
   answer-is = ap (λ (n : ℕ). answerIn n value) k ∙ ap (answerIn (answerKind answer)) v ∙ answer-back answer

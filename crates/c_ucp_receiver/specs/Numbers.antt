@@ -14,7 +14,7 @@ use Rattle.ucp_receiver.specs.declared.Answer.{Answer}
 use Rattle.ucp_receiver.specs.declared.Answer.the-variants.{Nothing, Delivered, Refused}
 use Rattle.ucp_receiver.specs.declared.Received.{Received}
 use Rattle.ucp_receiver.specs.declared.Taken.{Taken}
-use Rattle.ucp_receiver.specs.Octet.{Receives}
+use Rattle.ucp_receiver.specs.Octet.{freshRecord, noOctets, Receives}
 use Rattle.ucp_receiver.specs.Slice.{Takes}
 
 -- ---- a phase: 0 hunting, 1 reading, 2 escape, 3 bad escape, 4 and every other number too long
@@ -96,3 +96,7 @@ pub record TakesNumbers (store line octets output : List ℕ) (kind value taken 
   pub took : Takes (recordIn line) store octets output
       (record { receiver = recordIn lineAfter; answer = answerIn kind value; taken = taken }) storeAfter outputThen
   pub written : OwnNumbers lineAfter kind value
+
+-- a fresh receiver: the store and the line as at return
+abbrev pub StartsNumbers : List ℕ → List ℕ → Type 0
+StartsNumbers storeAfter lineAfter = (storeAfter ≡ noOctets) × (lineAfter ≡ recordNumbers freshRecord)

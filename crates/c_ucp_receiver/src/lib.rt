@@ -12,8 +12,7 @@ ghost use mathlib.Core.Path.{_≡_};
 ghost use mathlib.Core.List.{List};
 ghost use Prim.Native.Nat.{ℕ, _<_, _^_};
 ghost use lib.ListN.{length, getD};
-ghost use Rattle.ucp_receiver.specs.Octet.{freshRecord, noOctets};
-ghost use Rattle.c_ucp_receiver.specs.Numbers.{phaseOf, phaseNumber, restIn, countsIn, recordIn, recordNumbers, answerKind, answerValue, ReceivesFitting, TakesFitting, ReceivesNumbers, TakesNumbers};
+ghost use Rattle.c_ucp_receiver.specs.Numbers.{phaseOf, phaseNumber, restIn, countsIn, recordIn, recordNumbers, answerKind, answerValue, ReceivesFitting, TakesFitting, ReceivesNumbers, TakesNumbers, StartsNumbers};
 
 // The record besides the store, as C has it: phase, octets stored, and the five counts.
 pub type RecordNumbers = [u32; 7];
@@ -163,8 +162,8 @@ fn value_of(answer: Answer) -> u32
 
 // A fresh receiver.
 #[no_mangle]
-pub extern "C" fn ostrogosz_receiver_start(store: &mut Store, line: &mut RecordNumbers)
-    ensures { λ r. ⌜ (now (store .exit) ≡ noOctets) × (now (line .exit) ≡ recordNumbers freshRecord) ⌝ }
+pub extern "C" fn ostrogosz_ucp_start(store: &mut Store, line: &mut RecordNumbers)
+    ensures { λ r. ⌜ StartsNumbers (now (store .exit)) (now (line .exit)) ⌝ }
 {
     *store = [0; ucp_receiver::STORE_OCTETS];
     put_line(line, ucp_receiver::octet::fresh_record());
@@ -236,7 +235,7 @@ fn receive_other(
 
 // One octet of the line. The flag is apart, so that a call with any other octet touches little.
 #[no_mangle]
-pub extern "C" fn ostrogosz_receive(
+pub extern "C" fn ostrogosz_ucp_receive(
     store: &mut Store,
     line: &mut RecordNumbers,
     octet: u8,
@@ -271,7 +270,7 @@ fn taken_by(store: &mut Store, line: &RecordNumbers, octets: &[u8], output: &mut
 
 // Octets of the line up to and including the one that brings the next answer.
 #[no_mangle]
-pub extern "C" fn ostrogosz_receive_slice(
+pub extern "C" fn ostrogosz_ucp_receive_slice(
     store: &mut Store,
     line: &mut RecordNumbers,
     octets: &[u8],

@@ -1,3 +1,4 @@
+pub mod Puts
 pub mod Words
 pub mod Numbers
 pub mod Bodies

@@ -7,11 +7,14 @@ use lib.Seq.{sets}
 use Rattle.field_layout.specs.Steps.{big16, big24, big32, little16, little32}
 use Rattle.field_signed.specs.Signed.{signed, complement}
 use Rattle.field_layout.specs.Layout.{textOctets, textAt}
-use Rattle.c_lent.specs.Steps.{twoOf, fourOf}
+use Rattle.c_lent.specs.Steps.{twoOf}
 
--- ---- two fields of 4 bits in a struct
+-- ---- numbers in a struct: two fields of 4 bits, and 32 bits
 abbrev pub halvesOf : ℕ → List ℕ
 halvesOf n = n / 16 ∷ n % 16 ∷ []
+
+abbrev pub fourOf : ℕ → List ℕ
+fourOf n = n % 16777216 % 65536 % 256 ∷ n % 16777216 % 65536 / 256 ∷ n % 16777216 / 65536 ∷ n / 16777216 ∷ []
 
 -- ---- a signed number of 24 bits as one of 32, and of 12 as one of 16
 abbrev pub wide24 : ℕ → ℕ

@@ -12,12 +12,13 @@ ghost use Rattle.field_signed.specs.Signed.{signed, complement, holds};
 ghost use Rattle.field_words.specs.Words.{octetsUp, eight};
 ghost use Rattle.field_format.specs.Format.{valueIn, bodyOf, fits};
 ghost use Rattle.ucp_kinds.specs.Report10.{reportFormat};
+ghost use Rattle.c_lent.specs.Steps.{twoOf};
 ghost use Rattle.c_lent.specs.Reads.{ReadsInto};
 ghost use Rattle.c_lent.specs.Writes.{WritesStructBody};
 ghost use Rattle.c_lent.specs.Sends.{SendsStruct};
 ghost use Rattle.c_lent.specs.Structs.{stored, held};
 ghost use Rattle.c_ucp_report.specs.Struct.{reportStruct};
-ghost use Rattle.c_ucp_report.specs.Steps.{halvesOf, leftStored, rightStored, othersStored, Small, leftOf, rightOf};
+ghost use Rattle.c_ucp_report.specs.Steps.{halvesOf, fourOf, leftStored, rightStored, othersStored, Small, leftOf, rightOf};
 
 // ---- reading
 
@@ -89,6 +90,26 @@ fn put_halves(message: &mut [u8], at: usize, octet: u8)
     message[at + 1] = octet % 16;
 }
 
+// A number of 16 bits, and one of 32, least significant octet first: compiled, one store.
+fn put_16(message: &mut [u8], at: usize, number: u16)
+    requires { ⌜ at + 2 ≤ length (now message) ⌝ }
+    ensures { λ r. ⌜ now (message .exit) ≡ sets (now (message .entry)) at (twoOf number) ⌝ }
+{
+    message[at] = (number % 256) as u8;
+    message[at + 1] = (number / 256) as u8;
+}
+
+fn put_32(message: &mut [u8], at: usize, number: u32)
+    requires { ⌜ at + 4 ≤ length (now message) ⌝ }
+    ensures { λ r. ⌜ now (message .exit) ≡ sets (now (message .entry)) at (fourOf number) ⌝ }
+{
+    let low = number % 16777216 % 65536;
+    message[at] = (low % 256) as u8;
+    message[at + 1] = (low / 256) as u8;
+    message[at + 2] = (number % 16777216 / 65536) as u8;
+    message[at + 3] = (number / 16777216) as u8;
+}
+
 // What octets 1 to 7 of a body hold, 8 to 15, and the others.
 fn put_left(body: &[u8], message: &mut [u8])
     requires { ⌜ (length (now body) ≡ 28) × (length (now message) ≡ 40) ⌝ }
@@ -97,8 +118,8 @@ fn put_left(body: &[u8], message: &mut [u8])
     let left = left(body);
     let latitude = extended_24(left.latitude);
     put_halves(message, 0, field_layout::octet(body, 1));
-    c_lent::put_32(message, 4, left.address);
-    c_lent::put_32(message, 8, latitude);
+    put_32(message, 4, left.address);
+    put_32(message, 8, latitude);
 }
 
 fn put_right(body: &[u8], message: &mut [u8])
@@ -107,11 +128,11 @@ fn put_right(body: &[u8], message: &mut [u8])
 {
     let right = right(body);
     let longitude = extended_24(right.longitude);
-    c_lent::put_32(message, 12, longitude);
-    c_lent::put_16(message, 16, right.height / 16);
+    put_32(message, 12, longitude);
+    put_16(message, 16, right.height / 16);
     message[18] = (right.height % 16) as u8;
     put_halves(message, 19, right.integrity);
-    c_lent::put_16(message, 22, right.speed);
+    put_16(message, 22, right.speed);
 }
 
 fn put_others(body: &[u8], message: &mut [u8])
@@ -120,7 +141,7 @@ fn put_others(body: &[u8], message: &mut [u8])
 {
     let motion = field_layout::big_32(body, 14);
     let rate = extended_12(motion % 1048576 / 256);
-    c_lent::put_16(message, 24, rate);
+    put_16(message, 24, rate);
     message[26] = body[17];
     message[27] = body[18];
     // The callsign goes from one place to the other at once, so that no part of it waits on the stack.

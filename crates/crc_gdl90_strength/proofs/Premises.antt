@@ -17,7 +17,7 @@ use Rattle.crc_gdl90_strength.proofs.Shape.{weight}
 use Rattle.crc_gdl90_strength.proofs.Caught.{difference, difference-at, count}
 
 -- ---- octets, by computation
-abbrev small : List ℕ → Bool
+abbrev pub small : List ℕ → Bool
 small [] = true
 small (x ∷ xs) = ltb x 256 && small xs
 
@@ -25,13 +25,13 @@ both : (a b : Bool) → (a && b) ≡ true → (a ≡ true) × (b ≡ true)
 both true b h = (refl, h)
 both false b h = absurd (false≢true h)
 
-octets : (xs : List ℕ) → small xs ≡ true → Octets xs
+pub octets : (xs : List ℕ) → small xs ≡ true → Octets xs
 octets [] h i = omega arith
 octets (x ∷ xs) h zero = ltb-true x 256 (both (ltb x 256) (small xs) h .0)
 octets (x ∷ xs) h (suc i) = octets xs (both (ltb x 256) (small xs) h .1) i
 
 -- two bodies that have different octets at a place
-bodies : (a b : List ℕ) (i : ℕ) → small a ≡ true → small b ≡ true → length a ≡ length b → getD a i 0 < getD b i 0 → TwoBodies a b
+pub bodies : (a b : List ℕ) (i : ℕ) → small a ≡ true → small b ≡ true → length a ≡ length b → getD a i 0 < getD b i 0 → TwoBodies a b
 bodies a b i ha hb l h =
     record {
       octetsA = octets a ha;

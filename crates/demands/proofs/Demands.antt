@@ -3,7 +3,7 @@ use mathlib.Core.Path.{_≡_, refl, sym, ap, subst, _∙_}
 use mathlib.Core.List.{List}
 use Prim.Native.Nat.{ℕ, _≤_, _<_}
 use native.Mathlib.Omega.{arith}
-use mathlib.Core.Logic.{_↔_}
+use mathlib.Core.Logic.{_↔_, _⊎_}
 use lib.Bits.{bitXor}
 use lib.ListN.{length}
 use Rattle.crc_polynomial.specs.Polynomial.{bitsOfOctets, polynomial, quotient, timesGenerator, degree16}
@@ -13,7 +13,13 @@ use Rattle.crc_x25.proofs.CrcCode.{by-code}
 use Rattle.ucp_frame.specs.Frame.{frame}
 use Rattle.ucp_frame.specs.Stretch.{Verdict, silent, refused, delivered}
 use Rattle.ucp_frame.proofs.Frame.{frame-length-longest}
-use Rattle.output_writing.specs.Writing.{outputAfter}
+use Rattle.output_writing.specs.declared.OstrogoszWritten.{OstrogoszWritten}
+use Rattle.output_writing.specs.Writing as writer
+use Rattle.output_writing.specs.Writing.{WriterAnswer, outputAfter, WritingNumbers}
+use Rattle.ucp_writer.specs.Room.{frameDue}
+use Rattle.refusals.specs.Numbers as because
+use Rattle.ucp_receiver.specs.declared.Answer.the-variants.{Nothing}
+use Rattle.c_ucp_receiver.specs.Numbers.{restIn, answerIn, answerValue}
 use Rattle.thm_mavlink_messages.proofs.RoundTrips as mavlink-trips
 use Rattle.thm_c_messages.proofs.EachKind.{lent-round-trips, lent-sent-is-delivered}
 use Rattle.thm_ucp_messages.proofs.Delivery.{sent-is-delivered, delivered-writes-back}
@@ -29,13 +35,19 @@ use Rattle.ucp_receiver.specs.Answers as receiver-answers
 use Rattle.ucp_receiver.specs.Answers.{nothing, refusal, answerFor}
 use Rattle.ucp_receiver.specs.Octet.{verdictDue}
 use Rattle.crc_gdl90_strength.proofs.Caught.{strength}
+use Rattle.crc_gdl90_strength.proofs.Premises.{premises-met}
+use Rattle.thm_ucp_examples.proofs.LinePremises.{ends-in-met, slice-line-met, writer-call-met}
 use Rattle.thm_ucp_writer.proofs.Calls.{writer-lists}
 use Rattle.thm_ucp_receiver.specs.Line.{Line}
-use Rattle.thm_ucp_receiver.proofs.Promises.{answers, counts, every-octet-counted, store-clean, flag-clears, later-only}
+use Rattle.thm_ucp_receiver.proofs.Promises.{answers, counts, every-octet-counted, store-clean, store-by-history, hunting-stores-nothing, flag-clears, later-only}
+use Rattle.thm_ucp_receiver.proofs.Lines.{every-line}
 use Rattle.thm_ucp_receiver.proofs.Slice.{line-of-slices, slice-is-call}
 use Rattle.thm_ucp_receiver.proofs.Stretch.{stretch-is-answered}
 use Rattle.thm_ucp_receiver.proofs.Frames.{put-out-is-frame, frame-is-put-out, wrong-check-refused}
-use Rattle.demands.specs.Demands.{TableNumbers, Demand1, Demand2, Demand3, ReceiverLists}
+use Rattle.thm_c_ucp.proofs.Receiver.{linked-lines, linked-answers, linked-counts, linked-store, linked-flag-clears, linked-later-only, linked-put-out-is-frame, linked-frame-is-put-out, linked-receiver-lists}
+use Rattle.thm_c_ucp.proofs.Slices.{linked-slice-lines, linked-slice-is-call}
+use Rattle.thm_c_ucp.proofs.Writer.{linked-writer, linked-writer-lists}
+use Rattle.demands.specs.Demands.{TableNumbers, Demand1, Demand2, Demand3, ReceiverLists, PremisesTied}
 use Rattle.demands.proofs.Refusals.{Tabled, quiet, numbered, whole, tabled}
 
 -- an answer that is the one due is a refusal when that is
@@ -63,6 +75,15 @@ answer-nothing : (v : Verdict) (output : List ℕ) → answerFor v ≡ nothing �
 answer-nothing silent output e = refl
 answer-nothing (refused n) output e = let z : _≡_ {A = ℕ} 0 1 = cc in absurd (omega arith)
 answer-nothing (delivered octets) output e = let z : _≡_ {A = ℕ} 0 1 = cc in absurd (omega arith)
+
+-- ---- one call of the linked writer
+
+written-refused : (due : WriterAnswer) (body output after : List ℕ) (given : OstrogoszWritten) → due ≡ frameDue body output
+    → WritingNumbers due (frame body) output given after → (given .refusal ≡ 0 → ⊥)
+    → ((given .refusal ≡ because.bodyLength) ⊎ (given .refusal ≡ because.outputLength)) × (given .length ≡ 0) × (after ≡ output)
+written-refused (writer.refused number) body output after given e w some =
+    rw (w .answers) (refused-so body output number e, refl, w .leaves)
+written-refused (writer.wrote octets) body output after given e w some = absurd (some (ap (λ (g : OstrogoszWritten). g .refusal) (w .answers)))
 
 table-numbers : TableNumbers
 table-numbers =
@@ -103,8 +124,29 @@ demand1 =
       receiverIsSilent = λ receiver store octet output given storeAfter outputThen m e.
           m .puts ∙ answer-nothing (verdictDue (record { rest = receiver .rest; store = store }) octet (length output)) output (sym (m .answers) ∙ e);
       flagClears = flag-clears;
+      storeByHistory = store-by-history;
+      huntingStoresNothing = hunting-stores-nothing;
       storeClean = store-clean;
       laterOnly = later-only;
+      linkedReceiverIsLine = linked-lines;
+      linkedSlicesAreLine = linked-slice-lines;
+      linkedWriterIsWriter = linked-writer;
+      linkedReceiverRefuses = λ store line octet output kind value storeAfter lineAfter outputThen m e.
+          let told : receiver-answers.receiverAnswer (answerIn kind value) ≡ refusal value =
+          ap (λ (n : ℕ). receiver-answers.receiverAnswer (answerIn n value)) e in
+          let p = answer-refusal _ value output (tabled _ octet (length output)) (sym (m .received .answers) ∙ told) in
+          (p .0, p .1, m .received .puts ∙ p .2);
+      linkedReceiverIsSilent = λ store line octet output kind value storeAfter lineAfter outputThen m e.
+          let told : answerIn kind value ≡ Nothing = ap (λ (n : ℕ). answerIn n value) e in (
+            m .written .value ∙ ap answerValue told,
+            m .received .puts
+                ∙ answer-nothing (verdictDue (record { rest = restIn line; store = store }) octet (length output)) output
+                (sym (m .received .answers) ∙ ap receiver-answers.receiverAnswer told),
+          );
+      linkedWriterRefuses = λ body output after given w some. written-refused (frameDue body output) body output after given refl w some;
+      linkedFlagClears = linked-flag-clears;
+      linkedStoreByHistory = linked-store;
+      linkedLaterOnly = linked-later-only;
     }
 
 pub demand2 : Demand2
@@ -124,6 +166,11 @@ demand2 =
       everyOctetCounted = every-octet-counted;
       slicesAreCalls = line-of-slices;
       sliceEndsAsCall = slice-is-call;
+      linkedAnswersByHistory = linked-answers;
+      linkedDeliveredIsFrame = linked-put-out-is-frame;
+      linkedFrameIsDelivered = linked-frame-is-put-out;
+      linkedCountsByHistory = linked-counts;
+      linkedSliceEndsAsCall = linked-slice-is-call;
       messageReadsBack = message-read.written-reads-back;
       messageWritesBack = message-write.accepted-writes-back;
       uplinkReadsBack = message-read.uplink-reads-back;
@@ -142,4 +189,21 @@ receiver-lists calls l = (
 )
 
 pub demand3 : Demand3
-demand3 = record { check = strength; receiver = receiver-lists; writer = writer-lists }
+demand3 =
+    record {
+      check = strength;
+      receiver = receiver-lists;
+      writer = writer-lists;
+      linkedReceiver = linked-receiver-lists;
+      linkedWriter = linked-writer-lists;
+    }
+
+pub premises-tied : PremisesTied
+premises-tied =
+    record {
+      bodies = premises-met;
+      lines = every-line;
+      endsIn = ends-in-met;
+      sliceLine = slice-line-met;
+      writerCalls = writer-call-met;
+    }

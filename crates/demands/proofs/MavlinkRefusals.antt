@@ -11,40 +11,37 @@ use lib.ListN.{length, getD}
 use Rattle.field_format.specs.Format.{valueIn}
 use Rattle.mavlink_frame.specs.declared.Kind.{Kind}
 use Rattle.mavlink_frame.specs.declared.Header.{Header}
-use Rattle.mavlink_frame.specs.declared.Lookup.{Lookup}
-use Rattle.mavlink_frame.specs.declared.Lookup.the-variants.{Known, Unknown}
-use Rattle.mavlink_frame.specs.declared.Found.the-variants as found-as
-use Rattle.mavlink_frame.specs.Frame.{start, mavlinkKind}
+use Rattle.mavlink_frame.specs.Reader as found-as
+use Rattle.mavlink_frame.specs.Frame.{start, KindAnswer, known, unknown, mavlinkKind}
 use Rattle.mavlink_frame.specs.Reader.{headerAt, payloadAt, checkAt, checkDue, foundOf, foundBy, found}
 use Rattle.mavlink_messages.specs.declared.Message.{Message}
 use Rattle.mavlink_messages.specs.declared.Message.the-variants as kinds
-use Rattle.mavlink_messages.specs.declared.Read.{Read}
-use Rattle.mavlink_messages.specs.declared.Read.the-variants as read-as
+use Rattle.mavlink_messages.specs.Messages as read-as
 use Rattle.mavlink_messages.specs.DataStream66.{dataStreamFormat}
 use Rattle.mavlink_messages.specs.Static201.{staticFormat}
 use Rattle.mavlink_messages.specs.Dynamic202.{dynamicFormat}
 use Rattle.mavlink_messages.specs.Status203.{statusFormat}
 use Rattle.mavlink_messages.specs.Traffic246.{trafficFormat}
-use Rattle.mavlink_messages.specs.Messages.{judgedBy, payloadRead, readBy, readDue}
+use Rattle.mavlink_messages.specs.Messages.{MavlinkAnswer, judgedBy, payloadRead, readBy, readDue}
 use Rattle.mavlink_messages.specs.Refusals.{HasHeader, kindNamed, OfKind, OfNoKind, HasLength, HasFrame, HasRightCheck, payloadInRange, CutShort, OutsideRange, MavlinkShort, MavlinkWrongStart, MavlinkUnknownId, MavlinkWrongLength, MavlinkWrongCheck, MavlinkOutsideRange}
 
 -- ---- a payload: 25, and no other
-abbrev Judged : Read → Bool → Type 0
-Judged r right = (n : ℕ) → (r ≡ read-as.Refused n) ↔ ((n ≡ 25) × (right ≡ false))
+abbrev Judged : MavlinkAnswer → Bool → Type 0
+Judged r right = (n : ℕ) → (r ≡ read-as.refused n) ↔ ((n ≡ 25) × (right ≡ false))
 
 judged-so : (right : Bool) (h : Header) (used : ℕ) (m : Message) → Judged (judgedBy right h used m) right
 judged-so true h used m n = (
   (λ e. let z : _≡_ {A = ℕ} 0 1 = cc in absurd (omega arith)),
   λ t. let f = t .1 in let z : _≡_ {A = ℕ} 0 1 = cc in absurd (omega arith),
 )
-judged-so false h used m n = ((λ e. let z : n ≡ 25 = cc in (z, refl)), λ t. ap read-as.Refused (sym (t .0)))
+judged-so false h used m n = ((λ e. let z : n ≡ 25 = cc in (z, refl)), λ t. ap read-as.refused (sym (t .0)))
 
 -- of a kind of the table
-abbrev Tabled : Lookup → Type 0
-Tabled (Known k) = (h : Header) (used : ℕ) (p : List ℕ) → Judged (payloadRead (k .id) h used p) (payloadInRange (k .id) p)
-Tabled Unknown = Unit {0}
+abbrev Tabled : KindAnswer → Type 0
+Tabled (known k) = (h : Header) (used : ℕ) (p : List ℕ) → Judged (payloadRead (k .id) h used p) (payloadInRange (k .id) p)
+Tabled unknown = Unit {0}
 
-either : (t : Bool) (x y : Lookup) → Tabled x → Tabled y → Tabled (cond t x y)
+either : (t : Bool) (x y : KindAnswer) → Tabled x → Tabled y → Tabled (cond t x y)
 either true x y p q = p
 either false x y p q = q
 
@@ -58,7 +55,7 @@ tabled id =
     (either (eqb id 246) _ _ (λ h used p. judged-so _ h used (kinds.Traffic (valueIn trafficFormat p))) tt))))
 
 -- ---- behind the header, by what the table has for the ID
-abbrev DueBy : Lookup → List ℕ → ℕ → Type 0
+abbrev DueBy : KindAnswer → List ℕ → ℕ → Type 0
 DueBy l s n =
     (n ≡ 20 → OfKind (CutShort s) l)
     × (n ≡ 21 → ⊥)
@@ -67,7 +64,7 @@ DueBy l s n =
     × (n ≡ 24 → OfKind (λ k. HasFrame s k × (HasRightCheck s k → ⊥)) l)
     × (n ≡ 25 → OfKind (λ k. HasFrame s k × HasRightCheck s k × OutsideRange s k) l)
 
-due-of : (k : Kind) (s : List ℕ) (n : ℕ) → Tabled (Known k) → readBy (foundOf k s) s ≡ read-as.Refused n → DueBy (Known k) s n
+due-of : (k : Kind) (s : List ℕ) (n : ℕ) → Tabled (known k) → readBy (foundOf k s) s ≡ read-as.refused n → DueBy (known k) s n
 unfolding foundOf
 due-of k s n t =
     go (eqb (getD s 1 0) (k .length)) refl (ltb (length s) (k .length + 8)) refl
@@ -75,9 +72,9 @@ due-of k s n t =
   where
     go : (a : Bool) → eqb (getD s 1 0) (k .length) ≡ a → (b : Bool) → ltb (length s) (k .length + 8) ≡ b
         → (c : Bool) → eqb (checkAt (k .length) s) (checkDue (k .length) (k .extra) s) ≡ c
-        → readBy (cond a (cond b (found-as.Refused 20) (cond c (found-as.Frame (k .id) (headerAt s) (k .length + 8)) (found-as.Refused 24))) (found-as.Refused 23)) s
-        ≡ read-as.Refused n
-        → DueBy (Known k) s n
+        → readBy (cond a (cond b (found-as.refused 20) (cond c (found-as.frame (k .id) (headerAt s) (k .length + 8)) (found-as.refused 24))) (found-as.refused 23)) s
+        ≡ read-as.refused n
+        → DueBy (known k) s n
     go false ea b eb c ec e =
         let z : n ≡ 23 = cc in
         (λ d. absurd (omega arith), λ d. omega arith, λ d. omega arith, λ d. eqb-false _ _ ea, λ d. absurd (omega arith), λ d. absurd (omega arith))
@@ -109,23 +106,23 @@ due-of k s n t =
           ),
         )
 
-due-by : (l : Lookup) (s : List ℕ) (n : ℕ) → Tabled l → readBy (foundBy l s) s ≡ read-as.Refused n → DueBy l s n
-due-by (Known k) s n t e = due-of k s n t e
-due-by Unknown s n t e =
+due-by : (l : KindAnswer) (s : List ℕ) (n : ℕ) → Tabled l → readBy (foundBy l s) s ≡ read-as.refused n → DueBy l s n
+due-by (known k) s n t e = due-of k s n t e
+due-by unknown s n t e =
     let z : n ≡ 22 = cc in
     (λ d. omega arith, λ d. omega arith, λ d. tt, λ d. omega arith, λ d. omega arith, λ d. omega arith)
 
 -- and the other way
 module _ (k : Kind) (s : List ℕ) where
-  of-20 : CutShort s k → foundOf k s ≡ found-as.Refused 20
+  of-20 : CutShort s k → foundOf k s ≡ found-as.refused 20
   unfolding foundOf
   of-20 c = rw (eq-eqb (getD s 1 0) (k .length) (c .0), lt-ltb (length s) (k .length + 8) (c .1))
 
-  of-23 : (HasLength s k → ⊥) → foundOf k s ≡ found-as.Refused 23
+  of-23 : (HasLength s k → ⊥) → foundOf k s ≡ found-as.refused 23
   unfolding foundOf
   of-23 c = rw (ne-eqb (getD s 1 0) (k .length) c)
 
-  of-24 : HasFrame s k → (HasRightCheck s k → ⊥) → foundOf k s ≡ found-as.Refused 24
+  of-24 : HasFrame s k → (HasRightCheck s k → ⊥) → foundOf k s ≡ found-as.refused 24
   unfolding foundOf
   of-24 f c =
       rw (
@@ -134,7 +131,7 @@ module _ (k : Kind) (s : List ℕ) where
         ne-eqb (checkAt (k .length) s) (checkDue (k .length) (k .extra) s) c,
       )
 
-  of-frame : HasFrame s k → HasRightCheck s k → foundOf k s ≡ found-as.Frame (k .id) (headerAt s) (k .length + 8)
+  of-frame : HasFrame s k → HasRightCheck s k → foundOf k s ≡ found-as.frame (k .id) (headerAt s) (k .length + 8)
   unfolding foundOf
   of-frame f c =
       rw (
@@ -143,30 +140,30 @@ module _ (k : Kind) (s : List ℕ) where
         eq-eqb (checkAt (k .length) s) (checkDue (k .length) (k .extra) s) c,
       )
 
-by-20 : (l : Lookup) (s : List ℕ) → OfKind (CutShort s) l → readBy (foundBy l s) s ≡ read-as.Refused 20
-by-20 (Known k) s c = ap (λ f. readBy f s) (of-20 k s c)
-by-20 Unknown s c = absurd c
+by-20 : (l : KindAnswer) (s : List ℕ) → OfKind (CutShort s) l → readBy (foundBy l s) s ≡ read-as.refused 20
+by-20 (known k) s c = ap (λ f. readBy f s) (of-20 k s c)
+by-20 unknown s c = absurd c
 
-by-22 : (l : Lookup) (s : List ℕ) → OfNoKind l → readBy (foundBy l s) s ≡ read-as.Refused 22
-by-22 (Known k) s c = absurd c
-by-22 Unknown s c = refl
+by-22 : (l : KindAnswer) (s : List ℕ) → OfNoKind l → readBy (foundBy l s) s ≡ read-as.refused 22
+by-22 (known k) s c = absurd c
+by-22 unknown s c = refl
 
-by-23 : (l : Lookup) (s : List ℕ) → OfKind (λ k. HasLength s k → ⊥) l → readBy (foundBy l s) s ≡ read-as.Refused 23
-by-23 (Known k) s c = ap (λ f. readBy f s) (of-23 k s c)
-by-23 Unknown s c = absurd c
+by-23 : (l : KindAnswer) (s : List ℕ) → OfKind (λ k. HasLength s k → ⊥) l → readBy (foundBy l s) s ≡ read-as.refused 23
+by-23 (known k) s c = ap (λ f. readBy f s) (of-23 k s c)
+by-23 unknown s c = absurd c
 
-by-24 : (l : Lookup) (s : List ℕ) → OfKind (λ k. HasFrame s k × (HasRightCheck s k → ⊥)) l → readBy (foundBy l s) s ≡ read-as.Refused 24
-by-24 (Known k) s c = ap (λ f. readBy f s) (of-24 k s (c .0) (c .1))
-by-24 Unknown s c = absurd c
+by-24 : (l : KindAnswer) (s : List ℕ) → OfKind (λ k. HasFrame s k × (HasRightCheck s k → ⊥)) l → readBy (foundBy l s) s ≡ read-as.refused 24
+by-24 (known k) s c = ap (λ f. readBy f s) (of-24 k s (c .0) (c .1))
+by-24 unknown s c = absurd c
 
-by-25 : (l : Lookup) (s : List ℕ) → Tabled l → OfKind (λ k. HasFrame s k × HasRightCheck s k × OutsideRange s k) l
-    → readBy (foundBy l s) s ≡ read-as.Refused 25
-by-25 (Known k) s t c =
+by-25 : (l : KindAnswer) (s : List ℕ) → Tabled l → OfKind (λ k. HasFrame s k × HasRightCheck s k × OutsideRange s k) l
+    → readBy (foundBy l s) s ≡ read-as.refused 25
+by-25 (known k) s t c =
     let size : k .length ≡ k .length + 8 - 8 = omega arith in
     ap (λ f. readBy f s) (of-frame k s (c .0) (c .1))
     ∙ t (headerAt s) (k .length + 8) (payloadAt (k .length + 8 - 8) s) 25 .1
     (refl, subst (λ (m : ℕ). payloadInRange (k .id) (payloadAt m s) ≡ false) size (c .2))
-by-25 Unknown s t c = absurd c
+by-25 unknown s t c = absurd c
 
 -- ---- the whole input
 abbrev Due : List ℕ → ℕ → Type 0
@@ -178,13 +175,13 @@ Due s n =
     × (n ≡ 24 → MavlinkWrongCheck s)
     × (n ≡ 25 → MavlinkOutsideRange s)
 
-due : (s : List ℕ) (n : ℕ) → readDue s ≡ read-as.Refused n → Due s n
+due : (s : List ℕ) (n : ℕ) → readDue s ≡ read-as.refused n → Due s n
 unfolding found
 due s n = go (eqb (length s) 0) refl (eqb (getD s 0 0) start) refl (ltb (length s) 6) refl
   where
     go : (a : Bool) → eqb (length s) 0 ≡ a → (b : Bool) → eqb (getD s 0 0) start ≡ b → (c : Bool) → ltb (length s) 6 ≡ c
-        → readBy (cond a (found-as.Refused 20) (cond b (cond c (found-as.Refused 20) (foundBy (mavlinkKind (getD s 5 0)) s)) (found-as.Refused 21))) s
-        ≡ read-as.Refused n
+        → readBy (cond a (found-as.refused 20) (cond b (cond c (found-as.refused 20) (foundBy (mavlinkKind (getD s 5 0)) s)) (found-as.refused 21))) s
+        ≡ read-as.refused n
         → Due s n
     go true ea b eb c ec e =
         let z : n ≡ 20 = cc in
@@ -208,10 +205,10 @@ headed s h =
     rw (ne-eqb (length s) 0 (λ e. omega (arith, h .1)), eq-eqb (getD s 0 0) start (h .0), le-ltb (length s) 6 (h .1))
 
 -- what is read behind a header
-read : (s : List ℕ) {r : Read} → HasHeader s → readBy (foundBy (kindNamed s) s) s ≡ r → readDue s ≡ r
+read : (s : List ℕ) {r : MavlinkAnswer} → HasHeader s → readBy (foundBy (kindNamed s) s) s ≡ r → readDue s ≡ r
 read s h e = ap (λ f. readBy f s) (headed s h) ∙ e
 
-short : (s : List ℕ) → MavlinkShort s → readDue s ≡ read-as.Refused 20
+short : (s : List ℕ) → MavlinkShort s → readDue s ≡ read-as.refused 20
 unfolding found
 short s (inl z) = rw (eq-eqb (length s) 0 z)
 short s (inr (inl c)) =
@@ -219,24 +216,24 @@ short s (inr (inl c)) =
 short s (inr (inr c)) = read s (c .0) (by-20 (kindNamed s) s (c .1))
 
 module _ (s : List ℕ) where
-  pub exactly-20 : (readDue s ≡ read-as.Refused 20) ↔ MavlinkShort s
+  pub exactly-20 : (readDue s ≡ read-as.refused 20) ↔ MavlinkShort s
   exactly-20 = (λ e. due s 20 e .0 refl, short s)
 
-  pub exactly-21 : (readDue s ≡ read-as.Refused 21) ↔ MavlinkWrongStart s
+  pub exactly-21 : (readDue s ≡ read-as.refused 21) ↔ MavlinkWrongStart s
   unfolding found
   exactly-21 = (
     λ e. due s 21 e .1 refl,
     λ c. rw (ne-eqb (length s) 0 (λ e. omega (arith, c .0)), ne-eqb (getD s 0 0) start (c .1)),
   )
 
-  pub exactly-22 : (readDue s ≡ read-as.Refused 22) ↔ MavlinkUnknownId s
+  pub exactly-22 : (readDue s ≡ read-as.refused 22) ↔ MavlinkUnknownId s
   exactly-22 = (λ e. due s 22 e .2 refl, λ c. read s (c .0) (by-22 (kindNamed s) s (c .1)))
 
-  pub exactly-23 : (readDue s ≡ read-as.Refused 23) ↔ MavlinkWrongLength s
+  pub exactly-23 : (readDue s ≡ read-as.refused 23) ↔ MavlinkWrongLength s
   exactly-23 = (λ e. due s 23 e .3 refl, λ c. read s (c .0) (by-23 (kindNamed s) s (c .1)))
 
-  pub exactly-24 : (readDue s ≡ read-as.Refused 24) ↔ MavlinkWrongCheck s
+  pub exactly-24 : (readDue s ≡ read-as.refused 24) ↔ MavlinkWrongCheck s
   exactly-24 = (λ e. due s 24 e .4 refl, λ c. read s (c .0) (by-24 (kindNamed s) s (c .1)))
 
-  pub exactly-25 : (readDue s ≡ read-as.Refused 25) ↔ MavlinkOutsideRange s
+  pub exactly-25 : (readDue s ≡ read-as.refused 25) ↔ MavlinkOutsideRange s
   exactly-25 = (λ e. due s 25 e .5 refl, λ c. read s (c .0) (by-25 (kindNamed s) s (tabled (getD s 5 0)) (c .1)))

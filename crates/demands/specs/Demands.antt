@@ -1,9 +1,11 @@
 -- The tender's demands 1 to 3, in one place. Each is a statement over what the running functions ensure of a call, or over the
 -- definitions that their contracts cite, so it holds of what runs: `WritesFrame` of `ucp_writer::write_frame`, `Receives` of
 -- `ucp_receiver::octet::receive` and `Takes` of `receive_slice`; of the messages `Reads`, `WritesBody` and `Sends` (ucp_messages,
--- ucp_answers, ucp_send); of MAVLink `readDue` and `writeDue` (mavlink_messages). That every call on every input returns,
--- with no undefined step, is what proving a Rattle function means; no call for C or Rust, and none that is named here, asks anything
--- of its caller. Proved in proofs/Demands.antt. Assumes nothing.
+-- ucp_answers, ucp_send); of MAVLink `readDue` and `writeDue` (mavlink_messages). Of what C and Rust link: the clauses named
+-- `linked..` are over the contracts of `ostrogosz_ucp_start`, `ostrogosz_ucp_receive`, `ostrogosz_ucp_receive_slice` and
+-- `ostrogosz_ucp_write_frame`, so that what is said of lines and of the frame writer holds of these calls. That every call on every
+-- input returns, with no undefined step, is what proving a Rattle function means; no call for C or Rust, and none that is named
+-- here, asks anything of its caller. Proved in proofs/Demands.antt. Assumes nothing.
 use mathlib.Core.Path.{_≡_}
 use mathlib.Core.Bool.{true, false}
 use mathlib.Core.List.{List, [], _∷_, _++_, map}
@@ -23,7 +25,7 @@ use Rattle.ucp_writer.specs.Writes.{WritesFrame}
 use Rattle.mavlink_frame.specs.declared.Header.{Header}
 use Rattle.mavlink_messages.specs.declared.Message as mavlink
 use Rattle.mavlink_messages.specs.declared.Read.{Read as MavlinkRead}
-use Rattle.mavlink_messages.specs.declared.Read.the-variants as mavlink-read
+use Rattle.mavlink_messages.specs.Messages as MavlinkReads
 use Rattle.mavlink_messages.specs.Messages.{readDue, writeDue, messageFrame, inRange, payloadOf}
 use Rattle.mavlink_messages.specs.Refusals.{MavlinkShort, MavlinkWrongStart, MavlinkUnknownId, MavlinkWrongLength, MavlinkWrongCheck, MavlinkOutsideRange}
 use Rattle.thm_mavlink_messages.specs.RoundTrips as mavlink-trips
@@ -45,10 +47,19 @@ use Rattle.ucp_messages.specs.Kinds.{kindIn}
 use Rattle.ucp_messages.specs.Messages as Reads
 use Rattle.ucp_messages.specs.Refusals.{UnknownId, WrongMessageLength, WrongFixedOctet, FieldOutsideRange}
 use Rattle.ucp_answers.specs.Writes as Message
+use Rattle.crc_gdl90_strength.specs.Premises.{PremisesMet}
+use Rattle.thm_ucp_examples.specs.LinePremises.{EndsInMet, SliceLineMet, WriterCallMet}
 use Rattle.thm_ucp_writer.specs.Calls.{WriterLists}
 use Rattle.thm_ucp_receiver.specs.Line.{Observed, callOf, upTo, Line}
+use Rattle.thm_ucp_receiver.specs.Lines.{EveryLine}
 use Rattle.thm_ucp_receiver.specs.Slice.{LineOfSlices, SliceIsCall}
-use Rattle.thm_ucp_receiver.specs.Promises.{AnswersAs, AnswersByHistory, StretchIsAnswered, CountsByHistory, EveryOctetCounted, StoreClean, FlagClears, LaterOnly, PutOutIsFrame, FrameIsPutOut, EndsIn, carrying}
+use Rattle.output_writing.specs.declared.OstrogoszWritten.{OstrogoszWritten}
+use Rattle.c_ucp_frames.specs.Frames.{WritesFrameNumbers}
+use Rattle.c_ucp_receiver.specs.Numbers.{ReceivesNumbers}
+use Rattle.thm_c_ucp.specs.Receiver.{LinkedLines, LinkedAnswersByHistory, LinkedCountsByHistory, LinkedStoreByHistory, LinkedFlagClears, LinkedLaterOnly, LinkedPutOutIsFrame, LinkedFrameIsPutOut, LinkedReceiverLists}
+use Rattle.thm_c_ucp.specs.Slices.{LinkedSliceLines, LinkedSliceIsCall}
+use Rattle.thm_c_ucp.specs.Writer.{LinkedWriter, LinkedWriterLists}
+use Rattle.thm_ucp_receiver.specs.Promises.{AnswersAs, AnswersByHistory, StretchIsAnswered, CountsByHistory, EveryOctetCounted, StoreClean, StoreByHistory, HuntingStoresNothing, FlagClears, LaterOnly, PutOutIsFrame, FrameIsPutOut, EndsIn, carrying}
 
 -- The numbers that stand behind the refusals' names are those of document 01's table.
 pub record TableNumbers : Type 0 where
@@ -61,11 +72,13 @@ pub record TableNumbers : Type 0 where
       (because.mavlinkShort ≡ 20) × (because.mavlinkStart ≡ 21) × (because.mavlinkUnknownId ≡ 22) × (because.mavlinkLength ≡ 23)
       × (because.mavlinkWrongCheck ≡ 24) × (because.mavlinkField ≡ 25)
 
--- Demand 1. Bad input gets a numbered refusal under the conditions of document 01 and no others (the receiver's conditions are
--- `answersByHistory` of demand 2; each of the readers' is spelled in its room's specs/Refusals.antt), and a refusal changes no
--- octet of the lent output, whichever writer gives it. At every flag, counts excepted, the store is all zero, the rest of the
--- record is one fixed value, and what the line answers from there on depends only on later octets, for the same room lent.
+-- Demand 1. Each clause stands below the tender's sentence, in its words. "Every call on every input returns, with no undefined
+-- step": see above. The calls that are linked are the others in C's numbers, so that what is said of lines and of the writer holds
+-- of them.
 pub record Demand1 : Type 0 where
+  -- "Bad input gets a numbered refusal under the conditions in document 01, and no others": the numbers; the frame writer; then the
+  -- readers and writers of messages, whose conditions are spelled in their rooms' specs/Refusals.antt; then the receiver, whose
+  -- conditions are `answersByHistory` of demand 2
   pub numbers : TableNumbers
   pub writerRefuses7 :
       (body output after : List ℕ) (r : Written) → WritesFrame body output r after
@@ -77,6 +90,7 @@ pub record Demand1 : Type 0 where
   pub writerRefuses :
       (body output after : List ℕ) (r : Written) (number : ℕ) → WritesFrame body output r after → writerAnswer r ≡ refused number
       → ((number ≡ because.bodyLength) ⊎ (number ≡ because.outputLength)) × (after ≡ output)
+  -- "A refusal changes no byte of the lent output", whichever writer gives it
   pub refusalWritesNothing :
       (due : WriterAnswer) (octets output after : List ℕ) (r : Written) (number : ℕ) → Writing due octets output r after
       → writerAnswer r ≡ refused number → after ≡ output
@@ -103,19 +117,25 @@ pub record Demand1 : Type 0 where
       ↔ (((number ≡ because.field) × (messageFits m payload ≡ false))
       ⊎ ((number ≡ because.outputLength) × (messageFits m payload ≡ true) × (length output < length (messageBody m payload))))
   pub mavlinkReaderRefuses :
-      (input : List ℕ) (number : ℕ) → readDue input ≡ mavlink-read.Refused number → (20 ≤ number) × (number ≤ 25)
+      (input : List ℕ) (number : ℕ) → readDue input ≡ MavlinkReads.refused number → (20 ≤ number) × (number ≤ 25)
   pub mavlinkReaderRefuses20 :
-      (input : List ℕ) (r : MavlinkRead) → r ≡ readDue input → (r ≡ mavlink-read.Refused because.mavlinkShort) ↔ MavlinkShort input
+      (input : List ℕ) (r : MavlinkRead) → MavlinkReads.mavlinkAnswer r ≡ readDue input
+      → (MavlinkReads.mavlinkAnswer r ≡ MavlinkReads.refused because.mavlinkShort) ↔ MavlinkShort input
   pub mavlinkReaderRefuses21 :
-      (input : List ℕ) (r : MavlinkRead) → r ≡ readDue input → (r ≡ mavlink-read.Refused because.mavlinkStart) ↔ MavlinkWrongStart input
+      (input : List ℕ) (r : MavlinkRead) → MavlinkReads.mavlinkAnswer r ≡ readDue input
+      → (MavlinkReads.mavlinkAnswer r ≡ MavlinkReads.refused because.mavlinkStart) ↔ MavlinkWrongStart input
   pub mavlinkReaderRefuses22 :
-      (input : List ℕ) (r : MavlinkRead) → r ≡ readDue input → (r ≡ mavlink-read.Refused because.mavlinkUnknownId) ↔ MavlinkUnknownId input
+      (input : List ℕ) (r : MavlinkRead) → MavlinkReads.mavlinkAnswer r ≡ readDue input
+      → (MavlinkReads.mavlinkAnswer r ≡ MavlinkReads.refused because.mavlinkUnknownId) ↔ MavlinkUnknownId input
   pub mavlinkReaderRefuses23 :
-      (input : List ℕ) (r : MavlinkRead) → r ≡ readDue input → (r ≡ mavlink-read.Refused because.mavlinkLength) ↔ MavlinkWrongLength input
+      (input : List ℕ) (r : MavlinkRead) → MavlinkReads.mavlinkAnswer r ≡ readDue input
+      → (MavlinkReads.mavlinkAnswer r ≡ MavlinkReads.refused because.mavlinkLength) ↔ MavlinkWrongLength input
   pub mavlinkReaderRefuses24 :
-      (input : List ℕ) (r : MavlinkRead) → r ≡ readDue input → (r ≡ mavlink-read.Refused because.mavlinkWrongCheck) ↔ MavlinkWrongCheck input
+      (input : List ℕ) (r : MavlinkRead) → MavlinkReads.mavlinkAnswer r ≡ readDue input
+      → (MavlinkReads.mavlinkAnswer r ≡ MavlinkReads.refused because.mavlinkWrongCheck) ↔ MavlinkWrongCheck input
   pub mavlinkReaderRefuses25 :
-      (input : List ℕ) (r : MavlinkRead) → r ≡ readDue input → (r ≡ mavlink-read.Refused because.mavlinkField) ↔ MavlinkOutsideRange input
+      (input : List ℕ) (r : MavlinkRead) → MavlinkReads.mavlinkAnswer r ≡ readDue input
+      → (MavlinkReads.mavlinkAnswer r ≡ MavlinkReads.refused because.mavlinkField) ↔ MavlinkOutsideRange input
   pub mavlinkWriterRefuses :
       (m : mavlink.Message) (h : Header) (output after : List ℕ) (r : Written) (number : ℕ)
       → Writing (writeDue m output) (messageFrame m h) output r after
@@ -127,43 +147,78 @@ pub record Demand1 : Type 0 where
       (storeAfter outputThen : List ℕ) (number : ℕ)
       → Receives receiver store octet output given storeAfter outputThen
       → receiver-answers.receiverAnswer (given .answer) ≡ refusal number → (1 ≤ number) × (number ≤ 6) × (outputThen ≡ output)
+  -- nor does a call without an answer
   pub receiverIsSilent :
       (receiver : Record) (store : List ℕ) (octet : ℕ) (output : List ℕ) (given : Received)
       (storeAfter outputThen : List ℕ)
       → Receives receiver store octet output given storeAfter outputThen
       → receiver-answers.receiverAnswer (given .answer) ≡ nothing → outputThen ≡ output
+  -- "At every flag, line counts excepted, the store is all zero, the rest of the receiver's record is one fixed value"
   pub flagClears : FlagClears
+  -- document 01 on the store: before the first flag nothing, then the open stretch unstuffed as far as its first fault, and zero behind
+  pub storeByHistory : StoreByHistory
+  pub huntingStoresNothing : HuntingStoresNothing
   pub storeClean : StoreClean
+  -- "and what the line answers from there on depends only on later bytes, for the same room lent"
   pub laterOnly : LaterOnly
+  -- of the linked calls: lists of them are lines, lines driven by slices, and the writer's lists
+  pub linkedReceiverIsLine : LinkedLines
+  pub linkedSlicesAreLine : LinkedSliceLines
+  pub linkedWriterIsWriter : LinkedWriter
+  pub linkedReceiverRefuses :
+      (store line : List ℕ) (octet : ℕ) (output : List ℕ) (kind value : ℕ) (storeAfter lineAfter outputThen : List ℕ)
+      → ReceivesNumbers store line octet output kind value storeAfter lineAfter outputThen
+      → kind ≡ 2 → (1 ≤ value) × (value ≤ 6) × (outputThen ≡ output)
+  pub linkedReceiverIsSilent :
+      (store line : List ℕ) (octet : ℕ) (output : List ℕ) (kind value : ℕ) (storeAfter lineAfter outputThen : List ℕ)
+      → ReceivesNumbers store line octet output kind value storeAfter lineAfter outputThen
+      → kind ≡ 0 → (value ≡ 0) × (outputThen ≡ output)
+  pub linkedWriterRefuses :
+      (body output after : List ℕ) (given : OstrogoszWritten) → WritesFrameNumbers body output given after
+      → (given .refusal ≡ 0 → ⊥)
+      → ((given .refusal ≡ because.bodyLength) ⊎ (given .refusal ≡ because.outputLength)) × (given .length ≡ 0) × (after ≡ output)
+  pub linkedFlagClears : LinkedFlagClears
+  pub linkedStoreByHistory : LinkedStoreByHistory
+  pub linkedLaterOnly : LinkedLaterOnly
 
--- Demand 2. The check of every body is the remainder: the body as a polynomial is the quotient times the generator plus it, and
--- its degree is under 16; MAVLink's is what 001's code computes. A body of 1 to 436 octets with room for its frame is written,
--- and that exactly; every call of the receiver answers as the rules say of the history, and a stretch with an octet in it is
--- answered; each frame delivered writes back to the same octets, and each frame written is delivered; every octet received is
--- counted once, under the class that its history gives. A line that is taken in slices is such a line of calls by the octet,
--- with the same answers, outputs and records. On both lines each written message reads back equal, and each accepted one writes
--- back to the same octets; a message sent on the UCP line is delivered, and means the same.
+-- Demand 2. "Frames, checks and messages are those of the GDL90 public document, the maker's UCP control document and its MAVLink
+-- pages, as document 01 states them."
 pub record Demand2 : Type 0 where
+  -- the check of every body is the remainder: the body as a polynomial is the quotient times the generator plus it, and its degree
+  -- is under 16; MAVLink's is what 001's code computes
   pub checkIsRemainder :
       (body : List ℕ)
       → (polynomial 0 (bitsOfOctets body) ≡ bitXor (timesGenerator 0 (quotient (bitsOfOctets body))) (frameCheck body))
       × (frameCheck body < degree16)
   pub x25IsCode : (octets : List ℕ) → Octets octets → crcCalculate octets ≡ x25 octets
+  -- a body of 1 to 436 octets with room for its frame is written, and that exactly
   pub writes :
       (body output after : List ℕ) (r : Written) → WritesFrame body output r after
       → 1 ≤ length body → length body ≤ longestBody → length (frame body) ≤ length output
       → (writerAnswer r ≡ wrote (length (frame body)))
       × (after ≡ frame body ++ drop (length (frame body)) output)
       × (length (frame body) ≤ longestFrame)
+  -- every call of the receiver answers as the rules say of the history, and a stretch with an octet in it is answered
   pub answersByHistory : AnswersByHistory
   pub stretchIsAnswered : StretchIsAnswered
+  -- "each frame delivered writes back to the same bytes", and each frame written is delivered
   pub deliveredIsFrame : PutOutIsFrame
   pub deliveredWritesBack : DeliveredWritesBack
   pub frameIsDelivered : FrameIsPutOut
+  -- "Every byte received on the UCP line is counted once, under the class its history gives"
   pub countsByHistory : CountsByHistory
   pub everyOctetCounted : EveryOctetCounted
+  -- a line that is taken in slices is such a line of calls by the octet, with the same answers, outputs and records
   pub slicesAreCalls : LineOfSlices
   pub sliceEndsAsCall : SliceIsCall
+  -- of the linked calls: their numbers are those of the answer and of the counts that the history gives
+  pub linkedAnswersByHistory : LinkedAnswersByHistory
+  pub linkedDeliveredIsFrame : LinkedPutOutIsFrame
+  pub linkedFrameIsDelivered : LinkedFrameIsPutOut
+  pub linkedCountsByHistory : LinkedCountsByHistory
+  pub linkedSliceEndsAsCall : LinkedSliceIsCall
+  -- "Each written message reads back equal", and each accepted one writes back to the same octets, on both lines; a message sent on
+  -- the UCP line is delivered, and means the same
   pub messageReadsBack : message-trips.MessageReadsBack
   pub messageWritesBack : message-trips.MessageWritesBack
   pub uplinkReadsBack : message-trips.UplinkReadsBack
@@ -187,8 +242,26 @@ ReceiverLists =
     → EndsIn (carrying a b) (upTo before last)
     → receiver-answers.receiverAnswer (last .given .answer) ≡ refusal because.wrongCheck)
 
--- Demand 3. The check's strength, and with it the receiver's lists and the writer's.
+-- Demand 3.
 pub record Demand3 : Type 0 where
+  -- "Take any two different message bodies of equal length, 1 to 436 bytes. If they differ in at most three bits, or all differing bits
+  -- lie in 16 consecutive bits counted most significant first, their GDL90 checks differ"
   pub check : Strength
+  -- "So a frame carrying one of them with the other's check gets refusal 5, whatever bytes the line brought before it and whatever
+  -- room is lent"
   pub receiver : ReceiverLists
+  -- "for every two lists of calls to the frame writer, refused ones included: if the bodies accepted aren't the same list, the line
+  -- bytes aren't the same either"
   pub writer : WriterLists
+  -- the same two of lists of linked calls
+  pub linkedReceiver : LinkedReceiverLists
+  pub linkedWriter : LinkedWriterLists
+
+-- What these demands suppose is met by some calls, and not by all: bodies at each edge of demand 3, a line that ends in a frame, a
+-- line in slices of which one is answered, calls of the writer of which one is accepted; and every list of octets is a line.
+pub record PremisesTied : Type 0 where
+  pub bodies : PremisesMet
+  pub lines : EveryLine
+  pub endsIn : EndsInMet
+  pub sliceLine : SliceLineMet
+  pub writerCalls : WriterCallMet

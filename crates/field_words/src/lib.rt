@@ -1,4 +1,6 @@
 // Eight octets of a slice as one number: compiled, one load, and one swap where the first octet is the most significant.
+pub mod copies;
+
 ghost use mathlib.Core.Path.{_≡_};
 ghost use mathlib.Core.List.{[]};
 ghost use Prim.Native.Nat.{_+_, _<_, _≤_};

@@ -1,16 +1,17 @@
 -- How a program goes on with a block: the record behind the block is the one behind the octets that are left, from the present
--- record on. Assumes nothing.
-use mathlib.Core.Path.{_≡_, refl, sym, _∙_, ap}
-use mathlib.Core.List.{List}
-use Prim.Native.Nat.{ℕ, _+_, _≤_}
+-- record on; and its lines are those that went out and those of the octets that are left. Assumes nothing.
+use mathlib.Core.Path.{_≡_, refl, sym, _∙_, ap, ap₂}
+use mathlib.Core.List.{List, [], _++_, append-assoc, append-nil}
+use Prim.Native.Nat.{ℕ, _+_, _%_, _^_, _≤_}
+use native.Mathlib.Nat.{mod-add-mod}
 use native.Mathlib.Omega.{arith}
-use lib.ListN.{length, drop, length-drop, drop-of-length-le}
+use lib.ListN.{length, drop, length-append, length-drop, drop-of-length-le}
 use lib.Seq.{drop-drop}
 use Rattle.ucp_receiver.specs.declared.Counts.{Counts}
 use Rattle.ucp_receiver.specs.Octet.{State}
-use Rattle.text_ucp_listing.specs.Lists.{RecordBehind, behindAll}
+use Rattle.text_ucp_listing.specs.Lists.{RecordBehind, behindAll, everyLine}
 use Rattle.io_streams.specs.declared.Input.the-variants.{More}
-use Rattle.io_ucp.specs.Records.{Leaves}
+use Rattle.io_ucp.specs.Records.{Leaves, WritesLines}
 
 abbrev pub Reached : List ℕ → RecordBehind → State → Counts → ℕ → Type 0
 Reached block last s c taken = (taken ≤ length block) × (last ≡ behindAll s c (drop taken block))
@@ -30,3 +31,36 @@ module _ (block : List ℕ) where
     reached-last all =
         let end : last ≡ record { state = s; counts = c } = r .1 ∙ ap (behindAll s c) (drop-of-length-le block all) in
         (sym (ap (λ (b : RecordBehind). b .state) end), sym (ap (λ (b : RecordBehind). b .counts) end))
+
+-- ---- what went out
+
+-- the lines of the block are those that went out, and then those of the octets that are left
+pub record WentOut (block whole : List ℕ) (s : State) (c : Counts) (taken written : ℕ) : Type 0 where
+  pub done : List ℕ
+  pub makes : whole ≡ done ++ everyLine s c (drop taken block)
+  pub number : written ≡ length done % 2 ^ 64
+
+module _ (block : List ℕ) where
+  pub went-first : (s : State) (c : Counts) → WentOut block (everyLine s c block) s c 0 0
+  went-first s c = record { done = []; makes = refl; number = refl }
+
+  module _ (whole : List ℕ) (s : State) (c : Counts) (taken written : ℕ) (w : WentOut block whole s c taken written) where
+    pub went-more : (t : State) (d : Counts) (more n next : ℕ) (text : List ℕ)
+        → everyLine s c (drop taken block) ≡ text ++ everyLine t d (drop more (drop taken block))
+        → n ≡ length text → next ≡ (written + n) % 2 ^ 64 → WentOut block whole t d (taken + more) next
+    went-more t d more n next text same long adds =
+        record {
+          done = w .done ++ text;
+          makes =
+              w .makes ∙ ap (λ (l : List ℕ). w .done ++ l) (same ∙ ap (λ (l : List ℕ). text ++ everyLine t d l) (drop-drop more taken block))
+              ∙ sym (append-assoc (w .done) text _);
+          number =
+              adds ∙ ap₂ (λ (a b : ℕ). (a + b) % 2 ^ 64) (w .number) long ∙ mod-add-mod (length (w .done)) (2 ^ 64) (length text)
+              ∙ ap (λ (k : ℕ). k % 2 ^ 64) (sym (length-append (w .done) text));
+        }
+
+    pub went-last : length block ≤ taken → WritesLines More written whole
+    unfolding everyLine
+    went-last all =
+        let end : whole ≡ w .done ++ [] = w .makes ∙ ap (λ (l : List ℕ). w .done ++ everyLine s c l) (drop-of-length-le block all) in
+        w .number ∙ ap (λ (l : List ℕ). length l % 2 ^ 64) (sym (end ∙ append-nil (w .done)))

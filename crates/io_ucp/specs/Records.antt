@@ -1,14 +1,17 @@
--- What a block of the input leaves of the receiver's record, and the closing line. Assumes nothing.
+-- What a block of the input leaves of the receiver's record, the closing line, and what goes out. Assumes nothing.
 use mathlib.Core.Path.{_≡_}
 use mathlib.Core.Bool.{Bool, false}
 use mathlib.Core.List.{List}
-use Prim.Native.Nat.{ℕ}
+use Prim.Native.Nat.{ℕ, _%_, _^_, _<_}
+use lib.ListN.{length}
 use Rattle.ucp_receiver.specs.declared.Counts.{Counts}
 use Rattle.ucp_receiver.specs.Octet.{State}
 use Rattle.text_ucp_listing.specs.Lists.{RecordBehind, PutsClosing}
 use Rattle.io_streams.specs.Blocks.{WrittenIfEmpty}
 use Rattle.io_streams.specs.declared.Input.{Input}
 use Rattle.io_streams.specs.declared.Input.the-variants.{More, Ended, Failed}
+use Rattle.io_ucp.specs.declared.Output.{Output}
+use Rattle.io_ucp.specs.declared.Output.the-variants.{Wrote, Failed as WriteFailed}
 
 -- the input goes on: the record is the one behind the whole block. It does not end in a block; a write may have failed
 abbrev pub Leaves : Input → State → Counts → RecordBehind → Type 0
@@ -28,3 +31,16 @@ abbrev pub Ends : Input → Counts → List ℕ → Bool → List ℕ → Type 0
 Ends More counts before written after = (written ≡ false) × (after ≡ before)
 Ends Ended counts before written after = Closed counts before written after
 Ends Failed counts before written after = (written ≡ false) × (after ≡ before)
+
+-- ---- what goes out
+
+-- so many octets were to be written: all of them went out, or there were some and it failed
+abbrev pub WritesFirst : ℕ → Output → Type 0
+WritesFirst octets (Wrote n) = n ≡ octets
+WritesFirst octets WriteFailed = 0 < octets
+
+-- the input goes on: as many octets went out as these lines have, modulo 2^64
+abbrev pub WritesLines : Input → ℕ → List ℕ → Type 0
+WritesLines More written lines = written ≡ length lines % 2 ^ 64
+WritesLines Ended written lines = ⊥
+WritesLines Failed written lines = Unit {0}

@@ -5,13 +5,39 @@ use ucp_frame::BodyRoom;
 use ucp_receiver::Counts;
 use ucp_receiver::Record;
 use ucp_receiver::Store;
+ghost use mathlib.Core.Path.{_≡_};
+ghost use Prim.Native.Nat.{min};
+ghost use lib.ListN.{length};
 ghost use Rattle.io_streams.specs.Blocks.{Zeroed};
-ghost use Rattle.io_ucp.specs.Records.{Closed, Ends};
+ghost use Rattle.io_ucp.specs.Records.{Closed, Ends, WritesFirst};
 
 // The receiver's record besides its store, from block to block.
 pub struct Progress {
     pub receiver: Record,
     pub input: Input,
+}
+
+// What writing came to: so many octets went out, or it failed, which is said on standard error.
+pub enum Output {
+    Wrote(usize),
+    Failed,
+}
+
+fn least(a: usize, b: usize) -> usize
+    ensures { λ r. ⌜ r ≡ min a b ⌝ }
+{
+    if a < b { a } else { b }
+}
+
+// Writes the first octets of text, or all of it where there are no more, and says how many went out.
+pub fn write_lines(text: &[u8], octets: usize) -> Output
+    ensures { λ r. ⌜ WritesFirst (min octets (length (now (text .entry)))) r ⌝ }
+{
+    let n = least(octets, text.len());
+    if io_streams::write_out(&text[..n]) {
+        return Output::Wrote(n);
+    }
+    Output::Failed
 }
 
 // The closing line, where text has room for it, and whether what was put there was written.

@@ -1,21 +1,42 @@
 // The line lister: reads standard input to its end, and writes a line for each answer of the receiver and a last line with
 // the counts. `text_ucp_listing` has the text; here are only the reading and the writing. What a block leaves of the receiver's record
-// is proved (`Leaves`); that the record goes on from block to block is tested.
+// is proved (`Leaves`), and that as many octets went out as its lines have (`WritesLines`); that the record goes on from block to
+// block is tested.
 //
 // Where a read fails, what was listed so far has been written out already, the failure is said on standard error, and no
 // closing line follows: one stands only behind an input that was read to its end. Where a write fails the failure is said and
 // nothing more is written. A pipe that is closed behind the program ends it by a signal, and nothing is said.
 use io_streams::Input;
+use io_ucp::Output;
 use io_ucp::Progress;
 use ucp_frame::BodyRoom;
 use ucp_receiver::Record;
 use ucp_receiver::Store;
+ghost use mathlib.Core.Path.{_≡_};
 ghost use Prim.Native.Nat.{_≤_};
 ghost use lib.ListN.{length};
 ghost use Rattle.text_ucp_listing.specs.Listing.{longestLine};
 ghost use Rattle.ucp_receiver.specs.Octet.{stateOf};
-ghost use Rattle.text_ucp_listing.specs.Lists.{behindAll};
-ghost use Rattle.io_ucp.specs.Records.{Leaves};
+ghost use Rattle.text_ucp_listing.specs.Lists.{behindAll, everyLine};
+ghost use Rattle.io_ucp.specs.Records.{Leaves, WritesLines};
+
+// What a block came to, and how many octets of text went out for it, modulo 2^64: so far a contract can say what is written.
+struct ListedBlock {
+    progress: Progress,
+    written: usize,
+}
+
+fn listed_block(receiver: Record, input: Input, written: usize) -> ListedBlock
+    ensures { λ r. ⌜ r ≡ record { progress = record { receiver = receiver; input = input }; written = written } ⌝ }
+{
+    ListedBlock {
+        progress: Progress {
+            receiver: receiver,
+            input: input,
+        },
+        written: written,
+    }
+}
 
 // Lists the octets of a block, and writes the text out each time that it is full, and at the block's end.
 fn list_block(
@@ -24,28 +45,29 @@ fn list_block(
     room: &mut BodyRoom,
     block: &[u8],
     text: &mut [u8],
-) -> Progress
+) -> ListedBlock
     requires { ⌜ longestLine ≤ length (now text) ⌝ }
-    ensures { λ r. ⌜ Leaves (r .input) (stateOf (r .receiver .rest) (now (store .exit))) (r .receiver .counts) (behindAll (stateOf (receiver .rest) (now (store .entry))) (receiver .counts) (now (block .entry))) ⌝ }
+    ensures { λ r. ⌜ Leaves (r .progress .input) (stateOf (r .progress .receiver .rest) (now (store .exit))) (r .progress .receiver .counts) (behindAll (stateOf (receiver .rest) (now (store .entry))) (receiver .counts) (now (block .entry))) ⌝ }
+    ensures { λ r. ⌜ WritesLines (r .progress .input) (r .written) (everyLine (stateOf (receiver .rest) (now (store .entry))) (receiver .counts) (now (block .entry))) ⌝ }
 {
     let mut receiver = receiver;
     let mut taken = 0;
+    let mut written = 0;
     while taken < block.len() {
         let listed = text_ucp_listing::list_some(receiver, store, room, &block[taken..], text);
         receiver = listed.receiver;
         taken += listed.taken;
-        let n = listed.written;
-        if !io_streams::write_out(&text[..n]) {
-            return Progress {
-                receiver: receiver,
-                input: Input::Failed,
-            };
+        let output = io_ucp::write_lines(text, listed.written);
+        match output {
+            Output::Failed => {
+                return listed_block(receiver, Input::Failed, written);
+            }
+            Output::Wrote(n) => {
+                written = std::num::wrapping_add_usize(written, n);
+            }
         }
     }
-    Progress {
-        receiver: receiver,
-        input: Input::More,
-    }
+    listed_block(receiver, Input::More, written)
 }
 
 // Lists all of the input, and answers whether it came to its end and all was written.
@@ -56,7 +78,8 @@ fn list_input(store: &mut Store, room: &mut BodyRoom, block: &mut [u8], text: &m
     let mut turn = io_streams::first_turn(block);
     while turn.left > 0 {
         let end = turn.octets;
-        let progress = list_block(receiver, store, room, &block[..end], text);
+        let listed = list_block(receiver, store, room, &block[..end], text);
+        let progress = listed.progress;
         receiver = progress.receiver;
         let input = progress.input;
         turn = io_streams::next_turn(input, block, 0, turn.left);

@@ -7,12 +7,11 @@ use borrow.Author.Tests.{eq-eqb, ne-eqb}
 use lib.ListN.{length, drop, getD}
 use lib.Seq.{drop-cons}
 use Rattle.mavlink_frame.specs.declared.Kind.{Kind}
-use Rattle.mavlink_frame.specs.declared.Lookup.the-variants.{Known}
-use Rattle.mavlink_frame.specs.Frame.{kindAmong}
+use Rattle.mavlink_frame.specs.Frame.{known, kindAmong}
 
 module _ (ks : List Kind) (i id : ℕ) (d : Kind) (h : i < length ks) where
   -- it ends at the kind that has the ID
-  pub here : id ≡ getD ks i d .id → kindAmong (drop i ks) id ≡ Known (getD ks i d)
+  pub here : id ≡ getD ks i d .id → kindAmong (drop i ks) id ≡ known (getD ks i d)
   here e = rw (drop-cons ks i d, eq-eqb _ _ e)
 
   -- and passes one that has another

@@ -16,12 +16,22 @@ kind id length extra = record { id = id; length = length; extra = extra }
 abbrev pub kinds : List Kind
 kinds = kind 66 6 148 ∷ kind 201 19 126 ∷ kind 202 42 7 ∷ kind 203 1 85 ∷ kind 246 38 184 ∷ []
 
-abbrev pub kindAmong : List Kind → ℕ → Lookup
-kindAmong [] id = Unknown
-kindAmong (k ∷ ks) id = cond (eqb id (k .id)) (Known k) (kindAmong ks id)
+-- what the table says of a message ID: a kind's row, or that no kind has it
+pub data KindAnswer : Type 0 where
+  known : Kind → KindAnswer
+  unknown : KindAnswer
+
+-- the same of each case of the code's answer
+abbrev pub kindAnswer : Lookup → KindAnswer
+kindAnswer (Known k) = known k
+kindAnswer Unknown = unknown
+
+abbrev pub kindAmong : List Kind → ℕ → KindAnswer
+kindAmong [] id = unknown
+kindAmong (k ∷ ks) id = cond (eqb id (k .id)) (known k) (kindAmong ks id)
 
 -- the kind that has a message ID
-unfoldable pub mavlinkKind : ℕ → Lookup
+unfoldable pub mavlinkKind : ℕ → KindAnswer
 mavlinkKind id = kindAmong kinds id
 
 -- the start octet

@@ -9,11 +9,19 @@ use Rattle.crc_x25.specs.Check.{x25}
 use Rattle.refusals.specs.Numbers as because
 use Rattle.mavlink_frame.specs.declared.Kind.{Kind}
 use Rattle.mavlink_frame.specs.declared.Header.{Header}
-use Rattle.mavlink_frame.specs.declared.Lookup.{Lookup}
-use Rattle.mavlink_frame.specs.declared.Lookup.the-variants.{Known, Unknown}
 use Rattle.mavlink_frame.specs.declared.Found.{Found}
 use Rattle.mavlink_frame.specs.declared.Found.the-variants.{Frame, Refused}
-use Rattle.mavlink_frame.specs.Frame.{mavlinkKind, start}
+use Rattle.mavlink_frame.specs.Frame.{KindAnswer, known, unknown, mavlinkKind, start}
+
+-- an answer in the paper's terms: a refusal's number, or a right frame's message ID, header and number of octets
+pub data FrameAnswer : Type 0 where
+  refused : ℕ → FrameAnswer
+  frame : ℕ → Header → ℕ → FrameAnswer
+
+-- the paper's number and values of each case
+abbrev pub foundAnswer : Found → FrameAnswer
+foundAnswer (Refused number) = refused number
+foundAnswer (Frame id h used) = frame id h used
 
 -- octets 2, 3 and 4
 abbrev pub headerAt : List ℕ → Header
@@ -31,21 +39,21 @@ abbrev pub checkDue : ℕ → ℕ → List ℕ → ℕ
 checkDue n extra s = x25 (take (n + 5) (drop 1 s) ++ extra ∷ [])
 
 -- the tests from 23 on
-unfoldable pub foundOf : Kind → List ℕ → Found
+unfoldable pub foundOf : Kind → List ℕ → FrameAnswer
 foundOf k s =
     cond (eqb (getD s 1 0) (k .length))
-    (cond (ltb (length s) (k .length + 8)) (Refused because.mavlinkShort)
-    (cond (eqb (checkAt (k .length) s) (checkDue (k .length) (k .extra) s)) (Frame (k .id) (headerAt s) (k .length + 8))
-    (Refused because.mavlinkWrongCheck)))
-    (Refused because.mavlinkLength)
+    (cond (ltb (length s) (k .length + 8)) (refused because.mavlinkShort)
+    (cond (eqb (checkAt (k .length) s) (checkDue (k .length) (k .extra) s)) (frame (k .id) (headerAt s) (k .length + 8))
+    (refused because.mavlinkWrongCheck)))
+    (refused because.mavlinkLength)
 
-abbrev pub foundBy : Lookup → List ℕ → Found
-foundBy (Known k) s = foundOf k s
-foundBy Unknown s = Refused because.mavlinkUnknownId
+abbrev pub foundBy : KindAnswer → List ℕ → FrameAnswer
+foundBy (known k) s = foundOf k s
+foundBy unknown s = refused because.mavlinkUnknownId
 
-unfoldable pub found : List ℕ → Found
+unfoldable pub found : List ℕ → FrameAnswer
 found s =
-    cond (eqb (length s) 0) (Refused because.mavlinkShort)
+    cond (eqb (length s) 0) (refused because.mavlinkShort)
     (cond (eqb (getD s 0 0) start)
-    (cond (ltb (length s) 6) (Refused because.mavlinkShort) (foundBy (mavlinkKind (getD s 5 0)) s))
-    (Refused because.mavlinkStart))
+    (cond (ltb (length s) 6) (refused because.mavlinkShort) (foundBy (mavlinkKind (getD s 5 0)) s))
+    (refused because.mavlinkStart))

@@ -8,9 +8,7 @@ use Rattle.refusals.specs.Numbers as because
 use Rattle.output_writing.specs.Writing.{WriterAnswer, refused, wrote}
 use Rattle.mavlink_frame.specs.declared.Kind.{Kind}
 use Rattle.mavlink_frame.specs.declared.Header.{Header}
-use Rattle.mavlink_frame.specs.declared.Lookup.{Lookup}
-use Rattle.mavlink_frame.specs.declared.Lookup.the-variants.{Known, Unknown}
-use Rattle.mavlink_frame.specs.Frame.{mavlinkKind, mavlinkFrame}
+use Rattle.mavlink_frame.specs.Frame.{KindAnswer, known, unknown, mavlinkKind, mavlinkFrame}
 
 -- 8 for an output shorter than a frame of so many octets, else the frame
 abbrev pub roomFor : ℕ → List ℕ → WriterAnswer
@@ -20,17 +18,17 @@ roomFor octets output = cond (ltb (length output) octets) (refused because.outpu
 unfoldable pub writeOf : Kind → List ℕ → List ℕ → WriterAnswer
 writeOf k payload output = cond (eqb (length payload) (k .length)) (roomFor (length payload + 8) output) (refused because.mavlinkLength)
 
-abbrev pub writeBy : Lookup → List ℕ → List ℕ → WriterAnswer
-writeBy (Known k) payload output = writeOf k payload output
-writeBy Unknown payload output = refused because.mavlinkUnknownId
+abbrev pub writeBy : KindAnswer → List ℕ → List ℕ → WriterAnswer
+writeBy (known k) payload output = writeOf k payload output
+writeBy unknown payload output = refused because.mavlinkUnknownId
 
 abbrev pub frameWriteDue : ℕ → List ℕ → List ℕ → WriterAnswer
 frameWriteDue id = writeBy (mavlinkKind id)
 
 -- the frame around a payload, and none where no kind has the ID
-abbrev pub frameBy : Lookup → Header → List ℕ → List ℕ
-frameBy (Known k) h payload = mavlinkFrame k h payload
-frameBy Unknown h payload = []
+abbrev pub frameBy : KindAnswer → Header → List ℕ → List ℕ
+frameBy (known k) h payload = mavlinkFrame k h payload
+frameBy unknown h payload = []
 
 abbrev pub frameOf : ℕ → Header → List ℕ → List ℕ
 frameOf id = frameBy (mavlinkKind id)

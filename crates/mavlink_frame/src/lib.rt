@@ -3,9 +3,9 @@ pub mod reader;
 pub mod writer;
 
 ghost use mathlib.Core.Path.{_≡_};
-ghost use Rattle.mavlink_frame.specs.Frame.{mavlinkKind};
+ghost use Rattle.mavlink_frame.specs.Frame.{kindAnswer, mavlinkKind};
 
-// What stands at the start of an input.
+// What stands at the start of an input. `foundAnswer` of specs/Reader.antt gives the paper's number and values of each case.
 pub enum Found {
     // A frame with its check right: its message ID, its header, and how many octets it has. Its payload is from 6 on.
     Frame(u8, Header, usize),
@@ -23,7 +23,7 @@ pub struct Kind {
     pub extra: u8,
 }
 
-// The kind of a message ID.
+// The kind of a message ID. `kindAnswer` of specs/Frame.antt says what each case means.
 pub enum Lookup {
     Known(Kind),
     Unknown,
@@ -68,7 +68,7 @@ const KINDS: [Kind; 5] = [
 
 // The kind that has a message ID.
 pub fn kind_of(id: u8) -> Lookup
-    ensures { λ r. ⌜ r ≡ mavlinkKind id ⌝ }
+    ensures { λ r. ⌜ kindAnswer r ≡ mavlinkKind id ⌝ }
 {
     let kinds = KINDS;
     let mut i = 0;

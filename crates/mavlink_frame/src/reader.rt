@@ -6,11 +6,11 @@ use super::Lookup;
 ghost use mathlib.Core.Path.{_≡_};
 ghost use Prim.Native.Nat.{_+_, _*_, _≤_};
 ghost use lib.ListN.{length};
-ghost use Rattle.mavlink_frame.specs.Reader.{found, foundOf};
+ghost use Rattle.mavlink_frame.specs.Reader.{foundAnswer, found, foundOf};
 
 // Reads the frame at the start of input. Octets behind it are left.
 pub fn read_frame(input: &[u8]) -> Found
-    ensures { λ r. ⌜ r ≡ found (now (input .entry)) ⌝ }
+    ensures { λ r. ⌜ foundAnswer r ≡ found (now (input .entry)) ⌝ }
 {
     let n = input.len();
     if n == 0 {
@@ -32,7 +32,7 @@ pub fn read_frame(input: &[u8]) -> Found
 // Reads a frame of a kind, of which six octets are there.
 fn read_kind(kind: Kind, input: &[u8]) -> Found
     requires { ⌜ 6 ≤ length (now input) ⌝ }
-    ensures { λ r. ⌜ r ≡ foundOf kind (now (input .entry)) ⌝ }
+    ensures { λ r. ⌜ foundAnswer r ≡ foundOf kind (now (input .entry)) ⌝ }
 {
     let length = input[1];
     if length != kind.length {

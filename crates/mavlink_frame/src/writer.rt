@@ -7,10 +7,11 @@ ghost use mathlib.Core.Path.{_≡_};
 ghost use mathlib.Core.List.{[], _∷_, _++_};
 ghost use Prim.Native.Nat.{_+_, _-_, _≤_};
 ghost use lib.ListN.{length, take, drop};
-ghost use lib.Seq.{sets, paste};
+ghost use lib.Seq.{sets};
 ghost use Rattle.output_writing.specs.Writing.{Writing};
 ghost use Rattle.crc_x25.specs.Check.{x25Octets};
 ghost use Rattle.mavlink_frame.specs.Frame.{headerOctets, mavlinkFrame};
+ghost use Rattle.mavlink_frame.specs.Reader.{payloadAt};
 ghost use Rattle.mavlink_frame.specs.Writer.{frameWriteDue, writeOf, frameOf};
 
 // Writes the frame of a payload at the start of output. On a refusal nothing is written.
@@ -42,9 +43,17 @@ fn fill(kind: Kind, header: Header, payload: &[u8], output: &mut [u8])
     requires { ⌜ (length (now payload) ≡ kind .length) × (length (now payload) + 8 ≤ length (now output)) ⌝ }
     ensures { λ r. ⌜ now (output .exit) ≡ mavlinkFrame kind header (now (payload .entry)) ++ drop (length (now (payload .entry)) + 8) (now (output .entry)) ⌝ }
 {
+    field_words::copies::copy(payload, output, 6);
+    surround(kind, header, output);
+}
+
+// Puts header and check around a payload that stands in the output already, from 6 on.
+pub fn surround(kind: Kind, header: Header, output: &mut [u8])
+    requires { ⌜ kind .length + 8 ≤ length (now output) ⌝ }
+    ensures { λ r. ⌜ now (output .exit) ≡ mavlinkFrame kind header (payloadAt (kind .length) (now (output .entry))) ++ drop (kind .length + 8) (now (output .entry)) ⌝ }
+{
     put_header(kind, header, output);
-    put_payload(payload, output);
-    put_check(kind.extra, payload.len() + 6, output);
+    put_check(kind.extra, kind.length as usize + 6, output);
 }
 
 fn put_header(kind: Kind, header: Header, output: &mut [u8])
@@ -57,17 +66,6 @@ fn put_header(kind: Kind, header: Header, output: &mut [u8])
     output[3] = header.system;
     output[4] = header.component;
     output[5] = kind.id;
-}
-
-fn put_payload(payload: &[u8], output: &mut [u8])
-    requires { ⌜ length (now payload) + 8 ≤ length (now output) ⌝ }
-    ensures { λ r. ⌜ now (output .exit) ≡ paste (now (output .entry)) 6 (now (payload .entry)) (length (now (payload .entry))) ⌝ }
-{
-    let mut i = 0;
-    while i < payload.len() {
-        output[6 + i] = payload[i];
-        i += 1;
-    }
 }
 
 // Puts the check of the octets from 1 on behind them, low octet first.

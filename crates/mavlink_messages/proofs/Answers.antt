@@ -10,11 +10,8 @@ use lib.ListN.{length, take, drop, length-drop}
 use lib.Seq.{length-take-le}
 use Rattle.mavlink_frame.specs.declared.Header.{Header}
 use Rattle.mavlink_frame.specs.declared.Kind.{Kind}
-use Rattle.mavlink_frame.specs.declared.Lookup.{Lookup}
-use Rattle.mavlink_frame.specs.declared.Lookup.the-variants.{Known, Unknown}
-use Rattle.mavlink_frame.specs.declared.Found.the-variants.{Frame}
-use Rattle.mavlink_frame.specs.Frame.{kind, mavlinkKind}
-use Rattle.mavlink_frame.specs.Reader.{found}
+use Rattle.mavlink_frame.specs.Frame.{kind, KindAnswer, known, unknown, mavlinkKind}
+use Rattle.mavlink_frame.specs.Reader.{frame, found}
 use Rattle.mavlink_frame.proofs.reader.Accepted.{Accepted, accepted}
 use Rattle.field_format.proofs.Conjunction.{both}
 use Rattle.mavlink_messages.specs.Messages.{payloadRead, readBy, readDue, ofLength, ofItsKind}
@@ -23,7 +20,7 @@ pub tested : (id i n l : ℕ) → (eqb id i && eqb n l) ≡ true → (id ≡ i) 
 tested id i n l e = let h = both (eqb id i) (eqb n l) e in (eqb-true id i (h .0), eqb-true n l (h .1))
 
 -- a length that is right for the ID, where the table's first kind is not the one
-past : (b : Bool) (k : Kind) (rest : Lookup) (n : ℕ) → ofLength (cond b (Known k) rest) n ≡ true → (b && eqb n (k .length)) ≡ false
+past : (b : Bool) (k : Kind) (rest : KindAnswer) (n : ℕ) → ofLength (cond b (known k) rest) n ≡ true → (b && eqb n (k .length)) ≡ false
     → ofLength rest n ≡ true
 past true k rest n h e = let z : _≡_ {A = ℕ} 0 1 = cc in absurd (omega arith)
 past false k rest n h e = h
@@ -34,14 +31,14 @@ pub no-kind : (id n : ℕ) → ofItsKind id n ≡ true → (eqb id 66 && eqb n 6
 unfolding mavlinkKind
 no-kind id n h a b c d e =
     let fifth =
-    past (eqb id 246) (kind 246 38 184) Unknown n
+    past (eqb id 246) (kind 246 38 184) unknown n
     (past (eqb id 203) (kind 203 1 85) _ n
     (past (eqb id 202) (kind 202 42 7) _ n (past (eqb id 201) (kind 201 19 126) _ n (past (eqb id 66) (kind 66 6 148) _ n h a) b) c) d) e
     in
     let z : _≡_ {A = ℕ} 0 1 = cc in
     omega arith
 
-module _ (s : List ℕ) (id : ℕ) (h : Header) (used : ℕ) (e : found s ≡ Frame id h used) where
+module _ (s : List ℕ) (id : ℕ) (h : Header) (used : ℕ) (e : found s ≡ frame id h used) where
   frame-is : Accepted s id h used
   frame-is = accepted s id h used e
 

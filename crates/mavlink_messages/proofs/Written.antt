@@ -25,7 +25,7 @@ pub refused : (m : Message) (h : Header) (output : List ℕ) → inRange m ≡ f
 refused m h output e = rw e (record { answers = refl; leaves = refl })
 
 -- each kind's octets are as many as the table says
-due : (m : Message) (output : List ℕ) → frame-writes.frameWriteDue (idOf m) (payloadOf m) output ≡ roomFor (length (payloadOf m) + 8) output
+pub due : (m : Message) (output : List ℕ) → frame-writes.frameWriteDue (idOf m) (payloadOf m) output ≡ roomFor (length (payloadOf m) + 8) output
 unfolding mavlinkKind writeOf bodyOf
 due (DataStream d) output = refl
 due (Static s) output = refl

@@ -7,12 +7,29 @@ use Rattle.mavlink_messages.specs.declared.Lowest.{Lowest}
 use Rattle.mavlink_messages.specs.declared.Lowest.the-variants.{Bit, None}
 use Rattle.mavlink_messages.specs.declared.Failures.{Failures}
 
-abbrev pub lowestOf : List ℕ → Lowest
-lowestOf [] = None
-lowestOf (b ∷ bs) = Bit b
+-- in the paper's terms: the lowest bit that is set, or none
+pub data LowestAnswer : Type 0 where
+  bit : ℕ → LowestAnswer
+  none : LowestAnswer
 
-unfoldable pub failuresIn : ℕ → Failures
+pub record FailureAnswer : Type 0 where
+  pub count : ℕ
+  pub lowest : LowestAnswer
+
+-- the same of each case of the code's answer
+abbrev pub lowestAnswer : Lowest → LowestAnswer
+lowestAnswer (Bit b) = bit b
+lowestAnswer None = none
+
+abbrev pub failureAnswer : Failures → FailureAnswer
+failureAnswer f = record { count = f .count; lowest = lowestAnswer (f .lowest) }
+
+abbrev pub lowestOf : List ℕ → LowestAnswer
+lowestOf [] = none
+lowestOf (b ∷ bs) = bit b
+
+unfoldable pub failuresIn : ℕ → FailureAnswer
 failuresIn status = record { count = length (failureBits status); lowest = lowestOf (failureBits status) }
 
-abbrev pub noFailures : Failures
-noFailures = record { count = 0; lowest = None }
+abbrev pub noFailures : FailureAnswer
+noFailures = record { count = 0; lowest = none }

@@ -9,9 +9,7 @@ use lib.Dec.{eqb}
 use lib.ListN.{length, getD}
 use Rattle.field_format.specs.Format.{valueIn}
 use Rattle.mavlink_frame.specs.declared.Kind.{Kind}
-use Rattle.mavlink_frame.specs.declared.Lookup.{Lookup}
-use Rattle.mavlink_frame.specs.declared.Lookup.the-variants.{Known, Unknown}
-use Rattle.mavlink_frame.specs.Frame.{start, mavlinkKind}
+use Rattle.mavlink_frame.specs.Frame.{start, KindAnswer, known, unknown, mavlinkKind}
 use Rattle.mavlink_frame.specs.Reader.{payloadAt, checkAt, checkDue}
 use Rattle.mavlink_messages.specs.Static201.{staticFormat}
 use Rattle.mavlink_messages.specs.Dynamic202.{dynamicFormat}
@@ -22,16 +20,16 @@ abbrev pub HasHeader : List ℕ → Type 0
 HasHeader s = (getD s 0 0 ≡ start) × (6 ≤ length s)
 
 -- what the table of the kinds has for the message ID; that it has a kind, of which something holds; that it has none
-abbrev pub kindNamed : List ℕ → Lookup
+abbrev pub kindNamed : List ℕ → KindAnswer
 kindNamed s = mavlinkKind (getD s 5 0)
 
-abbrev pub OfKind : (Kind → Type 0) → Lookup → Type 0
-OfKind Holds (Known k) = Holds k
-OfKind Holds Unknown = ⊥
+abbrev pub OfKind : (Kind → Type 0) → KindAnswer → Type 0
+OfKind Holds (known k) = Holds k
+OfKind Holds unknown = ⊥
 
-abbrev pub OfNoKind : Lookup → Type 0
-OfNoKind (Known k) = ⊥
-OfNoKind Unknown = Unit {0}
+abbrev pub OfNoKind : KindAnswer → Type 0
+OfNoKind (known k) = ⊥
+OfNoKind unknown = Unit {0}
 
 -- the length octet is the kind's; the whole frame is there; its check is right
 abbrev pub HasLength : List ℕ → Kind → Type 0

@@ -16,8 +16,8 @@ ghost use mathlib.Core.Path.{_≡_};
 ghost use mathlib.Core.Bool.{true};
 ghost use lib.ListN.{length};
 ghost use Rattle.output_writing.specs.Writing.{Writing};
-ghost use Rattle.mavlink_messages.specs.Failures.{failuresIn, noFailures};
-ghost use Rattle.mavlink_messages.specs.Messages.{inRange, failuresOf, judgedBy, payloadRead, readDue, ofItsKind, writeDue, messageFrame};
+ghost use Rattle.mavlink_messages.specs.Failures.{failureAnswer, failuresIn, noFailures};
+ghost use Rattle.mavlink_messages.specs.Messages.{inRange, failuresOf, mavlinkAnswer, judgedBy, payloadRead, readDue, ofItsKind, writeDue, messageFrame};
 
 // 66: a request for a data stream.
 #[repr(C)]
@@ -99,7 +99,7 @@ pub enum Message {
     Traffic(Traffic),
 }
 
-// The lowest failure bit that is set, 1 to 4, or none.
+// The lowest failure bit that is set, 1 to 4, or none; `lowestAnswer` of specs/Failures.antt says the same.
 pub enum Lowest {
     Bit(u32),
     None,
@@ -111,7 +111,7 @@ pub struct Failures {
     pub lowest: Lowest,
 }
 
-// What stands at the start of an input.
+// What stands at the start of an input. `mavlinkAnswer` of specs/Messages.antt gives the paper's number and values of each case.
 pub enum Read {
     // A message in a right frame: the frame's header, how many octets it has, the message, and the failures that it
     // reports, which are none where it is no status.
@@ -136,7 +136,7 @@ fn in_range(message: Message) -> bool
 
 // The failure bits of a status, 1 to 4.
 fn failures_of(status: u8) -> Failures
-    ensures { λ r. ⌜ r ≡ failuresIn status ⌝ }
+    ensures { λ r. ⌜ failureAnswer r ≡ failuresIn status ⌝ }
 {
     let count = failure_bits::count_failures(status);
     if count == 0 {
@@ -150,7 +150,7 @@ fn failures_of(status: u8) -> Failures
 }
 
 fn no_failures() -> Failures
-    ensures { λ r. ⌜ r ≡ noFailures ⌝ }
+    ensures { λ r. ⌜ failureAnswer r ≡ noFailures ⌝ }
 {
     Failures {
         count: 0,
@@ -160,7 +160,7 @@ fn no_failures() -> Failures
 
 // The failures that a message reports.
 fn message_failures(message: Message) -> Failures
-    ensures { λ r. ⌜ r ≡ failuresOf message ⌝ }
+    ensures { λ r. ⌜ failureAnswer r ≡ failuresOf message ⌝ }
 {
     if let Message::Status(status) = message {
         return failures_of(status.status);
@@ -204,7 +204,7 @@ pub fn write_message(message: Message, header: Header, output: &mut [u8]) -> Wri
 
 // Reads the message in the frame at the start of input. Octets behind the frame are left.
 pub fn read_message(input: &[u8]) -> Read
-    ensures { λ r. ⌜ r ≡ readDue (now (input .entry)) ⌝ }
+    ensures { λ r. ⌜ mavlinkAnswer r ≡ readDue (now (input .entry)) ⌝ }
 {
     match mavlink_frame::reader::read_frame(input) {
         Found::Frame(id, header, used) => {
@@ -219,7 +219,7 @@ pub fn read_message(input: &[u8]) -> Read
 // octet.
 fn read_payload(id: u8, header: Header, used: usize, payload: &[u8]) -> Read
     requires { ⌜ ofItsKind id (length (now payload)) ≡ true ⌝ }
-    ensures { λ r. ⌜ r ≡ payloadRead id header used (now (payload .entry)) ⌝ }
+    ensures { λ r. ⌜ mavlinkAnswer r ≡ payloadRead id header used (now (payload .entry)) ⌝ }
 {
     let n = payload.len();
     if (id == 66) & (n == 6) {
@@ -250,7 +250,7 @@ fn read_payload(id: u8, header: Header, used: usize, payload: &[u8]) -> Read
 
 // 25 for a message with a field outside its range. (Each kind's test stands with its reader: it then works on registers.)
 fn judge(fits: bool, header: Header, used: usize, message: Message) -> Read
-    ensures { λ r. ⌜ r ≡ judgedBy fits header used message ⌝ }
+    ensures { λ r. ⌜ mavlinkAnswer r ≡ judgedBy fits header used message ⌝ }
 {
     if !fits {
         return Read::Refused(refusals::MAVLINK_FIELD);

@@ -5,11 +5,7 @@ use mathlib.Core.List.{List, [], _∷_, _++_}
 use Prim.Native.Nat.{ℕ}
 use lib.Dec.{eqb}
 use lib.IntN.{ℤ, pos, negsuc}
-use Rattle.ucp_meanings.specs.declared.Altitude.{Altitude}
-use Rattle.ucp_meanings.specs.declared.Altitude.the-variants.{NoData as NoAltitude, Feet as AltitudeInFeet}
-use Rattle.ucp_meanings.specs.declared.Rate.{Rate}
-use Rattle.ucp_meanings.specs.declared.Rate.the-variants.{NoData as NoRate, FeetPerMinute as RateInFeet}
-use Rattle.ucp_meanings.specs.Meanings.{altitudeMeans, rateMeans, geometricMeans, degreesE7}
+use Rattle.ucp_meanings.specs.Meanings.{Meaning, noData, value as meantValue, altitudeMeans, rateMeans, geometricMeans, degreesE7}
 use Rattle.field_layout.specs.declared.Text.{Text}
 use Rattle.field_layout.specs.Layout.{textOctets}
 use Rattle.text_output.specs.declared.Printing.the-variants.{Escaped}
@@ -29,13 +25,10 @@ abbrev pub unless : ℕ → ℤ → Reading
 unless mark (pos n) = cond (eqb n mark) NoData (Known (pos n))
 unless mark (negsuc n) = Known (negsuc n)
 
-abbrev pub altitudeReading : Altitude → Reading
-altitudeReading NoAltitude = NoData
-altitudeReading (AltitudeInFeet z) = Known z
-
-abbrev pub rateReading : Rate → Reading
-rateReading NoRate = NoData
-rateReading (RateInFeet z) = Known z
+-- what a raw number means
+abbrev pub meantReading : Meaning → Reading
+meantReading noData = NoData
+meantReading (meantValue z) = Known z
 
 -- behind a number
 abbrev pub unitShown : Unit → List ℕ
@@ -80,10 +73,10 @@ quotedText t = quoted (textOctets t)
 -- ---- the raw numbers of messages 10, 11 and 20
 
 abbrev pub reportAltitude : ℕ → Value
-reportAltitude n = reading Ones Feet (altitudeReading (altitudeMeans n))
+reportAltitude n = reading Ones Feet (meantReading (altitudeMeans n))
 
 abbrev pub rate : ℤ → Value
-rate z = reading Ones FeetPerMinute (rateReading (rateMeans z))
+rate z = reading Ones FeetPerMinute (meantReading (rateMeans z))
 
 abbrev pub geometricAltitude : ℤ → Value
 geometricAltitude z = reading Ones Feet (Known (geometricMeans z))

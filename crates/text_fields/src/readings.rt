@@ -4,8 +4,8 @@ use ucp_meanings::Rate;
 ghost use mathlib.Core.Path.{_≡_};
 ghost use lib.IntN.{pos};
 ghost use Rattle.text_fields.specs.declared.Reading.the-variants.{Known};
-ghost use Rattle.ucp_meanings.specs.Meanings.{altitudeMeans, rateMeans, geometricMeans, degreesE7};
-ghost use Rattle.text_fields.specs.Fields.{unless, altitudeReading, rateReading};
+ghost use Rattle.ucp_meanings.specs.Meanings.{rateAnswer, altitudeMeans, rateMeans, geometricMeans, degreesE7};
+ghost use Rattle.text_fields.specs.Fields.{unless, meantReading};
 ghost use Rattle.text_fields.specs.Templates.{markOf, naturalReading, shortReading, longReading};
 
 fn signed_32(n: i32) -> Reading
@@ -95,7 +95,7 @@ pub fn long_reading(mark: u8, n: i32) -> Reading
 // ---- by what messages 10, 11 and 20 mean
 
 fn of_rate(means: Rate) -> Reading
-    ensures { λ r. ⌜ r ≡ rateReading means ⌝ }
+    ensures { λ r. ⌜ r ≡ meantReading (rateAnswer means) ⌝ }
 {
     match means {
         Rate::NoData => Reading::NoData,
@@ -104,7 +104,7 @@ fn of_rate(means: Rate) -> Reading
 }
 
 pub fn altitude(n: u32) -> Reading
-    ensures { λ r. ⌜ r ≡ altitudeReading (altitudeMeans n) ⌝ }
+    ensures { λ r. ⌜ r ≡ meantReading (altitudeMeans n) ⌝ }
 {
     if n == 0xFFF {
         return Reading::NoData;
@@ -114,7 +114,7 @@ pub fn altitude(n: u32) -> Reading
 }
 
 pub fn rate(n: i16) -> Reading
-    ensures { λ r. ⌜ r ≡ rateReading (rateMeans n) ⌝ }
+    ensures { λ r. ⌜ r ≡ meantReading (rateMeans n) ⌝ }
 {
     of_rate(ucp_meanings::rate_in_feet_per_minute(n))
 }

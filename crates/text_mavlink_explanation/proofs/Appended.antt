@@ -8,22 +8,18 @@ use borrow.Author.Tests.{ne-eqb, le-ltb}
 use lib.Dec.{eqb, ltb}
 use lib.ListN.{length, getD, take, drop, length-append, length-drop, List·getD-append}
 use lib.Seq.{take-append-le, drop-append-le}
-use Rattle.mavlink_frame.specs.declared.Lookup.{Lookup}
-use Rattle.mavlink_frame.specs.declared.Lookup.the-variants.{Known, Unknown}
-use Rattle.mavlink_frame.specs.declared.Found.{Found}
-use Rattle.mavlink_frame.specs.declared.Found.the-variants.{Frame, Refused}
-use Rattle.mavlink_frame.specs.Frame.{mavlinkKind, start}
-use Rattle.mavlink_frame.specs.Reader.{checkAt, checkDue, foundOf, foundBy, found}
+use Rattle.mavlink_frame.specs.Frame.{KindAnswer, known, unknown, mavlinkKind, start}
+use Rattle.mavlink_frame.specs.Reader.{FrameAnswer, refused, frame, checkAt, checkDue, foundOf, foundBy, found}
 use Rattle.mavlink_messages.specs.Messages.{payloadRead, readBy}
 use Rattle.text_mavlink_explanation.specs.Decided.{frameRoom, DecidedAtRoom}
 
 -- ---- no kind has more than 42 octets in its payload, so no frame has more than 50
 
-abbrev Few : Lookup → Type 0
-Few (Known k) = k .length ≤ 42
-Few Unknown = Unit {0}
+abbrev Few : KindAnswer → Type 0
+Few (known k) = k .length ≤ 42
+Few unknown = Unit {0}
 
-few-either : (b : Bool) (x y : Lookup) → Few x → Few y → Few (cond b x y)
+few-either : (b : Bool) (x y : KindAnswer) → Few x → Few y → Few (cond b x y)
 few-either true x y h g = h
 few-either false x y h g = g
 
@@ -35,18 +31,18 @@ few-kind id =
     (few-either (eqb id 202) _ _ (omega arith)
     (few-either (eqb id 203) _ _ (omega arith) (few-either (eqb id 246) _ _ (omega arith) tt))))
 
-abbrev Short : Found → Type 0
-Short (Frame id h used) = used ≤ frameRoom
-Short (Refused number) = Unit {0}
+abbrev Short : FrameAnswer → Type 0
+Short (frame id h used) = used ≤ frameRoom
+Short (refused number) = Unit {0}
 
-short-either : (b : Bool) (x y : Found) → Short x → Short y → Short (cond b x y)
+short-either : (b : Bool) (x y : FrameAnswer) → Short x → Short y → Short (cond b x y)
 short-either true x y h g = h
 short-either false x y h g = g
 
-short-of : (l : Lookup) (s : List ℕ) → Few l → Short (foundBy l s)
+short-of : (l : KindAnswer) (s : List ℕ) → Few l → Short (foundBy l s)
 unfolding foundOf
-short-of Unknown s few = tt
-short-of (Known k) s few =
+short-of unknown s few = tt
+short-of (known k) s few =
     short-either (eqb (getD s 1 0) (k .length)) _ _
     (short-either (ltb (length s) (k .length + 8)) _ _ tt
     (short-either (eqb (checkAt (k .length) s) (checkDue (k .length) (k .extra) s)) _ _ (omega arith) tt))
@@ -75,10 +71,10 @@ module _ (s t : List ℕ) (h : frameRoom ≤ length s) where
       let within : n ≤ length (drop from s) = simp length-drop (omega arith) in
       rw (drop-append-le from s t before) (take-append-le n (drop from s) t within)
 
-  same-of : (l : Lookup) → Few l → foundBy l (s ++ t) ≡ foundBy l s
+  same-of : (l : KindAnswer) → Few l → foundBy l (s ++ t) ≡ foundBy l s
   unfolding foundOf
-  same-of Unknown few = refl
-  same-of (Known k) few =
+  same-of unknown few = refl
+  same-of (known k) few =
       rw (
         same-at 1 (omega arith),
         same-at 2 (omega arith),
@@ -104,11 +100,11 @@ module _ (s t : List ℕ) (h : frameRoom ≤ length s) where
         same-of (mavlinkKind (getD s 5 0)) (few-kind (getD s 5 0)),
       )
 
-  same-read : (f : Found) → Short f → readBy f (s ++ t) ≡ readBy f s
-  same-read (Refused number) short = refl
-  same-read (Frame id head used) short =
+  same-read : (f : FrameAnswer) → Short f → readBy f (s ++ t) ≡ readBy f s
+  same-read (refused number) short = refl
+  same-read (frame id head used) short =
       ap (payloadRead id head used) (same-part 6 (used - 8) (omega arith))
 
 pub decided : DecidedAtRoom
 decided s h t =
-    ap (λ (f : Found). readBy f (s ++ t)) (same-found s t h) ∙ same-read s t h (found s) (short-found s)
+    ap (λ (f : FrameAnswer). readBy f (s ++ t)) (same-found s t h) ∙ same-read s t h (found s) (short-found s)

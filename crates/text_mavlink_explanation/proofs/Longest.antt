@@ -9,17 +9,15 @@ use Rattle.text_output.specs.Clips.{textRoom, Clips}
 use Rattle.text_output.proofs.Clipped.{all-fits}
 use Rattle.text_output.proofs.Numerals.{numeral-most}
 use Rattle.text_refusals.proofs.Longest.{refusal-most}
-use Rattle.mavlink_messages.specs.declared.Read.{Read}
-use Rattle.mavlink_messages.specs.declared.Read.the-variants.{Message, Refused}
-use Rattle.mavlink_messages.specs.Messages.{readDue}
+use Rattle.mavlink_messages.specs.Messages.{MavlinkAnswer, refused, means, readDue}
 use Rattle.text_mavlink_messages.proofs.Longest.{message-most}
 use Rattle.text_mavlink_explanation.specs.Explanation.{frameLine, usedBy, isRefused, framesLine}
 use Rattle.text_mavlink_explanation.specs.Calls.{WholeFrame, ExplainsFrame}
 
-pub line-most : (r : Read) → length (frameLine r) ≤ textRoom
+pub line-most : (r : MavlinkAnswer) → length (frameLine r) ≤ textRoom
 unfolding frameLine
-line-most (Message h used m f) = simp length-append (omega (arith, numeral-most false 10 20 used, message-most h m f))
-line-most (Refused number) = simp length-append (omega (arith, refusal-most number))
+line-most (means h used m f) = simp length-append (omega (arith, numeral-most false 10 20 used, message-most h m f))
+line-most (refused number) = simp length-append (omega (arith, refusal-most number))
 
 pub closing-most : (frames bytes : ℕ) → length (framesLine frames bytes) ≤ textRoom
 unfolding framesLine
@@ -34,11 +32,11 @@ whole {text} {line} {written} p few =
     record { puts = p; all = omega arith; within = omega arith }
 
 -- the line of what is read
-pub explained : {input text : List ℕ} {r : Read} {written : ℕ} {after : List ℕ} → readDue input ≡ r
+pub explained : {input text : List ℕ} {r : MavlinkAnswer} {written : ℕ} {after : List ℕ} → readDue input ≡ r
     → Clips text 0 (frameLine r) written after
     → ExplainsFrame input text (record { used = usedBy r; refused = isRefused r; written = written }) after
 explained {input} {text} {r} {written} {after} e p = record {
   used = ap usedBy (sym e);
   refuses = ap isRefused (sym e);
-  line = whole (subst (λ (x : Read). Clips text 0 (frameLine x) written after) (sym e) p) (line-most (readDue input));
+  line = whole (subst (λ (x : MavlinkAnswer). Clips text 0 (frameLine x) written after) (sym e) p) (line-most (readDue input));
 }

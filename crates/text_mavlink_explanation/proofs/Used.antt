@@ -8,33 +8,30 @@ use lib.Dec.{eqb}
 use lib.ListN.{length}
 use Rattle.field_format.specs.Format.{valueIn}
 use Rattle.mavlink_frame.specs.declared.Header.{Header}
-use Rattle.mavlink_frame.specs.declared.Found.{Found}
-use Rattle.mavlink_frame.specs.declared.Found.the-variants.{Frame, Refused}
-use Rattle.mavlink_frame.specs.Reader.{payloadAt, found}
+use Rattle.mavlink_frame.specs.Reader.{FrameAnswer, refused, frame, payloadAt, found}
 use Rattle.mavlink_frame.proofs.reader.Accepted.{accepted}
 use Rattle.mavlink_messages.specs.declared.Message.{Message}
-use Rattle.mavlink_messages.specs.declared.Failures.{Failures}
-use Rattle.mavlink_messages.specs.declared.Read.{Read}
-use Rattle.mavlink_messages.specs.declared.Read.the-variants as read-as
+use Rattle.mavlink_messages.specs.Failures.{FailureAnswer}
+use Rattle.mavlink_messages.specs.Messages as read-as
 use Rattle.mavlink_messages.specs.Static201.{staticFormat}
 use Rattle.mavlink_messages.specs.Dynamic202.{dynamicFormat}
 use Rattle.mavlink_messages.specs.Traffic246.{trafficFormat}
-use Rattle.mavlink_messages.specs.Messages.{payloadRead, readBy, readDue}
+use Rattle.mavlink_messages.specs.Messages.{MavlinkAnswer, payloadRead, readBy, readDue}
 use Rattle.text_mavlink_explanation.specs.Explanation.{usedBy, isRefused}
 
 -- all of a frame's octets, or none where it is refused
-pub record Uses (n : ℕ) (r : Read) : Type 0 where
+pub record Uses (n : ℕ) (r : MavlinkAnswer) : Type 0 where
   pub most : usedBy r ≤ n
   pub all : isRefused r ≡ false → usedBy r ≡ n
 
-either : (b : Bool) (x y : Read) {n : ℕ} → Uses n x → Uses n y → Uses n (cond b x y)
+either : (b : Bool) (x y : MavlinkAnswer) {n : ℕ} → Uses n x → Uses n y → Uses n (cond b x y)
 either true x y h g = h
 either false x y h g = g
 
-none : {n number : ℕ} → Uses n (read-as.Refused number)
+none : {n number : ℕ} → Uses n (read-as.refused number)
 none = record { most = omega arith; all = λ e. let z : _≡_ {A = ℕ} 0 1 = cc in absurd (omega arith) }
 
-whole : {n : ℕ} {h : Header} {m : Message} {f : Failures} → Uses n (read-as.Message h n m f)
+whole : {n : ℕ} {h : Header} {m : Message} {f : FailureAnswer} → Uses n (read-as.means h n m f)
 whole = record { most = omega arith; all = λ e. refl }
 
 payload-uses : (id : ℕ) (h : Header) (n : ℕ) (p : List ℕ) → Uses n (payloadRead id h n p)
@@ -46,17 +43,17 @@ payload-uses id h n p =
     (either (eqb id 246) _ _ (either (trafficFormat .ranges (valueIn trafficFormat p)) _ _ whole none) none))))
 
 module _ (s : List ℕ) where
-  within : (f : Found) → found s ≡ f → usedBy (readBy f s) ≤ length s
-  within (Refused number) e = omega arith
-  within (Frame id h used) e =
+  within : (f : FrameAnswer) → found s ≡ f → usedBy (readBy f s) ≤ length s
+  within (refused number) e = omega arith
+  within (frame id h used) e =
       omega (arith, payload-uses id h used (payloadAt (used - 8) s) .most, accepted s id h used e .room)
 
   pub used-within : usedBy (readDue s) ≤ length s
   used-within = within (found s) refl
 
-  some : (f : Found) → found s ≡ f → isRefused (readBy f s) ≡ false → 0 < usedBy (readBy f s)
-  some (Refused number) e r = let z : _≡_ {A = ℕ} 0 1 = cc in absurd (omega arith)
-  some (Frame id h used) e r =
+  some : (f : FrameAnswer) → found s ≡ f → isRefused (readBy f s) ≡ false → 0 < usedBy (readBy f s)
+  some (refused number) e r = let z : _≡_ {A = ℕ} 0 1 = cc in absurd (omega arith)
+  some (frame id h used) e r =
       omega (arith, payload-uses id h used (payloadAt (used - 8) s) .all r, accepted s id h used e .ends)
 
   pub used-some : isRefused (readDue s) ≡ false → 0 < usedBy (readDue s)

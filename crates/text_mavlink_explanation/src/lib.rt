@@ -5,7 +5,8 @@ use mavlink_messages::Failures;
 use mavlink_messages::Message;
 use mavlink_messages::Read;
 use text_output::TextRoom;
-ghost use Rattle.mavlink_messages.specs.declared.Read.the-variants.{Message as ReadMessage, Refused as ReadRefused};
+ghost use Rattle.mavlink_messages.specs.Failures.{failureAnswer};
+ghost use Rattle.mavlink_messages.specs.Messages.{means, refused as refusedRead};
 ghost use Rattle.text_output.specs.Clips.{Clips};
 ghost use Rattle.text_mavlink_explanation.specs.Explanation.{frameLine, framesLine};
 ghost use Rattle.text_mavlink_explanation.specs.Calls.{WholeFrame, ExplainsFrame};
@@ -25,7 +26,7 @@ fn put_frame(
     message: Message,
     failures: Failures,
 ) -> usize
-    ensures { λ r. ⌜ Clips (now (text .entry)) 0 (frameLine (ReadMessage header used message failures)) r (now (text .exit)) ⌝ }
+    ensures { λ r. ⌜ Clips (now (text .entry)) 0 (frameLine (means header used message (failureAnswer failures))) r (now (text .exit)) ⌝ }
 {
     let at = text_output::put_word(text, 0, b"ok ");
     let at = text_output::put_natural(text, at, used as u64);
@@ -34,7 +35,7 @@ fn put_frame(
 }
 
 fn put_refused(text: &mut TextRoom, number: u8) -> usize
-    ensures { λ r. ⌜ Clips (now (text .entry)) 0 (frameLine (ReadRefused number)) r (now (text .exit)) ⌝ }
+    ensures { λ r. ⌜ Clips (now (text .entry)) 0 (frameLine (refusedRead number)) r (now (text .exit)) ⌝ }
 {
     let at = text_refusals::put_refusal(text, 0, number);
     text_output::put_octet(text, at, b'\n')

@@ -7,24 +7,22 @@ use lib.ListN.{length, length-append}
 use Rattle.text_fields.specs.Fields.{none, squawk}
 use Rattle.text_fields.proofs.Longest.{most, fields-most}
 use Rattle.mavlink_frame.specs.declared.Header.{Header}
-use Rattle.mavlink_messages.specs.declared.Lowest.{Lowest}
-use Rattle.mavlink_messages.specs.declared.Lowest.the-variants.{Bit, None}
-use Rattle.mavlink_messages.specs.declared.Failures.{Failures}
+use Rattle.mavlink_messages.specs.Failures.{LowestAnswer, bit, none, FailureAnswer}
 use Rattle.mavlink_messages.specs.declared.Message.{Message}
 use Rattle.mavlink_messages.specs.declared.Message.the-variants.{DataStream, Static, Dynamic, Status, Traffic}
 use Rattle.text_mavlink_messages.specs.Dynamic202.{dynamicFields}
 use Rattle.text_mavlink_messages.specs.Traffic246.{trafficFields}
 use Rattle.text_mavlink_messages.specs.Messages.{headerFields, dataStreamFields, staticFields, lowestShown, statusFields, mavlinkShown}
 
-lowest-most : (l : Lowest) → most (lowestShown l) ≤ 47
-lowest-most (Bit b) = omega arith
-lowest-most None = omega arith
+lowest-most : (l : LowestAnswer) → most (lowestShown l) ≤ 47
+lowest-most (bit b) = omega arith
+lowest-most none = omega arith
 
 squawk-most : (b : Bool) (n : ℕ) → most (cond b none (squawk n)) ≤ 4
 squawk-most true n = omega arith
 squawk-most false n = omega arith
 
-pub message-most : (h : Header) (m : Message) (f : Failures) → length (mavlinkShown h m f) ≤ 1400
+pub message-most : (h : Header) (m : Message) (f : FailureAnswer) → length (mavlinkShown h m f) ≤ 1400
 unfolding mavlinkShown
 message-most h (DataStream d) f = simp length-append (omega (arith, fields-most (headerFields h), fields-most (dataStreamFields d)))
 message-most h (Static s) f = simp length-append (omega (arith, fields-most (headerFields h), fields-most (staticFields s)))

@@ -17,9 +17,8 @@ use Rattle.mavlink_messages.specs.declared.Static.{Static}
 use Rattle.mavlink_messages.specs.declared.Dynamic.{Dynamic}
 use Rattle.mavlink_messages.specs.declared.Status.{Status}
 use Rattle.mavlink_messages.specs.declared.Traffic.{Traffic}
-use Rattle.mavlink_messages.specs.declared.Lowest.{Lowest}
-use Rattle.mavlink_messages.specs.declared.Lowest.the-variants.{Bit, None}
-use Rattle.mavlink_messages.specs.declared.Failures.{Failures}
+use Rattle.mavlink_messages.specs.Failures as failures-as
+use Rattle.mavlink_messages.specs.Failures.{LowestAnswer, bit, FailureAnswer}
 use Rattle.mavlink_messages.specs.declared.Message.{Message}
 use Rattle.mavlink_messages.specs.declared.Message.the-variants as message-as
 
@@ -54,12 +53,12 @@ staticFields s =
     ∷ "longitudinal" is number (s .«gps_lon_offs»)
     ∷ []
 
-abbrev pub lowestShown : Lowest → Value
-lowestShown (Bit b) = reading Ones Bare (Known (pos b))
-lowestShown None = none
+abbrev pub lowestShown : LowestAnswer → Value
+lowestShown (bit b) = reading Ones Bare (Known (pos b))
+lowestShown failures-as.none = none
 
 -- 203, with how many failures it reports and the lowest
-abbrev pub statusFields : Status → Failures → List Labelled
+abbrev pub statusFields : Status → FailureAnswer → List Labelled
 statusFields s f =
     "status" is hexadecimal 2 (s .status)
     ∷ "failures" is reading Ones Bare (Known (pos (f .count)))
@@ -71,7 +70,7 @@ abbrev pub heading : String → Header → List ℕ
 heading name h = codes name ++ fieldsShown (headerFields h)
 
 -- a message by its kind's name, its frame's header and its fields
-unfoldable pub mavlinkShown : Header → Message → Failures → List ℕ
+unfoldable pub mavlinkShown : Header → Message → FailureAnswer → List ℕ
 mavlinkShown h (message-as.DataStream d) f = heading " data stream request" h ++ fieldsShown (dataStreamFields d)
 mavlinkShown h (message-as.Static s) f = heading " static" h ++ fieldsShown (staticFields s)
 mavlinkShown h (message-as.Dynamic d) f = heading " dynamic" h ++ fieldsShown (dynamicFields d)

@@ -15,6 +15,7 @@ use text_output::put_word;
 ghost use mathlib.Core.List.{_++_};
 ghost use Rattle.text_output.specs.Clips.{Clips};
 ghost use Rattle.text_fields.specs.Fields.{fieldsShown};
+ghost use Rattle.mavlink_messages.specs.Failures.{failureAnswer};
 ghost use Rattle.text_mavlink_messages.specs.Dynamic202.{dynamicFields};
 ghost use Rattle.text_mavlink_messages.specs.Traffic246.{trafficFields};
 ghost use Rattle.text_mavlink_messages.specs.Messages.{headerFields, dataStreamFields, staticFields, statusFields, mavlinkShown};
@@ -123,7 +124,7 @@ fn put_dynamic(text: &mut TextRoom, at: usize, message: Dynamic) -> usize
 }
 
 fn put_status(text: &mut TextRoom, at: usize, message: Status, failures: Failures) -> usize
-    ensures { λ r. ⌜ Clips (now (text .entry)) at (fieldsShown (statusFields message failures)) r (now (text .exit)) ⌝ }
+    ensures { λ r. ⌜ Clips (now (text .entry)) at (fieldsShown (statusFields message (failureAnswer failures))) r (now (text .exit)) ⌝ }
 {
     let lowest = failures.lowest;
     match lowest {
@@ -202,7 +203,7 @@ pub fn put_message(
     message: Message,
     failures: Failures,
 ) -> usize
-    ensures { λ r. ⌜ Clips (now (text .entry)) at (mavlinkShown header message failures) r (now (text .exit)) ⌝ }
+    ensures { λ r. ⌜ Clips (now (text .entry)) at (mavlinkShown header message (failureAnswer failures)) r (now (text .exit)) ⌝ }
 {
     match message {
         Message::DataStream(data_stream) => {

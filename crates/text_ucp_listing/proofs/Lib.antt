@@ -4,4 +4,3 @@ pub mod Whole
 pub mod Longest
 pub mod Runs
 pub mod Slices
-pub mod Example

@@ -13,30 +13,28 @@ use Rattle.mavlink_messages.specs.declared.DataStream as stream-as
 use Rattle.mavlink_messages.specs.declared.Static as static-as
 use Rattle.mavlink_messages.specs.declared.Dynamic as dynamic-as
 use Rattle.mavlink_messages.specs.declared.Traffic as traffic-as
-use Rattle.mavlink_messages.specs.declared.Lowest.{Lowest}
-use Rattle.mavlink_messages.specs.declared.Lowest.the-variants.{Bit, None}
-use Rattle.mavlink_messages.specs.declared.Failures.{Failures}
+use Rattle.mavlink_messages.specs.Failures.{LowestAnswer, bit, none, FailureAnswer}
 use Rattle.mavlink_messages.specs.declared.Message.{Message}
 use Rattle.mavlink_messages.specs.declared.Message.the-variants.{DataStream, Static, Dynamic, Status, Traffic}
-use Rattle.mavlink_messages.specs.declared.Read.the-variants as read-as
+use Rattle.mavlink_messages.specs.Messages as read-as
 use Rattle.mavlink_messages.specs.Messages.{inRange, readDue, messageFrame, payloadOf}
 use Rattle.thm_kind_examples.specs.Octets.{withOctet, letters}
 
 abbrev pub header : Header
 header = record { sequence = 1; system = 2; component = 3 }
 
-abbrev pub failures : ℕ → Lowest → Failures
+abbrev pub failures : ℕ → LowestAnswer → FailureAnswer
 failures count lowest = record { count = count; lowest = lowest }
 
 -- the frame reads as the message, of so many octets and with these failures, and the message, which fits, is written as the frame
-pub record FrameCarries (frame : List ℕ) (m : Message) (f : Failures) : Type 0 where
-  pub read : readDue frame ≡ read-as.Message header (length frame) m f
+pub record FrameCarries (frame : List ℕ) (m : Message) (f : FailureAnswer) : Type 0 where
+  pub read : readDue frame ≡ read-as.means header (length frame) m f
   pub fit : inRange m ≡ true
   pub written : messageFrame m header ≡ frame
 
 -- the reader's refusal of a frame, and of a right frame around a message's payload with another octet at one place
 abbrev pub FrameRefuses : ℕ → List ℕ → Type 0
-FrameRefuses number frame = readDue frame ≡ read-as.Refused number
+FrameRefuses number frame = readDue frame ≡ read-as.refused number
 
 abbrev pub OutOfRange : ℕ → ℕ → ℕ → Message → Type 0
 OutOfRange id place octet m = FrameRefuses because.mavlinkField (frameOf id header (withOctet place octet (payloadOf m)))
@@ -109,8 +107,8 @@ statusFrame = 0xFE ∷ 0x01 ∷ 0x01 ∷ 0x02 ∷ 0x03 ∷ 0xCB ∷ 0x1E ∷ 0xA
 abbrev pub status : ℕ → Message
 status octet = Status (record { status = octet })
 
-abbrev pub Reports : ℕ → ℕ → Lowest → Type 0
-Reports octet count lowest = readDue (frameOf 203 header (octet ∷ [])) ≡ read-as.Message header 9 (status octet) (failures count lowest)
+abbrev pub Reports : ℕ → ℕ → LowestAnswer → Type 0
+Reports octet count lowest = readDue (frameOf 203 header (octet ∷ [])) ≡ read-as.means header 9 (status octet) (failures count lowest)
 
 -- ---- 246: squawk 65535, a callsign and its ninth octet that no rule holds, marks that are not known
 abbrev pub trafficFrame : List ℕ
@@ -145,9 +143,9 @@ pub record MavlinkKindExamples : Type 0 where
   pub one-octet-short : FrameRefuses because.mavlinkShort (take 8 statusFrame)
   pub wrong-check : FrameRefuses because.mavlinkWrongCheck (withOctet 6 0x1F statusFrame)
   -- ---- 66
-  pub stream : FrameCarries streamFrame (DataStream streamValue) (failures 0 None)
+  pub stream : FrameCarries streamFrame (DataStream streamValue) (failures 0 none)
   -- ---- 201
-  pub static : FrameCarries staticFrame (Static staticValue) (failures 0 None)
+  pub static : FrameCarries staticFrame (Static staticValue) (failures 0 none)
   pub address-of-25-bits : inRange (Static (staticWith 0x1000000)) ≡ false
   pub lower-case : OutOfRange 201 6 0x61 (Static staticValue)
   pub hyphen : OutOfRange 201 6 0x2D (Static staticValue)
@@ -157,19 +155,19 @@ pub record MavlinkKindExamples : Type 0 where
   pub lateral-8 : OutOfRange 201 17 8 (Static staticValue)
   pub longitudinal-32 : OutOfRange 201 18 32 (Static staticValue)
   -- ---- 202
-  pub dynamic : FrameCarries dynamicFrame (Dynamic dynamicValue) (failures 0 None)
+  pub dynamic : FrameCarries dynamicFrame (Dynamic dynamicValue) (failures 0 none)
   pub squawk-7778 : OutOfRange 202 36 0x62 (Dynamic dynamicValue)
   pub fix-6 : OutOfRange 202 38 6 (Dynamic dynamicValue)
   -- ---- 203: failure bits 1 to 4 count, the others do not
-  pub four-failures : FrameCarries statusFrame (status 0x1E) (failures 4 (Bit 1))
-  pub bit-0 : Reports 0x01 0 None
-  pub bit-1 : Reports 0x02 1 (Bit 1)
-  pub bits-2-and-3 : Reports 0x0C 2 (Bit 2)
-  pub bit-4 : Reports 0x10 1 (Bit 4)
-  pub bit-5 : Reports 0x20 0 None
-  pub all-bits : Reports 0xFF 4 (Bit 1)
+  pub four-failures : FrameCarries statusFrame (status 0x1E) (failures 4 (bit 1))
+  pub bit-0 : Reports 0x01 0 none
+  pub bit-1 : Reports 0x02 1 (bit 1)
+  pub bits-2-and-3 : Reports 0x0C 2 (bit 2)
+  pub bit-4 : Reports 0x10 1 (bit 4)
+  pub bit-5 : Reports 0x20 0 none
+  pub all-bits : Reports 0xFF 4 (bit 1)
   -- ---- 246
-  pub traffic : FrameCarries trafficFrame (Traffic (trafficWith 65535)) (failures 0 None)
+  pub traffic : FrameCarries trafficFrame (Traffic (trafficWith 65535)) (failures 0 none)
   pub squawk-of-traffic-7777 : inRange (Traffic (trafficWith 7777)) ≡ true
   pub squawk-of-traffic-7778 : inRange (Traffic (trafficWith 7778)) ≡ false
   pub squawk-of-traffic-65534 : OutOfRange 246 24 0xFE (Traffic (trafficWith 65535))

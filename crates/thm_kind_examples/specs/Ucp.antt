@@ -7,9 +7,7 @@ use Prim.Native.Nat.{ℕ}
 use lib.IntN.{ℤ, pos, negsuc}
 use lib.ListN.{take, replicate}
 use Rattle.refusals.specs.Numbers as because
-use Rattle.ucp_meanings.specs.declared.Altitude.the-variants as altitude
-use Rattle.ucp_meanings.specs.declared.Rate.the-variants as rate
-use Rattle.ucp_meanings.specs.Meanings.{altitudeMeans, rateMeans, geometricMeans}
+use Rattle.ucp_meanings.specs.Meanings.{noData, value, altitudeMeans, rateMeans, geometricMeans}
 use Rattle.ucp_kinds.specs.declared.Heartbeat as heartbeat-as
 use Rattle.ucp_kinds.specs.declared.Report as report-as
 use Rattle.ucp_kinds.specs.declared.GeometricAltitude as geometric-as
@@ -190,12 +188,12 @@ pub record UcpKindExamples : Type 0 where
   pub rate-too-high : Unfit (Traffic (reportWith 1 0xFFFFFF (negsuc 8388607) (pos 2048) 0xFFF 2))
   pub altitude-1000 : Unfit (Traffic (reportWith 1 0xFFFFFF (negsuc 8388607) (negsuc 2047) 0x1000 2))
   pub spare-16 : Unfit (Traffic (reportWith 1 0xFFFFFF (negsuc 8388607) (negsuc 2047) 0xFFF 16))
-  pub altitude-FFF : altitudeMeans 0xFFF ≡ altitude.NoData
-  pub altitude-FFE : altitudeMeans 0xFFE ≡ altitude.Feet (pos 101350)
-  pub altitude-0 : altitudeMeans 0 ≡ altitude.Feet (negsuc 999)
-  pub rate-800 : rateMeans (negsuc 2047) ≡ rate.NoData
-  pub rate-801 : rateMeans (negsuc 2046) ≡ rate.FeetPerMinute (negsuc 131007)
-  pub rate-7FF : rateMeans (pos 2047) ≡ rate.FeetPerMinute (pos 131008)
+  pub altitude-FFF : altitudeMeans 0xFFF ≡ noData
+  pub altitude-FFE : altitudeMeans 0xFFE ≡ value (pos 101350)
+  pub altitude-0 : altitudeMeans 0 ≡ value (negsuc 999)
+  pub rate-800 : rateMeans (negsuc 2047) ≡ noData
+  pub rate-801 : rateMeans (negsuc 2046) ≡ value (negsuc 131007)
+  pub rate-7FF : rateMeans (pos 2047) ≡ value (pos 131008)
   -- ---- 11
   pub geometric : BodyCarries geometricBody (GeometricAltitude geometricValue)
   pub geometric-of-4 : Refuses because.messageLength (take 4 geometricBody)

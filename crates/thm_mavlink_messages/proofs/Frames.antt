@@ -11,14 +11,14 @@ use Rattle.crc_polynomial.specs.Polynomial.{Octets}
 use Rattle.crc_x25.specs.Check.{x25, x25Octets}
 use Rattle.mavlink_frame.specs.declared.Kind.{Kind}
 use Rattle.mavlink_frame.specs.declared.Header.{Header}
-use Rattle.mavlink_frame.specs.declared.Lookup.the-variants.{Known}
-use Rattle.mavlink_frame.specs.declared.Found.the-variants as found-as
+use Rattle.mavlink_frame.specs.Frame as kinds-as
+use Rattle.mavlink_frame.specs.Reader as found-as
 use Rattle.mavlink_frame.specs.Frame.{mavlinkKind, headerOctets, covered, mavlinkFrame}
 use Rattle.mavlink_frame.specs.Reader.{payloadAt, checkAt, checkDue, found}
 use Rattle.mavlink_frame.proofs.reader.Tests.{right}
 use Rattle.mavlink_frame.proofs.reader.Accepted.{Accepted}
 
-module _ (k : Kind) (h : Header) (payload rest : List ℕ) (known : mavlinkKind (k .id) ≡ Known k) (l : length payload ≡ k .length) where
+module _ (k : Kind) (h : Header) (payload rest : List ℕ) (known : mavlinkKind (k .id) ≡ kinds-as.known k) (l : length payload ≡ k .length) where
   abbrev pub check : ℕ
   check = x25 (covered k h payload)
 
@@ -52,7 +52,7 @@ module _ (k : Kind) (h : Header) (payload rest : List ℕ) (known : mavlinkKind 
       ∙ ap (λ (xs : List ℕ). x25 (xs ++ k .extra ∷ []))
       (sym (take-at (drop 1 (headerOctets k h ++ payload)) (check % 256 ∷ check / 256 ∷ rest) (k .length + 5) (omega arith)))
 
-  pub frame-found : found whole ≡ found-as.Frame (k .id) h (k .length + 8)
+  pub frame-found : found whole ≡ found-as.frame (k .id) h (k .length + 8)
   unfolding found
   frame-found =
       let a = whole-length in

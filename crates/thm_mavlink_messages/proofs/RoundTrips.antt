@@ -15,24 +15,22 @@ use Rattle.output_writing.specs.declared.Written.the-variants.{Wrote, Refused}
 use Rattle.output_writing.specs.Writing.{refused, wrote, writerAnswer, outputAfter, Writing}
 use Rattle.mavlink_frame.specs.declared.Kind.{Kind}
 use Rattle.mavlink_frame.specs.declared.Header.{Header}
-use Rattle.mavlink_frame.specs.declared.Lookup.the-variants.{Known}
-use Rattle.mavlink_frame.specs.declared.Found.{Found}
-use Rattle.mavlink_frame.specs.declared.Found.the-variants as found-as
+use Rattle.mavlink_frame.specs.Frame as kinds-as
+use Rattle.mavlink_frame.specs.Reader as found-as
 use Rattle.mavlink_frame.specs.Frame.{kind, mavlinkKind, mavlinkFrame}
-use Rattle.mavlink_frame.specs.Reader.{payloadAt, found}
+use Rattle.mavlink_frame.specs.Reader.{FrameAnswer, payloadAt, found}
 use Rattle.mavlink_frame.specs.Writer.{roomFor, frameBy}
 use Rattle.mavlink_frame.proofs.reader.Accepted.{Accepted, accepted}
-use Rattle.mavlink_messages.specs.declared.Failures.{Failures}
+use Rattle.mavlink_messages.specs.Failures.{FailureAnswer}
 use Rattle.mavlink_messages.specs.declared.Message.{Message}
 use Rattle.mavlink_messages.specs.declared.Message.the-variants.{DataStream, Static, Dynamic, Status, Traffic}
-use Rattle.mavlink_messages.specs.declared.Read.{Read}
-use Rattle.mavlink_messages.specs.declared.Read.the-variants as read-as
+use Rattle.mavlink_messages.specs.Messages as read-as
 use Rattle.mavlink_messages.specs.DataStream66.{dataStreamFormat}
 use Rattle.mavlink_messages.specs.Static201.{staticFormat}
 use Rattle.mavlink_messages.specs.Dynamic202.{dynamicFormat}
 use Rattle.mavlink_messages.specs.Status203.{statusFormat}
 use Rattle.mavlink_messages.specs.Traffic246.{trafficFormat}
-use Rattle.mavlink_messages.specs.Messages.{idOf, payloadOf, inRange, failuresOf, messageJudged, payloadRead, readBy, readDue, ofItsKind, writeDue, messageFrame}
+use Rattle.mavlink_messages.specs.Messages.{MavlinkAnswer, idOf, payloadOf, inRange, failuresOf, messageJudged, payloadRead, readBy, readDue, ofItsKind, writeDue, messageFrame}
 use Rattle.thm_mavlink_messages.specs.RoundTrips.{MavlinkTyped, MavlinkReadIsTyped, MavlinkReadsBack, MavlinkWritesBack}
 use Rattle.thm_mavlink_messages.proofs.Frames.{whole, whole-is, frame-found, frame-payload, accepted-frame, payload-length, frame-length}
 use Rattle.field_format.proofs.Formats.{value-back, value-typed, body-again}
@@ -46,7 +44,7 @@ kindFor (Dynamic d) = kind 202 42 7
 kindFor (Status s) = kind 203 1 85
 kindFor (Traffic t) = kind 246 38 184
 
-in-table : (m : Message) → mavlinkKind (kindFor m .id) ≡ Known (kindFor m)
+in-table : (m : Message) → mavlinkKind (kindFor m .id) ≡ kinds-as.known (kindFor m)
 unfolding mavlinkKind kindFor
 in-table (DataStream d) = refl
 in-table (Static s) = refl
@@ -118,17 +116,17 @@ record Carried (id : ℕ) (p : List ℕ) (h : Header) (used : ℕ) (h′ : Heade
   pub header : h ≡ h′
   pub ends : used ≡ used′
 
-branch : {C : Type 0} (t : Bool) {x rest r : Read} → cond t x rest ≡ r → (t ≡ true → x ≡ r → C) → (rest ≡ r → C) → C
+branch : {C : Type 0} (t : Bool) {x rest r : MavlinkAnswer} → cond t x rest ≡ r → (t ≡ true → x ≡ r → C) → (rest ≡ r → C) → C
 branch true e met past = met refl e
 branch false e met past = past e
 
-module _ (id : ℕ) (p : List ℕ) (h : Header) (used : ℕ) (h′ : Header) (used′ : ℕ) (m : Message) (f : Failures)
+module _ (id : ℕ) (p : List ℕ) (h : Header) (used : ℕ) (h′ : Header) (used′ : ℕ) (m : Message) (f : FailureAnswer)
     (o : Octets p) (fits : ofItsKind id (length p) ≡ true) where
   of-message : (n : ℕ) (m₀ : Message) → eqb id n ≡ true → idOf m₀ ≡ n → payloadOf m₀ ≡ p → MavlinkTyped m₀
-      → messageJudged h used m₀ ≡ read-as.Message h′ used′ m f → Carried id p h used h′ used′ m
+      → messageJudged h used m₀ ≡ read-as.means h′ used′ m f → Carried id p h used h′ used′ m
   of-message n m₀ t i c told = go (inRange m₀) refl
     where
-      go : (b : Bool) → inRange m₀ ≡ b → cond b (read-as.Message h used m₀ (failuresOf m₀)) (read-as.Refused 25) ≡ read-as.Message h′ used′ m f
+      go : (b : Bool) → inRange m₀ ≡ b → cond b (read-as.means h used m₀ (failuresOf m₀)) (read-as.refused 25) ≡ read-as.means h′ used′ m f
           → Carried id p h used h′ used′ m
       go false r e = let z : _≡_ {A = ℕ} 0 1 = cc in absurd (omega arith)
       go true r e =
@@ -146,7 +144,7 @@ module _ (id : ℕ) (p : List ℕ) (h : Header) (used : ℕ) (h′ : Header) (us
   sized : (n : ℕ) → eqb id n ≡ true → ofItsKind n (length p) ≡ true
   sized n t = subst (λ (i : ℕ). ofItsKind i (length p) ≡ true) (eqb-true _ _ t) fits
 
-  carried : payloadRead id h used p ≡ read-as.Message h′ used′ m f → Carried id p h used h′ used′ m
+  carried : payloadRead id h used p ≡ read-as.means h′ used′ m f → Carried id p h used h′ used′ m
   unfolding mavlinkKind
   carried e =
       branch (eqb id 66) e (λ t. of-message 66 (DataStream (valueIn dataStreamFormat p)) t refl (body-again dataStreamFormat dataStream-right p o (eqb-true _ _ (sized 66 t)) tt refl) (value-typed dataStreamFormat dataStream-right p o (eqb-true _ _ (sized 66 t)))) (λ e.
@@ -170,9 +168,9 @@ is-wrote : (r : Written) (n : ℕ) → writerAnswer r ≡ wrote n → r ≡ Wrot
 is-wrote (Wrote k) n e = let same : k ≡ n = cc in ap Wrote same
 is-wrote (Refused k) n e = let z : _≡_ {A = ℕ} 0 1 = cc in absurd (omega arith)
 
-module _ (s : List ℕ) (h : Header) (used : ℕ) (m : Message) (f : Failures) (o : Octets s)
+module _ (s : List ℕ) (h : Header) (used : ℕ) (m : Message) (f : FailureAnswer) (o : Octets s)
     (id : ℕ) (h₀ : Header) (used₀ : ℕ) (a : Accepted s id h₀ used₀)
-    (e : payloadRead id h₀ used₀ (payloadAt (used₀ - 8) s) ≡ read-as.Message h used m f) where
+    (e : payloadRead id h₀ used₀ (payloadAt (used₀ - 8) s) ≡ read-as.means h used m f) where
   size : used₀ - 8 ≡ a .kind .length
   size = let b = a .ends in omega arith
 
@@ -224,17 +222,17 @@ module _ (s : List ℕ) (h : Header) (used : ℕ) (m : Message) (f : Failures) (
 pub accepted-writes-back : MavlinkWritesBack
 accepted-writes-back s h used m f o e = go (found s) refl e
   where
-    go : (l : Found) → found s ≡ l → readBy l s ≡ read-as.Message h used m f
+    go : (l : FrameAnswer) → found s ≡ l → readBy l s ≡ read-as.means h used m f
         → (output after : List ℕ) (r : Written) → used ≤ length output
         → Writing (writeDue m output) (messageFrame m h) output r after
         → (r ≡ Wrote used) × (after ≡ take used s ++ drop used output)
-    go (found-as.Refused number) q d = let z : _≡_ {A = ℕ} 0 1 = cc in absurd (omega arith)
-    go (found-as.Frame id h₀ used₀) q d = written-again s h used m f o id h₀ used₀ (accepted s id h₀ used₀ q) d
+    go (found-as.refused number) q d = let z : _≡_ {A = ℕ} 0 1 = cc in absurd (omega arith)
+    go (found-as.frame id h₀ used₀) q d = written-again s h used m f o id h₀ used₀ (accepted s id h₀ used₀ q) d
 
 -- ---- what the reader gives is a value of its type
 pub read-is-typed : MavlinkReadIsTyped
 read-is-typed s h used m f o e = go (found s) refl e
   where
-    go : (l : Found) → found s ≡ l → readBy l s ≡ read-as.Message h used m f → MavlinkTyped m
-    go (found-as.Refused number) q d = let z : _≡_ {A = ℕ} 0 1 = cc in absurd (omega arith)
-    go (found-as.Frame id h₀ used₀) q d = is-carried s h used m f o id h₀ used₀ (accepted s id h₀ used₀ q) d .typed
+    go : (l : FrameAnswer) → found s ≡ l → readBy l s ≡ read-as.means h used m f → MavlinkTyped m
+    go (found-as.refused number) q d = let z : _≡_ {A = ℕ} 0 1 = cc in absurd (omega arith)
+    go (found-as.frame id h₀ used₀) q d = is-carried s h used m f o id h₀ used₀ (accepted s id h₀ used₀ q) d .typed

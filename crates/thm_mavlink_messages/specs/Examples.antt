@@ -8,7 +8,7 @@ use Rattle.mavlink_frame.specs.declared.Header.{Header}
 use Rattle.mavlink_messages.specs.declared.Static as static-as
 use Rattle.mavlink_messages.specs.declared.Dynamic as dynamic-as
 use Rattle.mavlink_messages.specs.declared.Message.the-variants.{Static, Dynamic}
-use Rattle.mavlink_messages.specs.declared.Read.the-variants as read-as
+use Rattle.mavlink_messages.specs.Messages as read-as
 use Rattle.mavlink_messages.specs.Failures.{noFailures}
 use Rattle.mavlink_messages.specs.Messages.{readDue, messageFrame}
 
@@ -68,7 +68,7 @@ staticHeader = record { sequence = 0x2F; system = 0; component = 0 }
 
 pub record PacketExamples : Type 0 where
   pub nine-digits : x25 digits ≡ 0x6F91
-  pub dynamic-read : readDue dynamicPacket ≡ read-as.Message dynamicHeader 50 (Dynamic dynamicMessage) noFailures
+  pub dynamic-read : readDue dynamicPacket ≡ read-as.means dynamicHeader 50 (Dynamic dynamicMessage) noFailures
   pub dynamic-written : messageFrame (Dynamic dynamicMessage) dynamicHeader ≡ dynamicPacket
-  pub static-read : readDue staticPacket ≡ read-as.Message staticHeader 27 (Static staticMessage) noFailures
+  pub static-read : readDue staticPacket ≡ read-as.means staticHeader 27 (Static staticMessage) noFailures
   pub static-written : messageFrame (Static staticMessage) staticHeader ≡ staticPacket

@@ -9,10 +9,10 @@ use Rattle.output_writing.specs.declared.Written.{Written}
 use Rattle.output_writing.specs.declared.Written.the-variants.{Wrote}
 use Rattle.output_writing.specs.Writing.{Writing}
 use Rattle.mavlink_frame.specs.declared.Header.{Header}
-use Rattle.mavlink_messages.specs.declared.Failures.{Failures}
+use Rattle.mavlink_messages.specs.Failures.{FailureAnswer}
 use Rattle.mavlink_messages.specs.declared.Message.{Message}
 use Rattle.mavlink_messages.specs.declared.Message.the-variants.{DataStream, Static, Dynamic, Status, Traffic}
-use Rattle.mavlink_messages.specs.declared.Read.the-variants as read-as
+use Rattle.mavlink_messages.specs.Messages as read-as
 use Rattle.mavlink_messages.specs.DataStream66.{dataStreamFormat}
 use Rattle.mavlink_messages.specs.Static201.{staticFormat}
 use Rattle.mavlink_messages.specs.Dynamic202.{dynamicFormat}
@@ -32,19 +32,19 @@ MavlinkTyped (Traffic t) = TypedAs trafficFormat t
 -- every message that the reader gives is one
 abbrev pub MavlinkReadIsTyped : Type 0
 MavlinkReadIsTyped =
-    (s : List ℕ) (h : Header) (used : ℕ) (m : Message) (f : Failures) → Octets s → readDue s ≡ read-as.Message h used m f → MavlinkTyped m
+    (s : List ℕ) (h : Header) (used : ℕ) (m : Message) (f : FailureAnswer) → Octets s → readDue s ≡ read-as.means h used m f → MavlinkTyped m
 
 -- ---- a written frame reads back equal, with anything behind it: the same kind, fields and header, and its own length
 abbrev pub MavlinkReadsBack : Type 0
 MavlinkReadsBack =
     (m : Message) (h : Header) (output after : List ℕ) (n : ℕ) → MavlinkTyped m
     → Writing (writeDue m output) (messageFrame m h) output (Wrote n) after
-    → readDue after ≡ read-as.Message h n m (failuresOf m)
+    → readDue after ≡ read-as.means h n m (failuresOf m)
 
 -- ---- an accepted frame writes back to the same octets, wherever there is room for them
 abbrev pub MavlinkWritesBack : Type 0
 MavlinkWritesBack =
-    (s : List ℕ) (h : Header) (used : ℕ) (m : Message) (f : Failures) → Octets s → readDue s ≡ read-as.Message h used m f
+    (s : List ℕ) (h : Header) (used : ℕ) (m : Message) (f : FailureAnswer) → Octets s → readDue s ≡ read-as.means h used m f
     → (output after : List ℕ) (r : Written) → used ≤ length output
     → Writing (writeDue m output) (messageFrame m h) output r after
     → (r ≡ Wrote used) × (after ≡ take used s ++ drop used output)

@@ -2,22 +2,22 @@
 -- counts. Assumes nothing.
 use mathlib.Core.Path.{_≡_, refl, sym, _∙_, ap, ap₂, subst}
 use mathlib.Core.List.{List, [], _∷_, _++_, map, append-nil, append-assoc, nil≢cons, cons≢nil, head-eq-of-cons-eq, tail-eq-of-cons-eq}
-use Prim.Native.Nat.{ℕ, _+_, _%_, _^_}
+use Prim.Native.Nat.{ℕ, _+_, _-_, _%_, _^_}
 use native.Mathlib.Nat.{add-mod, add-mod-mod, mod-mod}
-use lib.ListN.{length, drop}
+use lib.ListN.{length, take, drop, replicate}
 use lib.Seq.{take-append-seam}
 use borrow.Author.Tests.{eq-eqb}
 use Rattle.ucp_frame.specs.Frame.{flag}
-use Rattle.ucp_frame.specs.Stretch.{Verdict, silent, refused, delivered}
-use Rattle.ucp_history.specs.History.{Call, cutAtFlags, answer, overClosed, sinceLast, Account, account}
+use Rattle.ucp_frame.specs.Stretch.{unstuffed, Verdict, silent, refused, delivered, storeOctets}
+use Rattle.ucp_history.specs.History.{Call, Segment, cutAtFlags, answer, overClosed, sinceLast, Account, account}
 use Rattle.ucp_receiver.specs.declared.Counts.{Counts}
 use Rattle.ucp_receiver.specs.declared.Record.{Record}
 use Rattle.ucp_receiver.specs.Answers.{ReceiverAnswer, answerFor, outputAtFlag}
 use Rattle.ucp_receiver.specs.Octet.{State, afterFlag, stateAfter, verdictDue, countsAfter}
 use Rattle.thm_ucp_receiver.specs.Line.{Observed, callOf, upTo, Meets, Runs, Line}
-use Rattle.thm_ucp_receiver.specs.Promises.{AnswersByHistory, CountsByHistory, EveryOctetCounted, StoreClean, FlagClears, putOut, Seen, seen, LaterOnly}
+use Rattle.thm_ucp_receiver.specs.Promises.{AnswersByHistory, CountsByHistory, EveryOctetCounted, StoreClean, openStretch, StoreByHistory, HuntingStoresNothing, FlagClears, putOut, Seen, seen, LaterOnly}
 use Rattle.thm_ucp_receiver.proofs.Cut.{account-sum}
-use Rattle.thm_ucp_receiver.proofs.Record.{Stands, stands-fresh, stands-next, stands-answer, stands-clean}
+use Rattle.thm_ucp_receiver.proofs.Record.{Stands, stands-fresh, stands-next, stands-answer, stands-clean, stands-holds}
 use Rattle.thm_ucp_receiver.proofs.Counts.{counted, stands-counts}
 
 -- ---- the record after a history
@@ -104,6 +104,22 @@ counts before after o l =
 
 pub store-clean : StoreClean
 store-clean before after o l = stands-clean _ _ (after-call before after o l .stands)
+
+pub store-by-history : StoreByHistory
+store-by-history before after o l = stands-holds _ _ (after-call before after o l .stands)
+
+pub hunting-stores-nothing : HuntingStoresNothing
+unfolding openStretch unstuffed
+hunting-stores-nothing before after o l e =
+    let k = store-by-history before after o l in (
+      k .number ∙ ap (λ (fs : List Segment). length (take storeOctets (unstuffed (openStretch fs) .octets))) e,
+      k .octets ∙ ap held e,
+    )
+  where
+    held : List Segment → List ℕ
+    held fs =
+        take storeOctets (unstuffed (openStretch fs) .octets)
+        ++ replicate (storeOctets - length (take storeOctets (unstuffed (openStretch fs) .octets))) 0
 
 pub flag-clears : FlagClears
 unfolding stateAfter

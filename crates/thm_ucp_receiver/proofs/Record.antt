@@ -7,6 +7,7 @@ use Prim.Native.Nat.{ℕ, zero, suc, _-_, _≤_}
 use native.Mathlib.Omega.{arith}
 use lib.Dec.{eqb, ltb}
 use lib.ListN.{length, take, getD, replicate, length-append, length-replicate, length-take}
+use lib.Seq.{take-all}
 use borrow.Author.Tests.{eqb-true, eqb-false, ltb-false}
 use Rattle.ucp_frame.specs.Frame.{flag}
 use Rattle.ucp_frame.specs.Stretch.{Unstuffed, unstuffed, Verdict, silent, storeOctets}
@@ -14,7 +15,7 @@ use Rattle.ucp_history.specs.History.{Call, Segment, cutAtFlags, closingVerdict
 use Rattle.ucp_receiver.specs.declared.Phase.{Phase}
 use Rattle.ucp_receiver.specs.declared.Phase.the-variants.{Hunting, TooLong}
 use Rattle.ucp_receiver.specs.Octet.{State, fresh, stateAfter, verdictDue}
-use Rattle.thm_ucp_receiver.specs.Promises.{CleanBeyond}
+use Rattle.thm_ucp_receiver.specs.Promises.{CleanBeyond, openStretch, StoreAs}
 use Rattle.thm_ucp_receiver.proofs.Reached.{advanced, closed, holding, phaseAt, reached, reached-more, reached-closed}
 use Rattle.thm_ucp_receiver.proofs.Cut.{segment, flags-flag, flags-octet, read-more, closing-last}
 
@@ -80,3 +81,45 @@ reached-clean u = go (ltb storeOctets (length (u .octets))) refl
 pub stands-clean : (h : List Call) (s : State) → Stands h s → CleanBeyond (s .rest .stored) (s .store)
 stands-clean h s (hunts p q) = subst Clean (sym p) (clean Hunting [] (omega arith))
 stands-clean h s (reads done room raw p q) = subst Clean (sym p) (reached-clean (unstuffed raw))
+
+-- ---- the store by the history
+
+open-last : (done : List Segment) (s : Segment) → openStretch (done ++ (s ∷ [])) ≡ s .octets
+unfolding openStretch
+open-last [] s = refl
+open-last (d ∷ []) s = refl
+open-last (d ∷ e ∷ es) s = open-last (e ∷ es) s
+
+-- this stretch is held, as far as it is read and the store goes, and zero behind
+record Holds (raw : List ℕ) (s : State) : Type 0 where
+  number : s .rest .stored ≡ length (take storeOctets (unstuffed raw .octets))
+  octets : s .store ≡ take storeOctets (unstuffed raw .octets) ++ replicate (storeOctets - length (take storeOctets (unstuffed raw .octets))) 0
+
+reached-holds : (raw : List ℕ) → Holds raw (reached (unstuffed raw))
+unfolding reached
+reached-holds raw = go (ltb storeOctets (length (u .octets))) refl
+  where
+    u : Unstuffed
+    u = unstuffed raw
+
+    go : (t : Bool) → ltb storeOctets (length (u .octets)) ≡ t → Holds raw (reached u)
+    go true e = rw e (record { number = refl; octets = refl })
+    go false e =
+        let all : take storeOctets (u .octets) ≡ u .octets = take-all storeOctets (u .octets) (ltb-false storeOctets (length (u .octets)) e) in
+        rw e
+        (record {
+          number = ap length (sym all);
+          octets = ap (λ (l : List ℕ). l ++ replicate (storeOctets - length l) 0) (sym all);
+        })
+
+stands-as : (h : List Call) (raw : List ℕ) (s r : State) → openStretch (cutAtFlags h .flags) ≡ raw → s ≡ r → Holds raw r
+    → StoreAs h (s .rest .stored) (s .store)
+stands-as h raw s r e p k =
+    let j = subst (λ (l : List ℕ). Holds l s) (sym e) (subst (Holds raw) (sym p) k) in
+    record { number = j .number; octets = j .octets }
+
+pub stands-holds : (h : List Call) (s : State) → Stands h s → StoreAs h (s .rest .stored) (s .store)
+unfolding openStretch unstuffed
+stands-holds h s (hunts p q) = stands-as h [] s fresh (ap openStretch q) p (record { number = refl; octets = refl })
+stands-holds h s (reads done room raw p q) =
+    stands-as h raw s (reached (unstuffed raw)) (ap openStretch q ∙ open-last done (segment room raw)) p (reached-holds raw)

@@ -3,15 +3,15 @@
 use mathlib.Core.Path.{_≡_}
 use mathlib.Core.Bool.{cond}
 use mathlib.Core.List.{List, [], _∷_, _++_, map}
-use Prim.Native.Nat.{ℕ, _+_, _%_, _^_, _≤_}
+use Prim.Native.Nat.{ℕ, _+_, _-_, _%_, _^_, _≤_}
 use lib.Dec.{ltb}
-use lib.ListN.{length, take, getD}
+use lib.ListN.{length, take, getD, replicate}
 use Rattle.crc_polynomial.specs.Polynomial.{Octets}
 use Rattle.crc_gdl90.specs.Check.{frameCheck, frameCheckOctets}
 use Rattle.refusals.specs.Numbers as because
 use Rattle.ucp_frame.specs.Frame.{flag, stuffed, frame, longestBody}
-use Rattle.ucp_frame.specs.Stretch.{Verdict, silent, refused, delivered, storeOctets, verdict}
-use Rattle.ucp_history.specs.History.{Call, answer, Account, account}
+use Rattle.ucp_frame.specs.Stretch.{unstuffed, Verdict, silent, refused, delivered, storeOctets, verdict}
+use Rattle.ucp_history.specs.History.{Call, Segment, cutAtFlags, answer, Account, account}
 use Rattle.ucp_receiver.specs.declared.Counts.{Counts}
 use Rattle.ucp_receiver.specs.declared.Record.{Record}
 use Rattle.ucp_receiver.specs.declared.Received.{Received}
@@ -70,6 +70,32 @@ abbrev pub StoreClean : Type 0
 StoreClean =
     (before after : List Observed) (o : Observed) → Line (before ++ o ∷ after)
     → CleanBeyond (o .given .receiver .rest .stored) (o .storeAfter)
+
+-- the octets since the last of these flags; before the first flag there are none
+unfoldable pub openStretch : List Segment → List ℕ
+openStretch [] = []
+openStretch (s ∷ []) = s .octets
+openStretch (s ∷ t ∷ ss) = openStretch (t ∷ ss)
+
+-- what a history leaves in the store: the open stretch unstuffed, as far as its first fault, a bad escape or the 439th octet
+abbrev pub storedBy : List Call → List ℕ
+storedBy calls = take storeOctets (unstuffed (openStretch (cutAtFlags calls .flags)) .octets)
+
+pub record StoreAs (calls : List Call) (stored : ℕ) (store : List ℕ) : Type 0 where
+  pub number : stored ≡ length (storedBy calls)
+  pub octets : store ≡ storedBy calls ++ replicate (storeOctets - length (storedBy calls)) 0
+
+-- after every call the store holds that, and zero behind
+abbrev pub StoreByHistory : Type 0
+StoreByHistory =
+    (before after : List Observed) (o : Observed) → Line (before ++ o ∷ after)
+    → StoreAs (upTo before o) (o .given .receiver .rest .stored) (o .storeAfter)
+
+-- so before the first flag nothing is stored
+abbrev pub HuntingStoresNothing : Type 0
+HuntingStoresNothing =
+    (before after : List Observed) (o : Observed) → Line (before ++ o ∷ after) → cutAtFlags (upTo before o) .flags ≡ []
+    → (o .given .receiver .rest .stored ≡ 0) × (o .storeAfter ≡ noOctets)
 
 -- after every flag, from any record and whatever the answer, the store is zero and the rest is the one fixed value
 abbrev pub FlagClears : Type 0

@@ -121,7 +121,7 @@ abbrev pub SliceLine : List ObservedSlice → Type 0
 SliceLine = SlicesRun freshRecord noOctets
 
 -- the octets, or the rooms, of calls with slices one after the other
-abbrev pub gathered : (ObservedSlice → List ℕ) → List ObservedSlice → List ℕ
+abbrev pub gathered : {A : Type 0} → (A → List ℕ) → List A → List ℕ
 gathered f [] = []
 gathered f (s ∷ ss) = f s ++ gathered f ss
 

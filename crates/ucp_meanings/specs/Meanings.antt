@@ -9,9 +9,26 @@ use Rattle.ucp_meanings.specs.declared.Altitude.the-variants.{NoData as 
 use Rattle.ucp_meanings.specs.declared.Rate.{Rate}
 use Rattle.ucp_meanings.specs.declared.Rate.the-variants.{NoData as NoRate, FeetPerMinute}
 
+-- what a raw number means: nothing, or a value in the unit of its rule
+pub data Meaning : Type 0 where
+  noData : Meaning
+  value : ℤ → Meaning
+
+-- ---- what the answers say
+
+abbrev pub altitudeAnswer : Altitude → Meaning
+altitudeAnswer NoAltitude = noData
+altitudeAnswer (Feet feet) = value feet
+
+abbrev pub rateAnswer : Rate → Meaning
+rateAnswer NoRate = noData
+rateAnswer (FeetPerMinute feet) = value feet
+
+-- ---- the rules
+
 -- FFF is no data, else 25 n - 1000 feet
-unfoldable pub altitudeMeans : ℕ → Altitude
-altitudeMeans n = cond (eqb n 0xFFF) NoAltitude (Feet (pos (n * 25) -ℤ pos 1000))
+unfoldable pub altitudeMeans : ℕ → Meaning
+altitudeMeans n = cond (eqb n 0xFFF) noData (value (pos (n * 25) -ℤ pos 1000))
 
 -- -2048
 abbrev pub isNoRate : ℤ → Bool
@@ -19,8 +36,8 @@ isNoRate (pos n) = false
 isNoRate (negsuc n) = eqb n 2047
 
 -- 800 (-2048) is no data, else 64 n feet per minute
-unfoldable pub rateMeans : ℤ → Rate
-rateMeans z = cond (isNoRate z) NoRate (FeetPerMinute (z *ℤ pos 64))
+unfoldable pub rateMeans : ℤ → Meaning
+rateMeans z = cond (isNoRate z) noData (value (z *ℤ pos 64))
 
 -- steps of 5 feet
 unfoldable pub geometricMeans : ℤ → ℤ

@@ -1,6 +1,6 @@
 // What the raw numbers of messages 10, 11 and 20 mean in feet, feet per minute and degrees.
 ghost use mathlib.Core.Path.{_≡_};
-ghost use Rattle.ucp_meanings.specs.Meanings.{altitudeMeans, rateMeans, geometricMeans, degreesE7};
+ghost use Rattle.ucp_meanings.specs.Meanings.{altitudeAnswer, rateAnswer, altitudeMeans, rateMeans, geometricMeans, degreesE7};
 
 // A pressure altitude.
 pub enum Altitude {
@@ -16,7 +16,7 @@ pub enum Rate {
 
 // The pressure altitude that messages 10 and 20 carry as a number.
 pub fn altitude_in_feet(number: u16) -> Altitude
-    ensures { λ r. ⌜ r ≡ altitudeMeans number ⌝ }
+    ensures { λ r. ⌜ altitudeAnswer r ≡ altitudeMeans number ⌝ }
 {
     if number == 0xFFF {
         return Altitude::NoData;
@@ -27,7 +27,7 @@ pub fn altitude_in_feet(number: u16) -> Altitude
 
 // The vertical rate that messages 10 and 20 carry as a number.
 pub fn rate_in_feet_per_minute(number: i16) -> Rate
-    ensures { λ r. ⌜ r ≡ rateMeans number ⌝ }
+    ensures { λ r. ⌜ rateAnswer r ≡ rateMeans number ⌝ }
 {
     if number == -2048 {
         return Rate::NoData;

@@ -9,7 +9,6 @@ use lib.ListN.{length, set, replicate}
 use Rattle.refusals.specs.Numbers as because
 use Rattle.ucp_frame.specs.Frame.{flag, escape}
 use Rattle.ucp_frame.specs.Stretch.{Verdict, silent, refused, storeOctets}
-use Rattle.ucp_receiver.specs.declared.Answer.the-variants.{Nothing}
 use Rattle.ucp_receiver.specs.Answers.{receiverAnswer, answerFor, outputAtFlag}
 use Rattle.ucp_receiver.specs.Closing.{closedStretch}
 use Rattle.ucp_receiver.specs.declared.Counts.{Counts}
@@ -109,9 +108,3 @@ pub record Receives (receiver : Record) (store : List ℕ) (octet : ℕ) (output
   pub account : given .receiver .counts ≡ countsAfter (receiver .counts) (stateOf (receiver .rest) store) octet (length output)
   pub answers : receiverAnswer (given .answer) ≡ answerFor (verdictDue (stateOf (receiver .rest) store) octet (length output))
   pub puts : outputThen ≡ outputAtFlag (verdictDue (stateOf (receiver .rest) store) octet (length output)) output
-
--- a call with an octet taken for other than the flag, whole: no output is lent to it
-pub record Advances (receiver : Record) (store : List ℕ) (octet : ℕ) (given : Received) (storeAfter : List ℕ) : Type 0 where
-  pub state : stateOf (given .receiver .rest) storeAfter ≡ advancedIn (receiver .rest .phase) octet (stateOf (receiver .rest) store)
-  pub account : given .receiver .counts ≡ countedOctet (receiver .rest .phase) (receiver .counts)
-  pub answers : given .answer ≡ Nothing

@@ -1,4 +1,5 @@
--- What the steps of the receiver ensure: of a stretch that is closed, and of a call with a slice. Assumes nothing.
+-- What the steps of the receiver ensure: of a stretch that is closed, of an octet that is not taken for a flag, and of a call with a
+-- slice. Assumes nothing.
 use mathlib.Core.Path.{_≡_}
 use mathlib.Core.List.{List}
 use Prim.Native.Nat.{ℕ, _≤_, _+_, _<_}
@@ -14,7 +15,8 @@ use Rattle.ucp_receiver.specs.declared.Phase.{Phase}
 use Rattle.ucp_receiver.specs.declared.Phase.the-variants.{Reading}
 use Rattle.ucp_receiver.specs.declared.Rest.{Rest}
 use Rattle.ucp_receiver.specs.declared.Record.{Record}
-use Rattle.ucp_receiver.specs.Octet.{State, stateOf, advancedIn, countedBy}
+use Rattle.ucp_receiver.specs.declared.Received.{Received}
+use Rattle.ucp_receiver.specs.Octet.{State, stateOf, advancedIn, countedOctet, countedBy}
 use Rattle.ucp_receiver.specs.declared.slice.Passed.{Passed}
 use Rattle.ucp_receiver.specs.declared.Taken.{Taken}
 use Rattle.ucp_receiver.specs.Slice.{SliceRun, sliceRun, endAt}
@@ -29,6 +31,12 @@ HasRoom (Delivered octets) store room = (octets ≤ length store) × (octets ≤
 pub record Judges (answer : Answer) (store : List ℕ) (room : ℕ) (due : Verdict) : Type 0 where
   pub means : verdictOf answer store ≡ due
   pub hasRoom : HasRoom answer store room
+
+-- a call with an octet taken for other than the flag, whole: no output is lent to it
+pub record Advances (receiver : Record) (store : List ℕ) (octet : ℕ) (given : Received) (storeAfter : List ℕ) : Type 0 where
+  pub state : stateOf (given .receiver .rest) storeAfter ≡ advancedIn (receiver .rest .phase) octet (stateOf (receiver .rest) store)
+  pub account : given .receiver .counts ≡ countedOctet (receiver .rest .phase) (receiver .counts)
+  pub answers : given .answer ≡ Nothing
 
 -- n octets more were taken before all this
 abbrev pub laterBy : ℕ → SliceRun → SliceRun

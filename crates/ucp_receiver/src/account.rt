@@ -8,7 +8,7 @@ ghost use Rattle.ucp_receiver.specs.Answers.{verdictOf};
 ghost use Rattle.ucp_receiver.specs.Account.{zeroCounts, countedFlag, countedSkipped, countedOpen, repeated};
 
 // At the start.
-pub fn zero_counts() -> Counts
+pub(crate) fn zero_counts() -> Counts
     ensures { λ r. ⌜ r ≡ zeroCounts ⌝ }
 {
     Counts {
@@ -21,7 +21,7 @@ pub fn zero_counts() -> Counts
 }
 
 // At a flag, by the answer.
-pub fn count_flag(counts: Counts, answer: Answer) -> Counts
+pub(crate) fn count_flag(counts: Counts, answer: Answer) -> Counts
     ensures { λ r. ⌜ ((store : List ℕ) → r ≡ countedFlag (verdictOf answer store) counts) ⌝ }
 {
     let flags = std::num::wrapping_add_u32(counts.flags, 1);
@@ -58,7 +58,7 @@ fn rounded(n: usize) -> u32
 }
 
 // n octets before the first flag.
-pub fn count_skipped(counts: Counts, n: usize) -> Counts
+pub(crate) fn count_skipped(counts: Counts, n: usize) -> Counts
     ensures { λ r. ⌜ r ≡ repeated countedSkipped n counts ⌝ }
 {
     Counts {
@@ -71,7 +71,7 @@ pub fn count_skipped(counts: Counts, n: usize) -> Counts
 }
 
 // n octets behind a flag.
-pub fn count_open(counts: Counts, n: usize) -> Counts
+pub(crate) fn count_open(counts: Counts, n: usize) -> Counts
     ensures { λ r. ⌜ r ≡ repeated countedOpen n counts ⌝ }
 {
     Counts {

@@ -70,7 +70,7 @@ fn deliver(store: &[u8], n: usize, output: &mut [u8])
 }
 
 // The answer at the flag, with the body put out where one is due.
-pub fn close_stretch(store: &Store, stored: usize, output: &mut [u8]) -> Answer
+pub(crate) fn close_stretch(store: &Store, stored: usize, output: &mut [u8]) -> Answer
     ensures { λ r. ⌜ Closes r (now (store .entry)) (now (output .entry)) (now (output .exit)) (closedStretch stored (now (store .entry)) (length (now (output .entry)))) ⌝ }
 {
     let answer = judge_stretch(store, stored, output.len());

@@ -1,7 +1,7 @@
 // The receiver of the UCP line: by the octet, by the slice, with its byte account. The store is lent, so that a frame's octets
 // rest in one place; the record besides it goes in and comes back by value.
-pub mod account;
-pub mod closing;
+mod account;
+mod closing;
 pub mod octet;
 pub mod slice;
 

@@ -10,7 +10,8 @@ use super::Store;
 ghost use mathlib.Core.Path.{_≡_};
 ghost use lib.ListN.{length};
 ghost use Rattle.ucp_receiver.specs.Closing.{Closes};
-ghost use Rattle.ucp_receiver.specs.Octet.{Receives, Advances, storing, advancedIn, closedIn, countedBy, freshRecord, stateOf};
+ghost use Rattle.ucp_receiver.specs.Octet.{Receives, storing, advancedIn, closedIn, countedBy, freshRecord, stateOf};
+ghost use Rattle.ucp_receiver.specs.Steps.{Advances};
 
 // ---- an octet other than the flag
 
@@ -92,7 +93,7 @@ fn close(rest: Rest, store: &Store, output: &mut [u8]) -> Answer
 // ---- the byte account
 
 // n octets other than the flag, by the phase that they meet.
-pub fn count_octets(counts: Counts, phase: Phase, n: usize) -> Counts
+pub(crate) fn count_octets(counts: Counts, phase: Phase, n: usize) -> Counts
     ensures { λ r. ⌜ r ≡ countedBy phase n counts ⌝ }
 {
     match phase {
@@ -107,7 +108,7 @@ pub fn count_octets(counts: Counts, phase: Phase, n: usize) -> Counts
 // ---- one octet
 
 // The flag: the answer is due, the store is cleared, and the next stretch begins.
-pub fn receive_flag(receiver: Record, store: &mut Store, output: &mut [u8]) -> Received
+pub(crate) fn receive_flag(receiver: Record, store: &mut Store, output: &mut [u8]) -> Received
     ensures { λ r. ⌜ Receives receiver (now (store .entry)) 0x7E (now (output .entry)) r (now (store .exit)) (now (output .exit)) ⌝ }
 {
     let rest = receiver.rest;
@@ -126,8 +127,8 @@ pub fn receive_flag(receiver: Record, store: &mut Store, output: &mut [u8]) -> R
     }
 }
 
-// Any other octet brings no answer.
-pub fn receive_other(receiver: Record, store: &mut Store, octet: u8) -> Received
+// Any other octet brings no answer. No crate but this calls it: here a flag would be stored as it is.
+pub(crate) fn receive_other(receiver: Record, store: &mut Store, octet: u8) -> Received
     ensures { λ r. ⌜ Advances receiver (now (store .entry)) octet r (now (store .exit)) ⌝ }
 {
     let rest = receiver.rest;

@@ -4,7 +4,9 @@
 //! It answers as the proved library does. Its calls are not inlined, since one
 //! through the C boundary can't be.
 
-use ostrogosz::mavlink::{DataStream, Dynamic, Frame, Header, Message, Static, Status, Traffic};
+use ostrogosz::mavlink::{DataStream, Dynamic, Header, Static, Status, Traffic};
+#[cfg(test)]
+use ostrogosz::mavlink::{Frame, Message};
 use ostrogosz::Refusal;
 
 use crate::x25::x25;
@@ -18,8 +20,8 @@ const HEAD: usize = 6;
 /// Octets of the check.
 const CHECK: usize = 2;
 
-/// Reads the frame at the start of `input`.
-#[inline(never)]
+/// Reads the frame at the start of `input`, of whatever kind.
+#[cfg(test)]
 pub fn read(input: &[u8]) -> Result<Frame, Refusal> {
     let start = input.first().ok_or(Refusal::MavlinkTooShort)?;
     ensure(*start == START, Refusal::MavlinkStart)?;
@@ -32,17 +34,17 @@ pub fn read(input: &[u8]) -> Result<Frame, Refusal> {
         component,
     };
     match id {
-        66 => Ok(frame(header, data_stream(payload(input, 148)?))),
-        201 => Ok(frame(header, static_data(payload(input, 126)?)?)),
-        202 => Ok(frame(header, dynamic(payload(input, 7)?)?)),
+        66 => Ok(frame(header, data_stream(payload(input, 148)?).into())),
+        201 => Ok(frame(header, static_data(payload(input, 126)?)?.into())),
+        202 => Ok(frame(header, dynamic(payload(input, 7)?)?.into())),
         203 => Ok(status_frame(header, payload(input, 85)?)),
-        246 => Ok(frame(header, traffic(payload(input, 184)?)?)),
+        246 => Ok(frame(header, traffic(payload(input, 184)?)?.into())),
         _ => Err(Refusal::MavlinkUnknownId),
     }
 }
 
-/// Writes the frame of a message at the start of `output`.
-#[inline(never)]
+/// Writes the frame of a message, of whatever kind, at the start of `output`.
+#[cfg(test)]
 pub fn write(message: &Message, header: Header, output: &mut [u8]) -> Result<usize, Refusal> {
     match message {
         Message::DataStream(of) => put(66, 148, header, output, |at| put_data_stream(of, at)),
@@ -60,6 +62,53 @@ pub fn write(message: &Message, header: Header, output: &mut [u8]) -> Result<usi
         }
         _ => Err(Refusal::MavlinkField),
     }
+}
+
+/// One kind's reader and writer over the caller's structs.
+macro_rules! lent {
+    ($($of:ident, $id:literal, $extra:literal: $type:ty, $fields:expr, $fits:expr, $put:expr;)+) => {
+        $(pub mod $of {
+            use super::*;
+
+            /// Reads the frame at the start of an input into the structs.
+            #[inline(never)]
+            pub fn read(
+                input: &[u8],
+                header: &mut Header,
+                message: &mut $type,
+            ) -> Result<(), Refusal> {
+                let start = input.first().ok_or(Refusal::MavlinkTooShort)?;
+                ensure(*start == START, Refusal::MavlinkStart)?;
+                let &[_, _, sequence, system, component, id, ..] = input else {
+                    return Err(Refusal::MavlinkTooShort);
+                };
+                ensure(id == $id, Refusal::MavlinkUnknownId)?;
+                *message = $fields(payload(input, $extra)?)?;
+                *header = Header { sequence, system, component };
+                Ok(())
+            }
+
+            /// Writes the frame of the structs.
+            #[inline(never)]
+            pub fn write(
+                message: &$type,
+                header: &Header,
+                output: &mut [u8],
+            ) -> Result<usize, Refusal> {
+                ensure($fits(message), Refusal::MavlinkField)?;
+                put($id, $extra, *header, output, |at| $put(message, at))
+            }
+        })+
+    };
+}
+
+lent! {
+    of_66, 66, 148: DataStream, |octets| Ok::<_, Refusal>(data_stream(octets)), |_| true, put_data_stream;
+    of_201, 201, 126: Static, static_data, static_fits, put_static;
+    of_202, 202, 7: Dynamic, dynamic, dynamic_fits, put_dynamic;
+    of_203, 203, 85: Status, |&[status]: &[u8; 1]| Ok::<_, Refusal>(Status { status }), |_| true,
+        |of: &Status, at: &mut [u8; 1]| *at = [of.status];
+    of_246, 246, 184: Traffic, traffic, traffic_fits, put_traffic;
 }
 
 #[inline]
@@ -118,8 +167,8 @@ fn put_at<const N: usize>(octets: &mut [u8], place: usize, value: [u8; N]) {
     octets[place..place + N].copy_from_slice(&value);
 }
 
-/// The frame of a message without failures.
-#[inline]
+/// The frame of a message.
+#[cfg(test)]
 fn frame(header: Header, message: Message) -> Frame {
     let payload = match message {
         Message::DataStream(_) => 6,
@@ -127,36 +176,30 @@ fn frame(header: Header, message: Message) -> Frame {
         Message::Dynamic(_) => 42,
         Message::Status(_) => 1,
         Message::Traffic(_) => 38,
+        other => panic!("no kind of ours: {other:?}"),
     };
     Frame {
         header,
         message,
         used: HEAD + payload + CHECK,
-        failures: 0,
-        lowest_failure: None,
     }
 }
 
-#[inline]
+#[cfg(test)]
 fn status_frame(header: Header, &[status]: &[u8; 1]) -> Frame {
-    let failures = status & 0b1_1110;
-    Frame {
-        failures: failures.count_ones(),
-        lowest_failure: (failures != 0).then(|| failures.trailing_zeros()),
-        ..frame(header, Message::Status(Status { status }))
-    }
+    frame(header, Message::Status(Status { status }))
 }
 
 #[inline]
-fn data_stream(octets: &[u8; 6]) -> Message {
+fn data_stream(octets: &[u8; 6]) -> DataStream {
     let [r0, r1, target_system, target_component, req_stream_id, start_stop] = *octets;
-    Message::DataStream(DataStream {
+    DataStream {
         req_message_rate: u16::from_le_bytes([r0, r1]),
         target_system,
         target_component,
         req_stream_id,
         start_stop,
-    })
+    }
 }
 
 #[inline]
@@ -173,7 +216,7 @@ fn put_data_stream(of: &DataStream, octets: &mut [u8; 6]) {
 }
 
 #[inline]
-fn static_data(octets: &[u8; 19]) -> Result<Message, Refusal> {
+fn static_data(octets: &[u8; 19]) -> Result<Static, Refusal> {
     let [a0, a1, a2, integrity, s0, s1, callsign @ .., capability, emitter, alw_encode, gps_lat_offs, gps_lon_offs] =
         *octets;
     let of = Static {
@@ -188,7 +231,7 @@ fn static_data(octets: &[u8; 19]) -> Result<Message, Refusal> {
         gps_lon_offs,
     };
     ensure(static_fits(&of), Refusal::MavlinkField)?;
-    Ok(Message::Static(of))
+    Ok(of)
 }
 
 #[inline]
@@ -213,7 +256,7 @@ fn put_static(of: &Static, octets: &mut [u8; 19]) {
 }
 
 #[inline]
-fn dynamic(octets: &[u8; 42]) -> Result<Message, Refusal> {
+fn dynamic(octets: &[u8; 42]) -> Result<Dynamic, Refusal> {
     let [fix_type, num_sats, em_status, control] = at(octets, 38);
     let of = Dynamic {
         utc_time: u32::from_le_bytes(at(octets, 0)),
@@ -235,7 +278,7 @@ fn dynamic(octets: &[u8; 42]) -> Result<Message, Refusal> {
         control,
     };
     ensure(dynamic_fits(&of), Refusal::MavlinkField)?;
-    Ok(Message::Dynamic(of))
+    Ok(of)
 }
 
 #[inline]
@@ -263,7 +306,7 @@ fn put_dynamic(of: &Dynamic, octets: &mut [u8; 42]) {
 }
 
 #[inline]
-fn traffic(octets: &[u8; 38]) -> Result<Message, Refusal> {
+fn traffic(octets: &[u8; 38]) -> Result<Traffic, Refusal> {
     let [callsign_ninth, emitter_type, tslc] = at(octets, 35);
     let of = Traffic {
         icao_address: u32::from_le_bytes(at(octets, 0)),
@@ -282,7 +325,7 @@ fn traffic(octets: &[u8; 38]) -> Result<Message, Refusal> {
         tslc,
     };
     ensure(traffic_fits(&of), Refusal::MavlinkField)?;
-    Ok(Message::Traffic(of))
+    Ok(of)
 }
 
 #[inline]
@@ -322,13 +365,17 @@ mod tests {
     use ostrogosz::mavlink::{read_frame, write_frame, LONGEST_FRAME};
 
     fn assert_same_reading(input: &[u8]) {
-        assert_eq!(read(input), read_frame(input), "input {input:02X?}");
+        assert_eq!(
+            read(input),
+            read_frame(input).map_err(Refusal::from),
+            "input {input:02X?}"
+        );
     }
 
     fn assert_same_writing(message: &Message, header: Header, room: usize) {
         let mut outputs = [[0xA5; LONGEST_FRAME + 4]; 2];
         let rust = write(message, header, &mut outputs[0][..room]);
-        let proved = write_frame(message, header, &mut outputs[1][..room]);
+        let proved = write_frame(message, header, &mut outputs[1][..room]).map_err(Refusal::from);
         assert_eq!(rust, proved, "room {room}, {message:X?}");
         assert_eq!(outputs[0], outputs[1], "room {room}, {message:X?}");
     }

@@ -1,5 +1,6 @@
 //! The messages of the UCP line as Rust would have them: arrays of the kind's
-//! length, `from_be_bytes` and shifts, and an enum by value.
+//! length, `from_be_bytes` and shifts; into a struct of the caller, as the
+//! proved calls do, and as an enum by value.
 //!
 //! It answers as the proved library does. Its calls are not inlined, since one
 //! through the C boundary can't be.
@@ -7,10 +8,12 @@
 use ostrogosz::messages::{
     Control, GeometricAltitude, Heartbeat, Initialization, Message, Report, Request, UPLINK_PAYLOAD,
 };
-use ostrogosz::Refusal;
+use ostrogosz::{Refusal, LONGEST_FRAME};
 
-/// What a body means.
-#[inline(never)]
+use crate::writer::one_pass;
+
+/// What a body means, of whatever kind.
+#[cfg(test)]
 pub fn read(body: &[u8]) -> Result<Message<'_>, Refusal> {
     let (&id, content) = body.split_first().ok_or(Refusal::UnknownId)?;
     match id {
@@ -42,6 +45,52 @@ pub fn write(message: &Message<'_>, output: &mut [u8]) -> Result<usize, Refusal>
         }
         _ => Err(Refusal::Field),
     }
+}
+
+/// One kind's reader, writer and sender over the caller's struct.
+macro_rules! lent {
+    ($($of:ident, $id:literal: $type:ty, $fields:expr, $fits:expr, $body:expr;)+) => {
+        $(pub mod $of {
+            use super::*;
+
+            /// Reads a body into the struct.
+            #[inline(never)]
+            pub fn read(body: &[u8], message: &mut $type) -> Result<(), Refusal> {
+                let (&id, content) = body.split_first().ok_or(Refusal::UnknownId)?;
+                ensure(id == $id, Refusal::UnknownId)?;
+                *message = $fields(exact(content)?)?;
+                Ok(())
+            }
+
+            /// Writes the body of the struct.
+            #[inline(never)]
+            pub fn write(message: &$type, output: &mut [u8]) -> Result<usize, Refusal> {
+                ensure($fits(message), Refusal::Field)?;
+                put($body(message), output)
+            }
+
+            /// Writes the frame of the struct.
+            #[inline(never)]
+            pub fn send(
+                message: &$type,
+                buffer: &mut [u8; LONGEST_FRAME],
+            ) -> Result<usize, Refusal> {
+                ensure($fits(message), Refusal::Field)?;
+                one_pass(&$body(message), buffer).map_err(|_| Refusal::OutputLength)
+            }
+        })+
+    };
+}
+
+lent! {
+    of_0, 0: Heartbeat, |octets| Ok::<_, Refusal>(heartbeat(octets)), |_| true, heartbeat_body;
+    of_10, 10: Report, |octets| Ok::<_, Refusal>(report(octets)), report_fits, |of| report_body(10, of);
+    of_11, 11: GeometricAltitude, |octets| Ok::<_, Refusal>(geometric_altitude(octets)), |_| true,
+        geometric_altitude_body;
+    of_20, 20: Report, |octets| Ok::<_, Refusal>(report(octets)), report_fits, |of| report_body(20, of);
+    of_44, 44: Request, request, |_| true, |of: &Request| [44, 2, of.requested_id];
+    of_45, 45: Control, control, control_fits, control_body;
+    of_117, 117: Initialization, initialization, initialization_fits, initialization_body;
 }
 
 /// All octets of a kind behind its ID.
@@ -325,13 +374,17 @@ mod tests {
     use ostrogosz::messages::{read_message, write_message};
 
     fn assert_same_reading(body: &[u8]) {
-        assert_eq!(read(body), read_message(body), "body {body:02X?}");
+        assert_eq!(
+            read(body),
+            read_message(body).map_err(Refusal::from),
+            "body {body:02X?}"
+        );
     }
 
     fn assert_same_writing(message: &Message<'_>, room: usize) {
         let mut outputs = [[0xA5; 440]; 2];
         let rust = write(message, &mut outputs[0][..room]);
-        let proved = write_message(message, &mut outputs[1][..room]);
+        let proved = write_message(message, &mut outputs[1][..room]).map_err(Refusal::from);
         assert_eq!(rust, proved, "room {room}, {message:X?}");
         assert_eq!(outputs[0], outputs[1], "room {room}, {message:X?}");
     }

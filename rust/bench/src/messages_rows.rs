@@ -1,127 +1,254 @@
-//! The rows of the messages.
+//! The rows of the messages: every kind read, written and sent through the
+//! caller's struct, by the proved calls and by Rust in the same shape.
 
 use std::hint::black_box;
 
 use compare::both_sides::our_message;
 use compare::generator::Generator;
 use compare::messages::{body_of, Kind};
-use ostrogosz::messages::{read_message, write_message, Message};
-use ostrogosz::LONGEST_BODY;
+use ostrogosz::messages::{
+    write_message, Control, GeometricAltitude, Heartbeat, Initialization, Message, Report, Request,
+};
+use ostrogosz::{Refusal, LONGEST_BODY, LONGEST_FRAME};
 use second::messages as second;
 
-use crate::messages;
+use crate::messages::{self, of_0, of_10, of_11, of_117, of_20, of_44, of_45};
 use crate::table::{Row, Unit};
 use crate::timing::best_times;
 
 /// Messages in turn, so that no branch predictor learns one by heart.
 const MESSAGES: usize = 64;
 
-/// Prints the rows of the messages.
-pub fn print() {
-    for kind in [Kind::Ownship, Kind::Control] {
-        print_rows(kind);
-    }
+/// One side's calls on a kind's struct. Each is one call that is not inlined:
+/// the proved one through the C boundary, or Rust's.
+trait Calls<T> {
+    fn read(body: &[u8], message: &mut T) -> Result<(), Refusal>;
+    fn write(message: &T, output: &mut [u8]) -> Result<usize, Refusal>;
+    fn send(message: &T, buffer: &mut [u8; LONGEST_FRAME]) -> Result<usize, Refusal>;
 }
 
-fn print_rows(kind: Kind) {
+/// Both sides of a kind.
+macro_rules! rows_of {
+    ($kind:ident, $type:ident, $rust:ident, $read:ident, $write:ident, $send:ident) => {{
+        struct Ours;
+        impl Calls<$type> for Ours {
+            #[inline(always)]
+            fn read(body: &[u8], message: &mut $type) -> Result<(), Refusal> {
+                message.$read(body).map_err(Refusal::from)
+            }
+            #[inline(always)]
+            fn write(message: &$type, output: &mut [u8]) -> Result<usize, Refusal> {
+                message.$write(output).map_err(Refusal::from)
+            }
+            #[inline(always)]
+            fn send(message: &$type, buffer: &mut [u8; LONGEST_FRAME]) -> Result<usize, Refusal> {
+                message.$send(buffer).map_err(Refusal::from)
+            }
+        }
+        struct Rust;
+        impl Calls<$type> for Rust {
+            #[inline(always)]
+            fn read(body: &[u8], message: &mut $type) -> Result<(), Refusal> {
+                $rust::read(body, message)
+            }
+            #[inline(always)]
+            fn write(message: &$type, output: &mut [u8]) -> Result<usize, Refusal> {
+                $rust::write(message, output)
+            }
+            #[inline(always)]
+            fn send(message: &$type, buffer: &mut [u8; LONGEST_FRAME]) -> Result<usize, Refusal> {
+                $rust::send(message, buffer)
+            }
+        }
+        let field = |message: Message<'_>| match message {
+            Message::$kind(of) => of,
+            other => panic!("{other:?} for another kind"),
+        };
+        print_rows::<$type, Ours, Rust>(Kind::$kind, field);
+    }};
+}
+
+/// Prints the rows of the messages.
+pub fn print() {
+    rows_of!(Heartbeat, Heartbeat, of_0, read_from, write_to, send_to);
+    rows_of!(
+        Ownship,
+        Report,
+        of_10,
+        read_ownship_from,
+        write_ownship_to,
+        send_ownship_to
+    );
+    rows_of!(
+        GeometricAltitude,
+        GeometricAltitude,
+        of_11,
+        read_from,
+        write_to,
+        send_to
+    );
+    rows_of!(
+        Traffic,
+        Report,
+        of_20,
+        read_traffic_from,
+        write_traffic_to,
+        send_traffic_to
+    );
+    rows_of!(Request, Request, of_44, read_from, write_to, send_to);
+    rows_of!(Control, Control, of_45, read_from, write_to, send_to);
+    rows_of!(
+        Initialization,
+        Initialization,
+        of_117,
+        read_from,
+        write_to,
+        send_to
+    );
+    print_uplink();
+}
+
+fn print_rows<T, Ours, Rust>(kind: Kind, field: fn(Message<'_>) -> T)
+where
+    T: Copy + Default + PartialEq,
+    Ours: Calls<T>,
+    Rust: Calls<T>,
+{
     let mut generator = Generator::new(33);
     let theirs: Vec<_> = (0..MESSAGES)
         .map(|_| kind.message(&mut generator))
         .collect();
-    let ours: Vec<_> = theirs.iter().map(our_message).collect();
+    let structs: Vec<T> = theirs.iter().map(|of| field(our_message(of))).collect();
     let bodies: Vec<_> = theirs.iter().map(body_of).collect();
-    for (message, body) in ours.iter().zip(&bodies) {
-        assert_same_work(message, body);
+    for (message, body) in structs.iter().zip(&bodies) {
+        let frame = work::<T, Ours>(message, body);
+        assert_eq!(frame, work::<T, Rust>(message, body));
     }
-    print_row("read", kind, read_times(&bodies));
-    print_row("write", kind, write_times(&ours, &theirs));
+    print_row("read", kind, read_times::<T, Ours, Rust>(&bodies));
+    print_row(
+        "write",
+        kind,
+        write_times::<T, Ours, Rust>(&structs, &theirs),
+    );
+    print_row("send", kind, send_times::<T, Ours, Rust>(&structs));
 }
 
-/// All sides read the message from the body and write it back.
-fn assert_same_work(message: &Message<'_>, body: &[u8]) {
-    assert_eq!(read_message(body), Ok(*message));
-    assert_eq!(messages::read(body), Ok(*message));
-    let mut outputs = [[0; LONGEST_BODY]; 2];
-    assert_eq!(write_message(message, &mut outputs[0]), Ok(body.len()));
-    assert_eq!(messages::write(message, &mut outputs[1]), Ok(body.len()));
-    assert!(outputs.iter().all(|output| output.starts_with(body)));
+/// A side reads the message from the body and writes it back; the frame that it
+/// sends.
+fn work<T: Default + PartialEq, C: Calls<T>>(message: &T, body: &[u8]) -> [u8; LONGEST_FRAME] {
+    let mut read = T::default();
+    assert_eq!(C::read(body, &mut read), Ok(()));
+    assert!(read == *message);
+    let mut output = [0; LONGEST_BODY];
+    assert_eq!(C::write(message, &mut output), Ok(body.len()));
+    assert!(output.starts_with(body));
+    let mut frame = [0; LONGEST_FRAME];
+    assert!(C::send(message, &mut frame).is_ok());
+    frame
 }
 
-fn print_row(verb: &str, kind: Kind, times: [f64; 3]) {
-    let [ours, rust, second] = times.map(|turn| turn / MESSAGES as f64);
+fn print_row(verb: &str, kind: Kind, times: [Option<f64>; 3]) {
+    let [ours, rust, second] = times.map(|turn| turn.map(|time| time / MESSAGES as f64));
     Row {
         work: format!("{verb} message {}", kind.name()),
         unit: Unit::Nanoseconds,
-        ours,
-        rust,
-        second: Some(second),
+        ours: ours.expect("ours is timed"),
+        rust: rust.expect("Rust is timed"),
+        second,
     }
     .print();
 }
 
-fn read_times(bodies: &[Vec<u8>]) -> [f64; 3] {
+fn read_times<T: Default, Ours: Calls<T>, Rust: Calls<T>>(bodies: &[Vec<u8>]) -> [Option<f64>; 3] {
     best_times([
-        &mut reader(bodies, |body| read_message(body).map_or(0, |of| value(&of))),
-        &mut reader(bodies, |body| {
-            messages::read(body).map_or(0, |of| value(&of))
-        }),
-        &mut reader(bodies, |body| {
-            second::read(body).map_or(0, |of| second_value(&of))
-        }),
+        &mut reader(bodies, Ours::read),
+        &mut reader(bodies, Rust::read),
+        &mut || {
+            for body in bodies {
+                let _ = black_box(second::read(black_box(body)));
+            }
+        },
     ])
+    .map(Some)
 }
 
-fn write_times(ours: &[Message<'_>], theirs: &[second::Message]) -> [f64; 3] {
+fn write_times<T, Ours: Calls<T>, Rust: Calls<T>>(
+    structs: &[T],
+    theirs: &[second::Message],
+) -> [Option<f64>; 3] {
     best_times([
-        &mut writer(ours, |message, output| {
-            write_message(message, output).unwrap_or(0)
-        }),
-        &mut writer(ours, |message, output| {
-            messages::write(message, output).unwrap_or(0)
-        }),
+        &mut writer(structs, Ours::write),
+        &mut writer(structs, Rust::write),
         &mut writer(theirs, |message, output| {
-            second::write(message, output).unwrap_or(0)
+            second::write(message, output).map_err(|_| Refusal::Field)
         }),
     ])
+    .map(Some)
 }
 
-/// Reads every body once.
-fn reader<'a>(bodies: &'a [Vec<u8>], read: impl Fn(&[u8]) -> i32 + 'a) -> impl FnMut() + 'a {
+fn send_times<T, Ours: Calls<T>, Rust: Calls<T>>(structs: &[T]) -> [Option<f64>; 3] {
+    let [ours, rust] = best_times([
+        &mut sender(structs, Ours::send),
+        &mut sender(structs, Rust::send),
+    ]);
+    [Some(ours), Some(rust), None]
+}
+
+/// Reads every body once, into one struct.
+fn reader<'a, T: Default + 'a>(
+    bodies: &'a [Vec<u8>],
+    read: impl Fn(&[u8], &mut T) -> Result<(), Refusal> + 'a,
+) -> impl FnMut() + 'a {
+    let mut message = T::default();
     move || {
-        let values = bodies.iter().map(|body| read(black_box(body)));
-        black_box(values.fold(0, i32::wrapping_add));
+        for body in bodies {
+            let _ = black_box(read(black_box(body), black_box(&mut message)));
+        }
     }
 }
 
 /// Writes every message once, each contender into an output of its own.
 fn writer<'a, M>(
     messages: &'a [M],
-    write: impl Fn(&M, &mut [u8]) -> usize + 'a,
+    write: impl Fn(&M, &mut [u8]) -> Result<usize, Refusal> + 'a,
 ) -> impl FnMut() + 'a {
     let mut output = [0; LONGEST_BODY];
     move || {
-        let lengths = messages
-            .iter()
-            .map(|message| write(black_box(message), black_box(&mut output)));
-        black_box(lengths.sum::<usize>());
+        for message in messages {
+            let _ = black_box(write(black_box(message), black_box(&mut output)));
+        }
     }
 }
 
-/// Looks at a message as a caller would; a black box around it would have it
-/// copied once more.
-fn value(message: &Message<'_>) -> i32 {
-    match message {
-        Message::Ownship(report) => report.latitude ^ report.longitude,
-        Message::Control(control) => control.altitude ^ i32::from(control.squawk),
-        _ => 0,
+/// Sends every message once, each contender in a buffer of its own.
+fn sender<'a, M>(
+    messages: &'a [M],
+    send: impl Fn(&M, &mut [u8; LONGEST_FRAME]) -> Result<usize, Refusal> + 'a,
+) -> impl FnMut() + 'a {
+    let mut buffer = [0; LONGEST_FRAME];
+    move || {
+        for message in messages {
+            let _ = black_box(send(black_box(message), black_box(&mut buffer)));
+        }
     }
 }
 
-/// The same look at a message of the second program.
-fn second_value(message: &second::Message) -> i32 {
-    match message {
-        second::Message::Ownship(report) => report.latitude ^ report.longitude,
-        second::Message::Control(control) => control.pressure_altitude ^ i32::from(control.squawk),
-        _ => 0,
-    }
+/// An uplink has no struct: its payload is written and sent.
+fn print_uplink() {
+    let mut generator = Generator::new(34);
+    let theirs: Vec<_> = (0..MESSAGES)
+        .map(|_| Kind::Uplink.message(&mut generator))
+        .collect();
+    let ours: Vec<_> = theirs.iter().map(our_message).collect();
+    let times = best_times([
+        &mut writer(&ours, |message, output| {
+            write_message(message, output).map_err(Refusal::from)
+        }),
+        &mut writer(&ours, |message, output| messages::write(message, output)),
+    ]);
+    print_row(
+        "write",
+        Kind::Uplink,
+        [Some(times[0]), Some(times[1]), None],
+    );
 }

@@ -1,7 +1,7 @@
 //! The receiver as Rust would have it: one record with the store inside, taken
 //! by `&mut self`, and a call for each octet.
 
-use ostrogosz::{Answer, Counts, Refusal, STORE};
+use ostrogosz::{Answer, Counts, ReceiveRefusal, STORE};
 
 use crate::check::next_check;
 
@@ -122,28 +122,28 @@ impl Receiver {
             Phase::Reading if self.stored == 0 => Answer::Nothing,
             Phase::Reading => judge(&self.store[..self.stored], output)
                 .map_or_else(Answer::Refused, Answer::Delivered),
-            Phase::Escape => Answer::Refused(Refusal::EscapeBeforeFlag),
-            Phase::BadEscape => Answer::Refused(Refusal::BadEscape),
-            Phase::TooLong => Answer::Refused(Refusal::TooLong),
+            Phase::Escape => Answer::Refused(ReceiveRefusal::EscapeBeforeFlag),
+            Phase::BadEscape => Answer::Refused(ReceiveRefusal::BadEscape),
+            Phase::TooLong => Answer::Refused(ReceiveRefusal::TooLong),
         }
     }
 }
 
 /// Refusals 4, 5 and 6 in their order, or the body.
-fn judge(unstuffed: &[u8], output: &mut [u8]) -> Result<usize, Refusal> {
+fn judge(unstuffed: &[u8], output: &mut [u8]) -> Result<usize, ReceiveRefusal> {
     let Some((body, sent)) = unstuffed.split_last_chunk::<2>() else {
-        return Err(Refusal::TooShort);
+        return Err(ReceiveRefusal::TooShort);
     };
     if body.is_empty() {
-        return Err(Refusal::TooShort);
+        return Err(ReceiveRefusal::TooShort);
     }
     let check = body
         .iter()
         .fold(0, |check, &octet| next_check(check, octet));
     if *sent != check.to_le_bytes() {
-        return Err(Refusal::WrongCheck);
+        return Err(ReceiveRefusal::WrongCheck);
     }
-    let room = output.get_mut(..body.len()).ok_or(Refusal::Room)?;
+    let room = output.get_mut(..body.len()).ok_or(ReceiveRefusal::Room)?;
     room.copy_from_slice(body);
     Ok(body.len())
 }

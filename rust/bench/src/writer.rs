@@ -4,7 +4,7 @@
 //! All answer alike: 7, then 8, then the frame. Those in Rust are not inlined,
 //! since a call through the C boundary can't be.
 
-use ostrogosz::Refusal;
+use ostrogosz::FrameRefusal;
 
 use crate::check::next_check;
 
@@ -15,7 +15,7 @@ const LONGEST_BODY: usize = 436;
 /// The proved one.
 #[inline]
 pub fn proved(body: &[u8], output: &mut [u8]) -> Result<usize, u8> {
-    ostrogosz::write_frame(body, output).map_err(Refusal::number)
+    ostrogosz::write_frame(body, output).map_err(FrameRefusal::number)
 }
 
 /// Check and stuffing in one pass over the body.

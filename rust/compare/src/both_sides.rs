@@ -50,6 +50,7 @@ fn second_message(message: &ours::Message<'_>) -> Message {
         ours::Message::Initialization(initialization) => {
             Message::Initialization(second_initialization(initialization))
         }
+        ref other => panic!("the second program has no {other:?}"),
     }
 }
 

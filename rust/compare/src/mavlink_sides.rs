@@ -22,9 +22,13 @@ pub struct Reading {
 pub fn read(input: &[u8]) -> Result<Reading, u8> {
     lending(input, |input| {
         let frame = ours::read_frame(input).map_err(|refusal| refusal.number())?;
+        let (failures, lowest_failure) = match frame.message {
+            ours::Message::Status(status) => (status.failures().count, status.failures().lowest),
+            _ => (0, None),
+        };
         Ok(Reading {
-            failures: frame.failures,
-            lowest_failure: frame.lowest_failure,
+            failures,
+            lowest_failure,
             frame: second_frame(&frame),
         })
     })
@@ -79,6 +83,7 @@ fn second_message(message: &ours::Message) -> Message {
         ours::Message::Dynamic(of) => Message::Dynamic(second_dynamic(of)),
         ours::Message::Status(ours::Status { status }) => Message::Status(Status { status }),
         ours::Message::Traffic(of) => Message::Traffic(second_traffic(of)),
+        other => panic!("the second program has no {other:?}"),
     }
 }
 

@@ -4,7 +4,7 @@
 use ostrogosz::mavlink::{
     read_frame, write_frame, Dynamic, Frame, Header, Message, Static, Status, LONGEST_FRAME,
 };
-use ostrogosz::Refusal;
+use ostrogosz::{MavlinkReadRefusal, MavlinkWriteRefusal};
 
 /// What the output holds before a call.
 const HELD: u8 = 0xA5;
@@ -60,8 +60,6 @@ fn the_published_static_packet() {
         header: sequence(0x2F),
         message,
         used: 27,
-        failures: 0,
-        lowest_failure: None,
     };
     assert_both_ways(&STATIC, frame);
 }
@@ -92,8 +90,6 @@ fn the_published_dynamic_packet() {
         header: sequence(0x59),
         message,
         used: 50,
-        failures: 0,
-        lowest_failure: None,
     };
     assert_both_ways(&DYNAMIC, frame);
 }
@@ -135,10 +131,10 @@ fn failures_of_a_status() {
             header,
             message,
             used: 9,
-            failures,
-            lowest_failure,
         };
         assert_both_ways(&octets, frame);
+        let counted = Status { status }.failures();
+        assert_eq!((counted.count, counted.lowest), (failures, lowest_failure));
     }
 }
 
@@ -161,9 +157,9 @@ fn refusals_come_in_the_order_of_the_table() {
     // A squawk of 7778 behind a wrong check, and behind a right one.
     let mut input = DYNAMIC;
     input[42..44].copy_from_slice(&7778_u16.to_le_bytes());
-    assert_eq!(read_frame(&input), Err(Refusal::MavlinkCheck));
+    assert_eq!(read_frame(&input), Err(MavlinkReadRefusal::MavlinkCheck));
     compare::mavlink::Kind::Dynamic.seal(&mut input);
-    assert_eq!(read_frame(&input), Err(Refusal::MavlinkField));
+    assert_eq!(read_frame(&input), Err(MavlinkReadRefusal::MavlinkField));
 }
 
 #[test]
@@ -177,9 +173,9 @@ fn squawk_7777_is_accepted_and_7778_refused_before_the_room() {
     let mut output = [HELD; LONGEST_FRAME];
     let header = Header::default();
     let refused = write_frame(&with(7778), header, &mut output[..0]);
-    assert_eq!(refused, Err(Refusal::MavlinkField));
+    assert_eq!(refused, Err(MavlinkWriteRefusal::MavlinkField));
     let short = write_frame(&with(7777), header, &mut output[..49]);
-    assert_eq!(short, Err(Refusal::OutputLength));
+    assert_eq!(short, Err(MavlinkWriteRefusal::OutputLength));
     assert_eq!(output, [HELD; LONGEST_FRAME]);
     let written = write_frame(&with(7777), header, &mut output);
     assert_eq!(written, Ok(LONGEST_FRAME));

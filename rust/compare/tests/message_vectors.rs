@@ -4,7 +4,7 @@
 use ostrogosz::messages::{
     read_message, send_message, write_message, Control, Heartbeat, Message, Report,
 };
-use ostrogosz::{Refusal, LONGEST_BODY, LONGEST_FRAME};
+use ostrogosz::{ReadRefusal, SendRefusal, WriteRefusal, LONGEST_BODY, LONGEST_FRAME};
 
 /// What the output holds before a call.
 const HELD: u8 = 0xA5;
@@ -90,11 +90,11 @@ fn squawk_7777_is_accepted_and_7778_refused() {
     let accepted = body;
     assert_eq!(
         write_message(&control(7778), &mut body),
-        Err(Refusal::Field)
+        Err(WriteRefusal::Field)
     );
     assert_eq!(body, accepted);
     body[7..9].copy_from_slice(&7778_u16.to_le_bytes());
-    assert_eq!(read_message(&body), Err(Refusal::Field));
+    assert_eq!(read_message(&body), Err(ReadRefusal::Field));
 }
 
 /// Every frame of a message fits the buffer, the longest too: an uplink all
@@ -106,7 +106,7 @@ fn the_longest_frame_of_a_message_fits() {
     let length = send_message(&Message::Uplink(&payload), &mut buffer);
     assert!((875..=877).contains(&length.expect("room")), "{length:?}");
     let short = send_message(&Message::Uplink(&payload[1..]), &mut buffer);
-    assert_eq!(short, Err(Refusal::Field));
+    assert_eq!(short, Err(SendRefusal::Field));
 }
 
 #[test]
@@ -125,7 +125,10 @@ fn refusals_come_in_the_order_of_the_table() {
         assert_eq!(refusal.number(), number, "{body:02X?}");
     }
     // 13 is tested before 8.
-    assert_eq!(write_message(&control(7778), &mut []), Err(Refusal::Field));
+    assert_eq!(
+        write_message(&control(7778), &mut []),
+        Err(WriteRefusal::Field)
+    );
     let short = write_message(&control(7777), &mut [0; 17]);
-    assert_eq!(short, Err(Refusal::OutputLength));
+    assert_eq!(short, Err(WriteRefusal::OutputLength));
 }

@@ -3,7 +3,8 @@
 
 use compare::bodies::longest_frame;
 use ostrogosz::{
-    frame_check, write_frame, Answer, Counts, Receiver, Refusal, LONGEST_BODY, LONGEST_FRAME,
+    frame_check, write_frame, Answer, Counts, FrameRefusal, ReceiveRefusal, Receiver, Refusal,
+    LONGEST_BODY, LONGEST_FRAME,
 };
 
 /// Bodies and their frames.
@@ -58,7 +59,7 @@ fn the_longest_frame_fits_its_room_exactly() {
     assert_eq!(body.len(), LONGEST_BODY);
     assert_eq!(write_frame(&body, &mut output), Ok(LONGEST_FRAME));
     let short = &mut output[1..];
-    assert_eq!(write_frame(&body, short), Err(Refusal::OutputLength));
+    assert_eq!(write_frame(&body, short), Err(FrameRefusal::OutputLength));
 }
 
 #[test]
@@ -112,13 +113,13 @@ fn the_published_frames_are_delivered() {
 
 #[test]
 fn the_published_refusals_are_given_and_write_nothing() {
-    let lines: [(&[u8], Refusal); 4] = [
-        (&[0x7E, 0x7D, 0x00, 0x7E], Refusal::BadEscape),
-        (&[0x7E, 0x7D, 0x7E], Refusal::EscapeBeforeFlag),
-        (&[0x7E, 0x01, 0x01, 0x7E], Refusal::TooShort),
+    let lines: [(&[u8], ReceiveRefusal); 4] = [
+        (&[0x7E, 0x7D, 0x00, 0x7E], ReceiveRefusal::BadEscape),
+        (&[0x7E, 0x7D, 0x7E], ReceiveRefusal::EscapeBeforeFlag),
+        (&[0x7E, 0x01, 0x01, 0x7E], ReceiveRefusal::TooShort),
         (
             &[0x7E, 0x2C, 0x02, 0x2B, 0xC4, 0xE7, 0x7E],
-            Refusal::WrongCheck,
+            ReceiveRefusal::WrongCheck,
         ),
     ];
     for (line, refusal) in lines {
@@ -137,12 +138,12 @@ fn the_longest_stretch_is_delivered_and_one_octet_more_is_refused() {
     let answer = last_answer(&line[..length], &mut [HELD; 436]);
     assert_eq!(answer, Answer::Delivered(436));
     let answer = last_answer(&line[..length], &mut [HELD; 435]);
-    assert_eq!(answer, Answer::Refused(Refusal::Room));
+    assert_eq!(answer, Answer::Refused(ReceiveRefusal::Room));
 
     let mut longer = line[..length].to_vec();
     longer.insert(1, 0);
     let answer = last_answer(&longer, &mut [HELD; 440]);
-    assert_eq!(answer, Answer::Refused(Refusal::TooLong));
+    assert_eq!(answer, Answer::Refused(ReceiveRefusal::TooLong));
 }
 
 /// The line that document 01 has its lister print.
@@ -159,7 +160,7 @@ fn the_listed_line_is_counted_as_published() {
         answers.push(step.answer);
         taken += step.octets;
     }
-    let refused = Answer::Refused(Refusal::EscapeBeforeFlag);
+    let refused = Answer::Refused(ReceiveRefusal::EscapeBeforeFlag);
     let due = [Answer::Delivered(2), Answer::Delivered(3), refused];
     assert_eq!(answers, due);
     let counts = Counts {

@@ -7,20 +7,20 @@
 //!
 //! It keeps the line's record, hears the messages, says in a line each what was
 //! heard, and answers a Message Request for the Control message with the last
-//! one heard: the answering frames are written to the file ANSWERS. Before it
-//! ends it clears every room that a private identity passed through. Copies
-//! that the compiler makes of a message in passing are out of its reach.
+//! one heard: the answering frames are written to the file ANSWERS. Messages lie
+//! in the structs of [`Line`] and nowhere else, so clearing those before it ends
+//! clears every private identity.
 
 use std::fs::File;
 use std::io::{self, Read, Write};
 use std::process::ExitCode;
 use std::ptr;
 
-use ostrogosz::messages::{read_message, send_message, Control, Initialization, Message, Report};
-use ostrogosz::{Answer, Receiver, LONGEST_BODY, LONGEST_FRAME};
-
-/// The ID of the Control message.
-const CONTROL: u8 = 45;
+use ostrogosz::messages::{
+    Control, GeometricAltitude, Heartbeat, Id, Initialization, Report, Request, UPLINK_PAYLOAD,
+    body_id, read_uplink,
+};
+use ostrogosz::{Answer, LONGEST_BODY, LONGEST_FRAME, ReadRefusal, Receiver};
 
 /// Octets of the capture read at once.
 const BLOCK: usize = 4096;
@@ -34,6 +34,8 @@ struct Line {
     control: Control,
     /// Whether one was.
     heard: bool,
+    report: Report,
+    initialization: Initialization,
 }
 
 impl Line {
@@ -43,6 +45,8 @@ impl Line {
             body: [0; LONGEST_BODY],
             control: Control::default(),
             heard: false,
+            report: Report::default(),
+            initialization: Initialization::default(),
         }
     }
 }
@@ -51,6 +55,8 @@ impl Drop for Line {
     fn drop(&mut self) {
         overwrite(&mut self.body, [0; LONGEST_BODY]);
         overwrite(&mut self.control, Control::default());
+        overwrite(&mut self.report, Report::default());
+        overwrite(&mut self.initialization, Initialization::default());
     }
 }
 
@@ -60,34 +66,21 @@ fn overwrite<T>(place: &mut T, value: T) {
     unsafe { ptr::write_volatile(place, value) }
 }
 
-/// Clears the messages that carry an identity.
-fn clear(message: &mut Message<'_>) {
-    match message {
-        Message::Ownship(report) | Message::Traffic(report) => {
-            overwrite(report, Report::default());
-        }
-        Message::Control(control) => overwrite(control, Control::default()),
-        Message::Initialization(of) => overwrite(of, Initialization::default()),
-        _ => {}
-    }
-}
-
 fn say_report(kind: &str, report: &Report) {
     println!(
-        "{kind}: address {:06x}, altitude {}, speed {}",
-        report.address, report.altitude, report.speed
+        "{kind}: altitude {}, speed {}",
+        report.altitude, report.speed
     );
 }
 
 /// A request for the Control message is answered with its frame.
 fn answer(line: &Line, requested_id: u8, answers: &mut File) -> io::Result<()> {
-    if requested_id != CONTROL || !line.heard {
+    if requested_id != Id::Control.number() || !line.heard {
         println!("request: nothing to send for {requested_id}");
         return Ok(());
     }
     let mut frame = [0; LONGEST_FRAME];
-    let sent = send_message(&Message::Control(line.control), &mut frame);
-    let written = match sent {
+    let written = match line.control.send_to(&mut frame) {
         Ok(length) => {
             println!("request: answered in {length} octets");
             answers.write_all(&frame[..length])
@@ -101,33 +94,46 @@ fn answer(line: &Line, requested_id: u8, answers: &mut File) -> io::Result<()> {
     written
 }
 
-/// One delivered body.
+/// One delivered body, read into the struct of its kind.
+fn read(line: &mut Line, length: usize) -> Result<(Id, Request), ReadRefusal> {
+    let body = &line.body[..length];
+    let mut request = Request::default();
+    let id = body_id(body)?;
+    match id {
+        Id::Heartbeat => Heartbeat::default().read_from(body)?,
+        Id::Uplink => read_uplink(body, &mut [0; UPLINK_PAYLOAD])?,
+        Id::GeometricAltitude => GeometricAltitude::default().read_from(body)?,
+        Id::Ownship => line.report.read_ownship_from(body)?,
+        Id::Traffic => line.report.read_traffic_from(body)?,
+        Id::Request => request.read_from(body)?,
+        Id::Control => line.control.read_from(body)?,
+        Id::Initialization => line.initialization.read_from(body)?,
+        _ => {}
+    }
+    Ok((id, request))
+}
+
+/// Says what was heard, and answers a request.
 fn hear(line: &mut Line, length: usize, answers: &mut File) -> io::Result<()> {
-    let mut message = match read_message(&line.body[..length]) {
-        Ok(message) => message,
+    let (id, request) = match read(line, length) {
+        Ok(heard) => heard,
         Err(refusal) => {
             println!("message refused with {}", refusal.number());
             return Ok(());
         }
     };
-    let mut written = Ok(());
-    match &message {
-        Message::Ownship(report) => say_report("ownship", report),
-        Message::Traffic(report) => say_report("traffic", report),
-        Message::Request(request) => written = answer(line, request.requested_id, answers),
-        Message::Control(control) => {
+    match id {
+        Id::Ownship => say_report("ownship", &line.report),
+        Id::Traffic => say_report("traffic", &line.report),
+        Id::Request => return answer(line, request.requested_id, answers),
+        Id::Control => {
             // The identity may be private: it is kept and not said.
-            line.control = *control;
             line.heard = true;
-            println!("control: squawk {:04}", control.squawk);
+            println!("control: squawk {:04}", line.control.squawk);
         }
-        Message::Heartbeat(_) => println!("message 0"),
-        Message::Uplink(_) => println!("message 7"),
-        Message::GeometricAltitude(_) => println!("message 11"),
-        Message::Initialization(_) => println!("message 117"),
+        other => println!("message {}", other.number()),
     }
-    clear(&mut message);
-    written
+    Ok(())
 }
 
 /// The octets that a read brought, up to the last of them.

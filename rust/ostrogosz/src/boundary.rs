@@ -1,8 +1,10 @@
 //! The declarations of `include/ostrogosz.h`.
 
 use crate::mavlink::{DataStream, Dynamic, Header, Static, Status, Traffic};
-use crate::messages::{Control, GeometricAltitude, Heartbeat, Initialization, Report, Request};
-use crate::{Refusal, LONGEST_FRAME};
+use crate::messages::{
+    Control, GeometricAltitude, Heartbeat, Initialization, Report, Request, UPLINK_PAYLOAD,
+};
+use crate::{LONGEST_FRAME, STORE};
 
 /// A writer's answer.
 #[repr(C)]
@@ -16,10 +18,10 @@ pub struct Written {
 impl Written {
     /// The same answer in types.
     #[inline]
-    pub fn answer(self) -> Result<usize, Refusal> {
+    pub fn answer<R>(self, refusal: impl FnOnce(u32) -> R) -> Result<usize, R> {
         match self.refusal {
             0 => Ok(self.length),
-            number => Err(Refusal::of_number(number)),
+            number => Err(refusal(number)),
         }
     }
 }
@@ -41,21 +43,12 @@ pub struct ReceivedSlice {
     pub taken: usize,
 }
 
-/// A message that was read. The fields of its kind are filled; all others, and
-/// all of them on a refusal, are 0.
+/// What a body says of itself.
 #[repr(C)]
-pub struct ReadMessage {
-    /// 0, or 10 to 13.
+pub struct BodyId {
+    /// 0, or 10.
     pub refusal: u32,
-    /// 0 on a refusal.
     pub id: u32,
-    pub heartbeat: Heartbeat,
-    /// 10 and 20.
-    pub report: Report,
-    pub geometric_altitude: GeometricAltitude,
-    pub request: Request,
-    pub control: Control,
-    pub initialization: Initialization,
 }
 
 /// A value, or no data.
@@ -67,152 +60,201 @@ pub struct Measure {
     pub value: i32,
 }
 
-/// A MAVLink frame that was read. The struct that `id` names is filled; all
-/// others, and everything but `refusal` on a refusal, are 0.
+/// What the MAVLink frame at the start of an input is.
 #[repr(C)]
-pub struct ReadFrame {
-    /// 0, or 20 to 25.
+pub struct FoundFrame {
+    /// 0, or 20 to 23.
     pub refusal: u32,
     pub id: u32,
     /// Octets of the frame.
     pub used: usize,
-    pub header: Header,
-    pub failures: u32,
+}
+
+/// The failure bits of a MAVLink status.
+#[repr(C)]
+pub struct FailureBits {
+    pub count: u32,
     /// 0 for none.
-    pub lowest_failure: u32,
-    pub data_stream: DataStream,
-    pub static_data: Static,
-    pub dynamic: Dynamic,
-    pub status: Status,
-    pub traffic: Traffic,
+    pub lowest: u32,
 }
 
 /// What a frame is sent in.
 type Buffer = [u8; LONGEST_FRAME];
 
-extern "C" {
-    pub fn ostrogosz_frame_check(body: *const u8, body_length: usize) -> u16;
-    pub fn ostrogosz_write_frame(
+/// The numbers of a receiver's line.
+pub const LINE: usize = 7;
+
+/// With an archive of another interface the crate does not link.
+#[used]
+static ABI: unsafe extern "C" fn() -> u32 = ostrogosz_abi_1;
+
+unsafe extern "C" {
+    fn ostrogosz_abi_1() -> u32;
+
+    pub fn ostrogosz_ucp_frame_check(body: *const u8, body_length: usize) -> u16;
+    pub fn ostrogosz_ucp_write_frame(
         body: *const u8,
         body_length: usize,
         output: *mut u8,
         output_length: usize,
     ) -> Written;
-    pub fn ostrogosz_receiver_start(store: *mut [u8; 438], line: *mut [u32; 7]);
-    pub fn ostrogosz_receive(
-        store: *mut [u8; 438],
-        line: *mut [u32; 7],
+    pub fn ostrogosz_ucp_start(store: *mut [u8; STORE], line: *mut [u32; LINE]);
+    pub fn ostrogosz_ucp_receive(
+        store: *mut [u8; STORE],
+        line: *mut [u32; LINE],
         octet: u8,
         output: *mut u8,
         output_length: usize,
     ) -> Received;
-    pub fn ostrogosz_receive_slice(
-        store: *mut [u8; 438],
-        line: *mut [u32; 7],
+    pub fn ostrogosz_ucp_receive_slice(
+        store: *mut [u8; STORE],
+        line: *mut [u32; LINE],
         octets: *const u8,
         octets_length: usize,
         output: *mut u8,
         output_length: usize,
     ) -> ReceivedSlice;
 
-    pub fn ostrogosz_read_message(body: *const u8, body_length: usize) -> ReadMessage;
-
-    pub fn ostrogosz_write_heartbeat(
-        heartbeat: Heartbeat,
-        output: *mut u8,
-        output_length: usize,
-    ) -> Written;
-    pub fn ostrogosz_write_uplink(
+    pub fn ostrogosz_ucp_read_id(body: *const u8, body_length: usize) -> BodyId;
+    pub fn ostrogosz_ucp_read_uplink(
+        body: *const u8,
+        body_length: usize,
+        payload: *mut [u8; UPLINK_PAYLOAD],
+    ) -> u32;
+    pub fn ostrogosz_ucp_write_uplink(
         payload: *const u8,
         payload_length: usize,
         output: *mut u8,
         output_length: usize,
     ) -> Written;
-    pub fn ostrogosz_write_ownship(
-        report: Report,
-        output: *mut u8,
-        output_length: usize,
-    ) -> Written;
-    pub fn ostrogosz_write_geometric_altitude(
-        altitude: GeometricAltitude,
-        output: *mut u8,
-        output_length: usize,
-    ) -> Written;
-    pub fn ostrogosz_write_traffic(
-        report: Report,
-        output: *mut u8,
-        output_length: usize,
-    ) -> Written;
-    pub fn ostrogosz_write_request(
-        request: Request,
-        output: *mut u8,
-        output_length: usize,
-    ) -> Written;
-    pub fn ostrogosz_write_control(
-        control: Control,
-        output: *mut u8,
-        output_length: usize,
-    ) -> Written;
-    pub fn ostrogosz_write_initialization(
-        initialization: Initialization,
-        output: *mut u8,
-        output_length: usize,
-    ) -> Written;
-
-    pub fn ostrogosz_send_heartbeat(heartbeat: Heartbeat, buffer: *mut Buffer) -> Written;
-    pub fn ostrogosz_send_uplink(
+    pub fn ostrogosz_ucp_send_uplink(
         payload: *const u8,
         payload_length: usize,
         buffer: *mut Buffer,
     ) -> Written;
-    pub fn ostrogosz_send_ownship(report: Report, buffer: *mut Buffer) -> Written;
-    pub fn ostrogosz_send_geometric_altitude(
-        altitude: GeometricAltitude,
-        buffer: *mut Buffer,
-    ) -> Written;
-    pub fn ostrogosz_send_traffic(report: Report, buffer: *mut Buffer) -> Written;
-    pub fn ostrogosz_send_request(request: Request, buffer: *mut Buffer) -> Written;
-    pub fn ostrogosz_send_control(control: Control, buffer: *mut Buffer) -> Written;
-    pub fn ostrogosz_send_initialization(
-        initialization: Initialization,
-        buffer: *mut Buffer,
-    ) -> Written;
 
-    pub fn ostrogosz_altitude_in_feet(altitude: u16) -> Measure;
-    pub fn ostrogosz_rate_in_feet_per_minute(vertical_rate: i16) -> Measure;
-    pub fn ostrogosz_geometric_altitude_in_feet(altitude: i16) -> i32;
-    pub fn ostrogosz_degrees_e7(angle: i32) -> i64;
+    pub fn ostrogosz_ucp_altitude_in_feet(altitude: u16) -> Measure;
+    pub fn ostrogosz_ucp_rate_in_feet_per_minute(vertical_rate: i16) -> Measure;
+    pub fn ostrogosz_ucp_geometric_altitude_in_feet(altitude: i16) -> i32;
+    pub fn ostrogosz_ucp_degrees_e7(angle: i32) -> i64;
 
-    pub fn ostrogosz_mavlink_read(input: *const u8, input_length: usize) -> ReadFrame;
+    pub fn ostrogosz_mavlink_read_id(input: *const u8, input_length: usize) -> FoundFrame;
+    pub fn ostrogosz_mavlink_count_failures(status: u8) -> FailureBits;
+}
 
-    pub fn ostrogosz_mavlink_write_data_stream(
-        data_stream: DataStream,
-        header: Header,
-        output: *mut u8,
-        output_length: usize,
-    ) -> Written;
-    pub fn ostrogosz_mavlink_write_static(
-        static_data: Static,
-        header: Header,
-        output: *mut u8,
-        output_length: usize,
-    ) -> Written;
-    pub fn ostrogosz_mavlink_write_dynamic(
-        dynamic: Dynamic,
-        header: Header,
-        output: *mut u8,
-        output_length: usize,
-    ) -> Written;
-    pub fn ostrogosz_mavlink_write_status(
-        status: Status,
-        header: Header,
-        output: *mut u8,
-        output_length: usize,
-    ) -> Written;
-    pub fn ostrogosz_mavlink_write_traffic(
-        traffic: Traffic,
-        header: Header,
-        output: *mut u8,
-        output_length: usize,
-    ) -> Written;
+/// The three calls of each kind of UCP message.
+macro_rules! ucp_calls {
+    ($($message:ty: $read:ident, $write:ident, $send:ident;)+) => {
+        unsafe extern "C" {
+            $(
+                pub fn $read(body: *const u8, body_length: usize, message: *mut $message) -> u32;
+                pub fn $write(
+                    message: *const $message,
+                    output: *mut u8,
+                    output_length: usize,
+                ) -> Written;
+                pub fn $send(message: *const $message, buffer: *mut Buffer) -> Written;
+            )+
+        }
+    };
+}
+
+ucp_calls! {
+    Heartbeat: ostrogosz_ucp_read_heartbeat, ostrogosz_ucp_write_heartbeat,
+        ostrogosz_ucp_send_heartbeat;
+    Report: ostrogosz_ucp_read_ownship, ostrogosz_ucp_write_ownship, ostrogosz_ucp_send_ownship;
+    GeometricAltitude: ostrogosz_ucp_read_geometric_altitude,
+        ostrogosz_ucp_write_geometric_altitude, ostrogosz_ucp_send_geometric_altitude;
+    Report: ostrogosz_ucp_read_traffic, ostrogosz_ucp_write_traffic, ostrogosz_ucp_send_traffic;
+    Request: ostrogosz_ucp_read_request, ostrogosz_ucp_write_request, ostrogosz_ucp_send_request;
+    Control: ostrogosz_ucp_read_control, ostrogosz_ucp_write_control, ostrogosz_ucp_send_control;
+    Initialization: ostrogosz_ucp_read_initialization, ostrogosz_ucp_write_initialization,
+        ostrogosz_ucp_send_initialization;
+}
+
+/// The two calls of each kind of MAVLink message.
+macro_rules! mavlink_calls {
+    ($($message:ty: $read:ident, $write:ident;)+) => {
+        unsafe extern "C" {
+            $(
+                pub fn $read(
+                    input: *const u8,
+                    input_length: usize,
+                    header: *mut Header,
+                    message: *mut $message,
+                ) -> u32;
+                pub fn $write(
+                    message: *const $message,
+                    header: *const Header,
+                    output: *mut u8,
+                    output_length: usize,
+                ) -> Written;
+            )+
+        }
+    };
+}
+
+mavlink_calls! {
+    DataStream: ostrogosz_mavlink_read_data_stream, ostrogosz_mavlink_write_data_stream;
+    Static: ostrogosz_mavlink_read_static, ostrogosz_mavlink_write_static;
+    Dynamic: ostrogosz_mavlink_read_dynamic, ostrogosz_mavlink_write_dynamic;
+    Status: ostrogosz_mavlink_read_status, ostrogosz_mavlink_write_status;
+    Traffic: ostrogosz_mavlink_read_traffic, ostrogosz_mavlink_write_traffic;
+}
+
+/// A struct lies in memory as the proved code takes it: its size, and where
+/// each field stands.
+macro_rules! layout {
+    ($($type:ty, $size:literal { $($field:ident: $offset:literal,)+ })+) => {
+        $(const _: () = {
+            assert!(core::mem::size_of::<$type>() == $size);
+            $(assert!(core::mem::offset_of!($type, $field) == $offset);)+
+        };)+
+    };
+}
+
+layout! {
+    Written, 16 { refusal: 0, length: 8, }
+    Received, 8 { kind: 0, value: 4, }
+    ReceivedSlice, 16 { kind: 0, value: 4, taken: 8, }
+    BodyId, 8 { refusal: 0, id: 4, }
+    Measure, 8 { known: 0, value: 4, }
+    FoundFrame, 16 { refusal: 0, id: 4, used: 8, }
+    FailureBits, 8 { count: 0, lowest: 4, }
+    Heartbeat, 6 { status_1: 0, status_2: 1, time_stamp: 2, counts: 4, }
+    Report, 40 {
+        alert: 0, address_type: 1, address: 4, latitude: 8, longitude: 12, altitude: 16,
+        miscellaneous: 18, nic: 19, nacp: 20, speed: 22, vertical_rate: 24, track: 26,
+        emitter: 27, callsign: 28, emergency: 36, spare: 37,
+    }
+    GeometricAltitude, 4 { altitude: 0, metrics: 2, }
+    Request, 1 { requested_id: 0, }
+    Control, 24 {
+        es_enabled: 0, mode_s: 1, mode_c: 2, mode_a: 3, ident: 4, air_ground: 5,
+        baro_checked: 6, altitude: 8, squawk: 12, emergency: 14, identity: 15,
+    }
+    Initialization, 24 {
+        version: 0, address: 4, emitter: 8, callsign: 9, stall_speed: 17, size: 18,
+        lateral: 19, longitudinal: 20,
+    }
+    Header, 3 { sequence: 0, system: 1, component: 2, }
+    DataStream, 6 {
+        req_message_rate: 0, target_system: 2, target_component: 3, req_stream_id: 4,
+        start_stop: 5,
+    }
+    Static, 20 {
+        icao: 0, stall_speed: 4, callsign: 6, capability: 14, emitter: 15, alw_encode: 16,
+        gps_lat_offs: 17, gps_lon_offs: 18, integrity: 19,
+    }
+    Dynamic, 44 {
+        utc_time: 0, latitude: 4, longitude: 8, alt_pres: 12, alt_gnss: 16, acc_horiz: 20,
+        acc_vert: 24, acc_vel: 26, vel_vert: 28, ns_vog: 30, ew_vog: 32, state: 34,
+        squawk: 36, fix_type: 38, num_sats: 39, em_status: 40, control: 41,
+    }
+    Status, 1 { status: 0, }
+    Traffic, 40 {
+        icao_address: 0, lat: 4, lon: 8, altitude: 12, heading: 16, hor_velocity: 18,
+        ver_velocity: 20, valid_flags: 22, squawk: 24, altitude_type: 26, callsign: 27,
+        callsign_ninth: 35, emitter_type: 36, tslc: 37,
+    }
 }

@@ -9,16 +9,19 @@
 //! |---|---|---|
 //! | [`Receiver::receive`], [`Receiver::receive_slice`] | [`LONGEST_BODY`], 436 | 1 or 3, the first fault; else at the flag 2, 4, 5, 6 |
 //! | [`write_frame`] | [`LONGEST_FRAME`], 878 | 7, 8 |
-//! | [`messages::read_message`] | | 10, 11, 12, 13 |
-//! | [`messages::write_message`] | [`LONGEST_BODY`], 436 | 13, 8 |
-//! | [`messages::send_message`] | its buffer, 878 | 13; no message is known to get 7 or 8 |
-//! | [`mavlink::read_frame`] | | 20, 21, 20, 22, 23, 20, 24, 25 |
-//! | [`mavlink::write_frame`] | [`mavlink::LONGEST_FRAME`], 50 | 25, 8 |
+//! | [`messages::body_id`] | | 10 |
+//! | [`messages::read_message`], the kinds' `read_from` | | 10, 11, 12, 13 |
+//! | [`messages::write_message`], the kinds' `write_to` | [`LONGEST_BODY`], 436 | 13, 8 |
+//! | [`messages::send_message`], the kinds' `send_to` | its buffer, 878 | 13 |
+//! | [`mavlink::find_frame`] | | 20, 21, 20, 22, 23, 20 |
+//! | [`mavlink::read_frame`], the kinds' `read_from` | | 20, 21, 20, 22, 23, 20, 24, 25 |
+//! | [`mavlink::write_frame`], the kinds' `write_to` | [`mavlink::LONGEST_FRAME`], 50 | 25, 8 |
 //! | [`frame_check`], [`meanings`] | | none |
 //!
 //! A refusal writes nothing. Success writes exactly the answer at the start of
 //! the output; the octets behind it keep what they held. A lent output is its
-//! caller's to clear.
+//! caller's to clear. The calls on a kind's own struct leave no octet of a message
+//! in any other memory; those that give or take a message by value may.
 //!
 //! Structs hold the machine's numbers. On the line messages 10, 11, 20 and the
 //! counts of 0 have the high octet first; 45, 117, the time stamp of 0, all of
@@ -40,13 +43,14 @@
 //! let taken = receiver.receive_slice(&frame[..length], &mut body);
 //! assert_eq!(taken.answer, Answer::Delivered(3));
 //! assert_eq!(read_message(&body[..3]), Ok(request));
-//! # Ok::<(), ostrogosz::Refusal>(())
+//! # Ok::<(), Box<dyn std::error::Error>>(())
 //! ```
 
 #![no_std]
 #![deny(missing_docs)]
 
 mod boundary;
+mod hidden;
 pub mod mavlink;
 pub mod meanings;
 pub mod messages;
@@ -54,8 +58,11 @@ mod receiver;
 mod refusal;
 mod writer;
 
-pub use receiver::{Answer, Counts, Receiver, Taken, STORE};
-pub use refusal::Refusal;
+pub use receiver::{Answer, Answers, Counts, Phase, Receiver, STORE, Taken};
+pub use refusal::{
+    FrameRefusal, MavlinkReadRefusal, MavlinkWriteRefusal, ReadRefusal, ReceiveRefusal, Refusal,
+    SendRefusal, WriteRefusal,
+};
 pub use writer::{frame_check, write_frame};
 
 /// Octets of the longest body that a frame carries.
@@ -64,3 +71,8 @@ pub const LONGEST_BODY: usize = 436;
 /// Octets of the longest frame: two flags around 436 octets of body and 2 of
 /// check, all of them escaped.
 pub const LONGEST_FRAME: usize = 878;
+
+/// The example of the crate's front page, run as a test.
+#[cfg(doctest)]
+#[doc = include_str!("../README.md")]
+struct FrontPage;

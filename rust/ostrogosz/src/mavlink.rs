@@ -12,16 +12,70 @@
 //! | [`Dynamic`] | 202 | 50 |
 //! | [`Status`] | 203 | 9 |
 //! | [`Traffic`] | 246 | 46 |
+//!
+//! Two ways to read and write. Each kind has calls on its own struct, as
+//! [`Static::read_from`]: the message lies in the caller's struct alone, and no
+//! octet of it anywhere else. [`read_frame`] and [`write_frame`] choose by the
+//! ID and give and take a [`Message`] by value, which the compiler may copy:
+//! where identities are private, use the first.
 
-use crate::boundary::{
-    ostrogosz_mavlink_read, ostrogosz_mavlink_write_data_stream, ostrogosz_mavlink_write_dynamic,
-    ostrogosz_mavlink_write_static, ostrogosz_mavlink_write_status,
-    ostrogosz_mavlink_write_traffic, ReadFrame,
-};
-use crate::Refusal;
+use crate::boundary::*;
+use crate::hidden::debug_without;
+use crate::{MavlinkReadRefusal, MavlinkWriteRefusal};
 
 /// Octets of the longest frame of the five kinds: the Dynamic one.
 pub const LONGEST_FRAME: usize = 50;
+
+/// Which kind of message a frame carries.
+#[derive(Clone, Copy, Debug, PartialEq, Eq, Hash)]
+#[non_exhaustive]
+#[repr(u8)]
+pub enum Id {
+    /// [`DataStream`].
+    DataStream = 66,
+    /// [`Static`].
+    Static = 201,
+    /// [`Dynamic`].
+    Dynamic = 202,
+    /// [`Status`].
+    Status = 203,
+    /// [`Traffic`].
+    Traffic = 246,
+}
+
+impl Id {
+    /// The message ID in the kind's frames.
+    ///
+    /// ```
+    /// assert_eq!(ostrogosz::mavlink::Id::Dynamic.number(), 202);
+    /// ```
+    #[must_use]
+    pub const fn number(self) -> u8 {
+        self as u8
+    }
+
+    /// The kind of a number that the proved code gave.
+    #[inline]
+    fn of_number(number: u32) -> Self {
+        match number {
+            66 => Self::DataStream,
+            201 => Self::Static,
+            202 => Self::Dynamic,
+            203 => Self::Status,
+            246 => Self::Traffic,
+            _ => unreachable!("the contracts give no message {number}"),
+        }
+    }
+}
+
+/// What the frame at the start of an input is.
+#[derive(Clone, Copy, Debug, PartialEq, Eq)]
+pub struct Found {
+    /// Which kind of message it carries.
+    pub id: Id,
+    /// Its octets; those behind it are left.
+    pub used: usize,
+}
 
 /// A frame that was read.
 #[derive(Clone, Copy, Debug, PartialEq, Eq)]
@@ -32,12 +86,15 @@ pub struct Frame {
     pub message: Message,
     /// Its octets; those behind it are left.
     pub used: usize,
-    /// Of a status: how many of the failure bits, 1 to 4, are set. Of any other
-    /// message: 0.
-    pub failures: u32,
-    /// Of a status: the lowest failure bit that is set, 1 to 4. Of any other
-    /// message: none.
-    pub lowest_failure: Option<u32>,
+}
+
+/// The failure bits of a status.
+#[derive(Clone, Copy, Debug, PartialEq, Eq)]
+pub struct Failures {
+    /// How many of bits 1 to 4 are set.
+    pub count: u32,
+    /// The lowest of them that is set.
+    pub lowest: Option<u32>,
 }
 
 /// What a frame says of itself besides its message: any values.
@@ -54,6 +111,7 @@ pub struct Header {
 
 /// A message in a frame.
 #[derive(Clone, Copy, Debug, PartialEq, Eq)]
+#[non_exhaustive]
 pub enum Message {
     /// ID 66.
     DataStream(DataStream),
@@ -83,14 +141,12 @@ pub struct DataStream {
     pub start_stop: u8,
 }
 
-/// Message 201.
-#[derive(Clone, Copy, Debug, Default, PartialEq, Eq)]
+/// Message 201. The debug form leaves address and callsign out.
+#[derive(Clone, Copy, Default, PartialEq, Eq)]
 #[repr(C)]
 pub struct Static {
     /// Address: 24 bits; a wider one is refused in writing.
     pub icao: u32,
-    /// System integrity and design assurance.
-    pub integrity: u8,
     /// Stall speed in cm/s.
     pub stall_speed: u16,
     /// Callsign: range A-Z, 0-9 and space, with no zero at the end.
@@ -105,6 +161,8 @@ pub struct Static {
     pub gps_lat_offs: u8,
     /// Longitudinal offset of the antenna: range 0 to 31.
     pub gps_lon_offs: u8,
+    /// System integrity and design assurance.
+    pub integrity: u8,
 }
 
 /// Message 202.
@@ -156,8 +214,8 @@ pub struct Status {
     pub status: u8,
 }
 
-/// Message 246.
-#[derive(Clone, Copy, Debug, Default, PartialEq, Eq)]
+/// Message 246. The debug form leaves address and callsign out.
+#[derive(Clone, Copy, Default, PartialEq, Eq)]
 #[repr(C)]
 pub struct Traffic {
     /// Address: all 32 bits are carried.
@@ -191,48 +249,227 @@ pub struct Traffic {
     pub tslc: u8,
 }
 
+debug_without! {
+    Static {
+        stall_speed, capability, emitter, alw_encode, gps_lat_offs, gps_lon_offs, integrity,
+    } hidden { icao, callsign, }
+}
+
+debug_without! {
+    Traffic {
+        lat, lon, altitude, heading, hor_velocity, ver_velocity, valid_flags, squawk,
+        altitude_type, emitter_type, tslc,
+    } hidden { icao_address, callsign, callsign_ninth, }
+}
+
+impl Message {
+    /// Which kind it is.
+    ///
+    /// ```
+    /// use ostrogosz::mavlink::{Id, Message, Status};
+    ///
+    /// assert_eq!(Message::from(Status { status: 1 }).id(), Id::Status);
+    /// ```
+    #[must_use]
+    pub const fn id(&self) -> Id {
+        match self {
+            Self::DataStream(_) => Id::DataStream,
+            Self::Static(_) => Id::Static,
+            Self::Dynamic(_) => Id::Dynamic,
+            Self::Status(_) => Id::Status,
+            Self::Traffic(_) => Id::Traffic,
+        }
+    }
+}
+
+impl Status {
+    /// The failure bits that are set.
+    ///
+    /// ```
+    /// use ostrogosz::mavlink::Status;
+    ///
+    /// let failures = Status { status: 0b1_1000 }.failures();
+    /// assert_eq!((failures.count, failures.lowest), (2, Some(3)));
+    /// ```
+    #[inline]
+    #[must_use]
+    pub fn failures(&self) -> Failures {
+        // SAFETY: the call takes and gives numbers alone.
+        let bits = unsafe { ostrogosz_mavlink_count_failures(self.status) };
+        Failures {
+            count: bits.count,
+            lowest: (bits.lowest != 0).then_some(bits.lowest),
+        }
+    }
+}
+
+/// The calls on one kind's struct. The sample is a message that both accept.
+macro_rules! kind {
+    ($type:ident, $id:literal, $octets:literal, $sample:literal; $read:ident, $write:ident) => {
+        impl $type {
+            #[doc = concat!("Reads the frame of a message ", stringify!($id), " at the start of")]
+            /// `input` into this struct and `header`; the octets behind the
+            /// frame are left.
+            ///
+            /// # Errors
+            ///
+            /// Tested in the order of [`read_frame`], where 22 is another
+            /// kind's ID too. A refusal leaves both structs as they were.
+            ///
+            /// ```
+            #[doc = concat!("use ostrogosz::mavlink::{Header, ", stringify!($type), "};")]
+            #[doc = concat!("let sent = ", $sample, ";")]
+            #[doc = concat!("let mut frame = [0; ", stringify!($octets), "];")]
+            /// sent.write_to(&Header::default(), &mut frame)?;
+            #[doc = concat!("let mut message = ", stringify!($type), "::default();")]
+            /// message.read_from(&mut Header::default(), &frame)?;
+            /// assert_eq!(message, sent);
+            /// # Ok::<(), Box<dyn std::error::Error>>(())
+            /// ```
+            #[inline]
+            pub fn read_from(
+                &mut self,
+                header: &mut Header,
+                input: &[u8],
+            ) -> Result<(), MavlinkReadRefusal> {
+                // SAFETY: pointer and length are those of one slice, which is
+                // only read; both structs are all there and mutable.
+                match unsafe { $read(input.as_ptr(), input.len(), header, self) } {
+                    0 => Ok(()),
+                    number => Err(MavlinkReadRefusal::of_number(number)),
+                }
+            }
+
+            #[doc = concat!("Writes the frame of a message ", stringify!($id), " at the start of")]
+            #[doc = concat!("`output` and gives its length, ", stringify!($octets), ". The octets behind")]
+            /// it keep what they held.
+            ///
+            /// # Errors
+            ///
+            /// [`MavlinkWriteRefusal::MavlinkField`], then
+            /// [`MavlinkWriteRefusal::OutputLength`]; a refusal writes nothing.
+            ///
+            /// ```
+            #[doc = concat!("use ostrogosz::mavlink::{Header, ", stringify!($type), "};")]
+            #[doc = concat!("let message = ", $sample, ";")]
+            #[doc = concat!("let mut frame = [0; ", stringify!($octets), "];")]
+            #[doc = concat!("assert_eq!(message.write_to(&Header::default(), &mut frame)?, ", stringify!($octets), ");")]
+            /// # Ok::<(), Box<dyn std::error::Error>>(())
+            /// ```
+            #[inline]
+            pub fn write_to(
+                &self,
+                header: &Header,
+                output: &mut [u8],
+            ) -> Result<usize, MavlinkWriteRefusal> {
+                // SAFETY: both structs are all there; pointer and length are
+                // those of one slice, which is mutable, so nothing overlaps.
+                let written = unsafe { $write(self, header, output.as_mut_ptr(), output.len()) };
+                written.answer(MavlinkWriteRefusal::of_number)
+            }
+        }
+
+        impl From<$type> for Message {
+            fn from(of: $type) -> Self {
+                Self::$type(of)
+            }
+        }
+    };
+}
+
+kind! {
+    DataStream, 66, 14, "DataStream { req_message_rate: 2, ..DataStream::default() }";
+    ostrogosz_mavlink_read_data_stream, ostrogosz_mavlink_write_data_stream
+}
+kind! {
+    Static, 201, 27, "Static { callsign: *b\"PING2020\", ..Static::default() }";
+    ostrogosz_mavlink_read_static, ostrogosz_mavlink_write_static
+}
+kind! {
+    Dynamic, 202, 50, "Dynamic { squawk: 1200, ..Dynamic::default() }";
+    ostrogosz_mavlink_read_dynamic, ostrogosz_mavlink_write_dynamic
+}
+kind! {
+    Status, 203, 9, "Status { status: 1 }";
+    ostrogosz_mavlink_read_status, ostrogosz_mavlink_write_status
+}
+kind! {
+    Traffic, 246, 46, "Traffic { squawk: 7000, ..Traffic::default() }";
+    ostrogosz_mavlink_read_traffic, ostrogosz_mavlink_write_traffic
+}
+
+/// Which message the frame at the start of `input` carries, and where it ends.
+/// Its check and fields are not looked at.
+///
+/// # Errors
+///
+/// As for [`read_frame`], without 24 and 25.
+///
+/// ```
+/// use ostrogosz::mavlink::{find_frame, Id};
+///
+/// let found = find_frame(&[0xFE, 1, 0, 0, 0, 203, 1, 0x0A, 0x0B, 0xFE])?;
+/// assert_eq!((found.id, found.used), (Id::Status, 9));
+/// # Ok::<(), ostrogosz::MavlinkReadRefusal>(())
+/// ```
+#[inline]
+pub fn find_frame(input: &[u8]) -> Result<Found, MavlinkReadRefusal> {
+    // SAFETY: pointer and length are those of one slice, which is only read.
+    let found = unsafe { ostrogosz_mavlink_read_id(input.as_ptr(), input.len()) };
+    match found.refusal {
+        0 => Ok(Found {
+            id: Id::of_number(found.id),
+            used: found.used,
+        }),
+        number => Err(MavlinkReadRefusal::of_number(number)),
+    }
+}
+
 /// Reads the frame at the start of `input`; the octets behind it are left.
 ///
 /// # Errors
 ///
-/// Tested in this order: [`Refusal::MavlinkTooShort`] (20) for no octet,
-/// [`Refusal::MavlinkStart`] (21) for a first octet other than FE, 20 for fewer
-/// than 6 octets, [`Refusal::MavlinkUnknownId`] (22),
-/// [`Refusal::MavlinkLength`] (23) for a length octet that is not the kind's,
-/// 20 for fewer octets than the frame has, [`Refusal::MavlinkCheck`] (24),
-/// [`Refusal::MavlinkField`] (25) for a field outside its range.
+/// Tested in this order: [`MavlinkReadRefusal::MavlinkTooShort`] (20) for no
+/// octet, [`MavlinkReadRefusal::MavlinkStart`] (21) for a first octet other than
+/// FE, 20 for fewer than 6 octets, [`MavlinkReadRefusal::MavlinkUnknownId`]
+/// (22), [`MavlinkReadRefusal::MavlinkLength`] (23) for a length octet that is
+/// not the kind's, 20 for fewer octets than the frame has,
+/// [`MavlinkReadRefusal::MavlinkCheck`] (24),
+/// [`MavlinkReadRefusal::MavlinkField`] (25) for a field outside its range.
+///
+/// ```
+/// use ostrogosz::mavlink::{read_frame, write_frame, Header, Message, Status};
+///
+/// let message = Message::Status(Status { status: 1 });
+/// let mut output = [0; 9];
+/// write_frame(&message, Header::default(), &mut output)?;
+/// assert_eq!(read_frame(&output)?.message, message);
+/// # Ok::<(), Box<dyn std::error::Error>>(())
+/// ```
 #[inline]
-pub fn read_frame(input: &[u8]) -> Result<Frame, Refusal> {
-    // SAFETY: pointer and length are those of one slice, which is only read.
-    let read = unsafe { ostrogosz_mavlink_read(input.as_ptr(), input.len()) };
-    match read.refusal {
-        0 => Ok(frame_of(&read)),
-        number => Err(Refusal::of_number(number)),
+pub fn read_frame(input: &[u8]) -> Result<Frame, MavlinkReadRefusal> {
+    let found = find_frame(input)?;
+    let mut header = Header::default();
+    /// A struct that a reader fills.
+    macro_rules! read {
+        ($kind:ident) => {{
+            let mut of = $kind::default();
+            of.read_from(&mut header, input)?;
+            Message::$kind(of)
+        }};
     }
-}
-
-#[inline]
-fn frame_of(read: &ReadFrame) -> Frame {
-    Frame {
-        header: read.header,
-        message: message_of(read),
-        used: read.used,
-        failures: read.failures,
-        lowest_failure: (read.lowest_failure != 0).then_some(read.lowest_failure),
-    }
-}
-
-/// The message of a struct in which the fields of one kind count.
-#[inline]
-fn message_of(read: &ReadFrame) -> Message {
-    match read.id {
-        66 => Message::DataStream(read.data_stream),
-        201 => Message::Static(read.static_data),
-        202 => Message::Dynamic(read.dynamic),
-        203 => Message::Status(read.status),
-        246 => Message::Traffic(read.traffic),
-        id => unreachable!("the contracts give no message {id}"),
-    }
+    let message = match found.id {
+        Id::DataStream => read!(DataStream),
+        Id::Static => read!(Static),
+        Id::Dynamic => read!(Dynamic),
+        Id::Status => read!(Status),
+        Id::Traffic => read!(Traffic),
+    };
+    Ok(Frame {
+        header,
+        message,
+        used: found.used,
+    })
 }
 
 /// Writes the frame of a message at the start of `output` and gives its length.
@@ -242,21 +479,30 @@ fn message_of(read: &ReadFrame) -> Message {
 ///
 /// # Errors
 ///
-/// Tested in this order: [`Refusal::MavlinkField`] for a field outside its range
-/// or too wide for its bits, [`Refusal::OutputLength`] for an output shorter
-/// than the frame. A refusal writes nothing.
+/// Tested in this order: [`MavlinkWriteRefusal::MavlinkField`] for a field
+/// outside its range or too wide for its bits,
+/// [`MavlinkWriteRefusal::OutputLength`] for an output shorter than the frame. A
+/// refusal writes nothing.
+///
+/// ```
+/// use ostrogosz::mavlink::{write_frame, Header, Message, Status};
+///
+/// let mut output = [0; 9];
+/// let message = Message::Status(Status { status: 1 });
+/// assert_eq!(write_frame(&message, Header::default(), &mut output), Ok(9));
+/// assert_eq!(output[..7], [0xFE, 1, 0, 0, 0, 203, 1]);
+/// ```
 #[inline]
-pub fn write_frame(message: &Message, header: Header, output: &mut [u8]) -> Result<usize, Refusal> {
-    let (to, room) = (output.as_mut_ptr(), output.len());
-    // SAFETY: pointer and length are those of one slice, which is mutable.
-    let written = unsafe {
-        match *message {
-            Message::DataStream(of) => ostrogosz_mavlink_write_data_stream(of, header, to, room),
-            Message::Static(of) => ostrogosz_mavlink_write_static(of, header, to, room),
-            Message::Dynamic(of) => ostrogosz_mavlink_write_dynamic(of, header, to, room),
-            Message::Status(of) => ostrogosz_mavlink_write_status(of, header, to, room),
-            Message::Traffic(of) => ostrogosz_mavlink_write_traffic(of, header, to, room),
-        }
-    };
-    written.answer()
+pub fn write_frame(
+    message: &Message,
+    header: Header,
+    output: &mut [u8],
+) -> Result<usize, MavlinkWriteRefusal> {
+    match message {
+        Message::DataStream(of) => of.write_to(&header, output),
+        Message::Static(of) => of.write_to(&header, output),
+        Message::Dynamic(of) => of.write_to(&header, output),
+        Message::Status(of) => of.write_to(&header, output),
+        Message::Traffic(of) => of.write_to(&header, output),
+    }
 }

@@ -5,32 +5,86 @@
 //! writing. "Range" is tested in reading and in writing. Every other value is
 //! carried, marks for what is unknown too.
 //!
-//! | Message | ID | Octets of its body |
-//! |---|---|---|
-//! | [`Heartbeat`] | 0 | 7 |
-//! | [`Uplink`](Message::Uplink) | 7 | 436 |
-//! | [`Ownship`](Message::Ownship) | 10 | 28 |
-//! | [`GeometricAltitude`] | 11 | 5 |
-//! | [`Traffic`](Message::Traffic) | 20 | 28 |
-//! | [`Request`] | 44 | 3 |
-//! | [`Control`] | 45 | 18 |
-//! | [`Initialization`] | 117 | 19 |
+//! | Message | ID | Octets of its body | Paper |
+//! |---|---|---|---|
+//! | [`Heartbeat`] | 0 | 7 | GDL90 public ICD |
+//! | [`Uplink`](Message::Uplink) | 7 | 436 | GDL90 public ICD |
+//! | [`Ownship`](Message::Ownship), a [`Report`] | 10 | 28 | GDL90 public ICD |
+//! | [`GeometricAltitude`] | 11 | 5 | GDL90 public ICD |
+//! | [`Traffic`](Message::Traffic), a [`Report`] | 20 | 28 | GDL90 public ICD |
+//! | [`Request`] | 44 | 3 | source document 003 |
+//! | [`Control`] | 45 | 18 | source document 003 |
+//! | [`Initialization`] | 117 | 19 | source document 000 |
+//!
+//! Two ways to read and write. Each kind has calls on its own struct, as
+//! [`Control::read_from`]: the message lies in the caller's struct alone, and
+//! no octet of it anywhere else. [`read_message`], [`write_message`] and
+//! [`send_message`] choose by the ID and give and take a [`Message`] by value,
+//! which the compiler may copy: where identities are private, use the first.
 
-use crate::boundary::{
-    ostrogosz_read_message, ostrogosz_send_control, ostrogosz_send_geometric_altitude,
-    ostrogosz_send_heartbeat, ostrogosz_send_initialization, ostrogosz_send_ownship,
-    ostrogosz_send_request, ostrogosz_send_traffic, ostrogosz_send_uplink, ostrogosz_write_control,
-    ostrogosz_write_geometric_altitude, ostrogosz_write_heartbeat, ostrogosz_write_initialization,
-    ostrogosz_write_ownship, ostrogosz_write_request, ostrogosz_write_traffic,
-    ostrogosz_write_uplink, ReadMessage,
-};
-use crate::{Refusal, LONGEST_FRAME};
+use core::fmt::{self, Debug, Formatter};
+
+use crate::boundary::*;
+use crate::hidden::debug_without;
+use crate::{LONGEST_FRAME, ReadRefusal, SendRefusal, WriteRefusal};
 
 /// Octets of an uplink's payload: all of its body but the ID.
 pub const UPLINK_PAYLOAD: usize = 435;
 
+/// Which kind of message a body is, by its first octet.
+#[derive(Clone, Copy, Debug, PartialEq, Eq, Hash)]
+#[non_exhaustive]
+#[repr(u8)]
+pub enum Id {
+    /// [`Heartbeat`].
+    Heartbeat = 0,
+    /// [`Message::Uplink`].
+    Uplink = 7,
+    /// [`Message::Ownship`].
+    Ownship = 10,
+    /// [`GeometricAltitude`].
+    GeometricAltitude = 11,
+    /// [`Message::Traffic`].
+    Traffic = 20,
+    /// [`Request`].
+    Request = 44,
+    /// [`Control`].
+    Control = 45,
+    /// [`Initialization`].
+    Initialization = 117,
+}
+
+impl Id {
+    /// The first octet of the kind's bodies.
+    ///
+    /// ```
+    /// assert_eq!(ostrogosz::messages::Id::Control.number(), 45);
+    /// ```
+    #[must_use]
+    pub const fn number(self) -> u8 {
+        self as u8
+    }
+
+    /// The kind of a number that the proved code gave.
+    #[inline]
+    fn of_number(number: u32) -> Self {
+        match number {
+            0 => Self::Heartbeat,
+            7 => Self::Uplink,
+            10 => Self::Ownship,
+            11 => Self::GeometricAltitude,
+            20 => Self::Traffic,
+            44 => Self::Request,
+            45 => Self::Control,
+            117 => Self::Initialization,
+            _ => unreachable!("the contracts give no message {number}"),
+        }
+    }
+}
+
 /// A message of the UCP line.
-#[derive(Clone, Copy, Debug, PartialEq, Eq)]
+#[derive(Clone, Copy, PartialEq, Eq)]
+#[non_exhaustive]
 pub enum Message<'a> {
     /// ID 0.
     Heartbeat(Heartbeat),
@@ -52,6 +106,46 @@ pub enum Message<'a> {
     Initialization(Initialization),
 }
 
+impl Message<'_> {
+    /// Which kind it is.
+    ///
+    /// ```
+    /// use ostrogosz::messages::{Id, Message, Request};
+    ///
+    /// let message = Message::from(Request { requested_id: 43 });
+    /// assert_eq!(message.id(), Id::Request);
+    /// ```
+    #[must_use]
+    pub const fn id(&self) -> Id {
+        match self {
+            Self::Heartbeat(_) => Id::Heartbeat,
+            Self::Uplink(_) => Id::Uplink,
+            Self::Ownship(_) => Id::Ownship,
+            Self::GeometricAltitude(_) => Id::GeometricAltitude,
+            Self::Traffic(_) => Id::Traffic,
+            Self::Request(_) => Id::Request,
+            Self::Control(_) => Id::Control,
+            Self::Initialization(_) => Id::Initialization,
+        }
+    }
+}
+
+/// Leaves out what the structs do, and of a payload all but its length.
+impl Debug for Message<'_> {
+    fn fmt(&self, to: &mut Formatter<'_>) -> fmt::Result {
+        match self {
+            Self::Heartbeat(of) => to.debug_tuple("Heartbeat").field(of).finish(),
+            Self::Uplink(payload) => write!(to, "Uplink({} octets)", payload.len()),
+            Self::Ownship(of) => to.debug_tuple("Ownship").field(of).finish(),
+            Self::GeometricAltitude(of) => of.fmt(to),
+            Self::Traffic(of) => to.debug_tuple("Traffic").field(of).finish(),
+            Self::Request(of) => of.fmt(to),
+            Self::Control(of) => of.fmt(to),
+            Self::Initialization(of) => of.fmt(to),
+        }
+    }
+}
+
 /// Message 0: all bits are carried.
 #[derive(Clone, Copy, Debug, Default, PartialEq, Eq)]
 #[repr(C)]
@@ -66,8 +160,9 @@ pub struct Heartbeat {
     pub counts: u16,
 }
 
-/// Messages 10 and 20. No range is tested but the bits' own.
-#[derive(Clone, Copy, Debug, Default, PartialEq, Eq)]
+/// Messages 10 and 20. No range is tested but the bits' own. The debug form
+/// leaves address and callsign out.
+#[derive(Clone, Copy, Default, PartialEq, Eq)]
 #[repr(C)]
 pub struct Report {
     /// Alert: 4 bits.
@@ -125,8 +220,8 @@ pub struct Request {
     pub requested_id: u8,
 }
 
-/// Message 45, version 1.
-#[derive(Clone, Copy, Debug, Default, PartialEq, Eq)]
+/// Message 45, version 1. The debug form leaves the identity out.
+#[derive(Clone, Copy, Default, PartialEq, Eq)]
 #[repr(C)]
 pub struct Control {
     /// 1090ES transmission is enabled.
@@ -154,8 +249,9 @@ pub struct Control {
     pub identity: [u8; 8],
 }
 
-/// Message 117; its signature is 65 and its subtype 1.
-#[derive(Clone, Copy, Debug, Default, PartialEq, Eq)]
+/// Message 117; its signature is 65 and its subtype 1. The debug form leaves
+/// address and callsign out.
+#[derive(Clone, Copy, Default, PartialEq, Eq)]
 #[repr(C)]
 pub struct Initialization {
     /// Version: any.
@@ -176,40 +272,257 @@ pub struct Initialization {
     pub longitudinal: u8,
 }
 
+debug_without! {
+    Report {
+        alert, address_type, latitude, longitude, altitude, miscellaneous, nic, nacp, speed,
+        vertical_rate, track, emitter, emergency, spare,
+    } hidden { address, callsign, }
+}
+
+debug_without! {
+    Control {
+        es_enabled, mode_s, mode_c, mode_a, ident, air_ground, baro_checked, altitude, squawk,
+        emergency,
+    } hidden { identity, }
+}
+
+debug_without! {
+    Initialization {
+        version, emitter, stall_speed, size, lateral, longitudinal,
+    } hidden { address, callsign, }
+}
+
+/// The calls on one kind's struct. The sample is a message that every one of
+/// them accepts.
+macro_rules! kind {
+    ($type:ident, $id:literal, $octets:literal, $sample:literal;
+     $read_from:ident $read:ident; $write_to:ident $write:ident; $send_to:ident $send:ident) => {
+        impl $type {
+            #[doc = concat!("Reads the body of a message ", stringify!($id), " into this struct.")]
+            ///
+            /// # Errors
+            ///
+            /// Tested in this order: [`ReadRefusal::UnknownId`] for no octet or
+            /// another kind's ID, [`ReadRefusal::MessageLength`],
+            /// [`ReadRefusal::Fixed`], [`ReadRefusal::Field`]. A refusal leaves
+            /// the struct as it was.
+            ///
+            /// ```
+            #[doc = concat!("use ostrogosz::messages::", stringify!($type), ";")]
+            #[doc = concat!("let sent = ", $sample, ";")]
+            #[doc = concat!("let mut body = [0; ", stringify!($octets), "];")]
+            #[doc = concat!("sent.", stringify!($write_to), "(&mut body)?;")]
+            #[doc = concat!("let mut message = ", stringify!($type), "::default();")]
+            #[doc = concat!("message.", stringify!($read_from), "(&body)?;")]
+            /// assert_eq!(message, sent);
+            /// # Ok::<(), Box<dyn std::error::Error>>(())
+            /// ```
+            #[inline]
+            pub fn $read_from(&mut self, body: &[u8]) -> Result<(), ReadRefusal> {
+                // SAFETY: pointer and length are those of one slice, which is
+                // only read; the struct is all there, mutable, and every bool
+                // in it is left 0 or 1.
+                match unsafe { $read(body.as_ptr(), body.len(), self) } {
+                    0 => Ok(()),
+                    number => Err(ReadRefusal::of_number(number)),
+                }
+            }
+
+            #[doc = concat!("Writes the body of a message ", stringify!($id), " at the start of")]
+            #[doc = concat!("`output` and gives its length, ", stringify!($octets), ". The octets behind")]
+            /// it keep what they held.
+            ///
+            /// # Errors
+            ///
+            /// [`WriteRefusal::Field`], then [`WriteRefusal::OutputLength`]; a
+            /// refusal writes nothing.
+            ///
+            /// ```
+            #[doc = concat!("use ostrogosz::messages::", stringify!($type), ";")]
+            #[doc = concat!("let message = ", $sample, ";")]
+            #[doc = concat!("let mut body = [0; ", stringify!($octets), "];")]
+            #[doc = concat!("assert_eq!(message.", stringify!($write_to), "(&mut body)?, ", stringify!($octets), ");")]
+            /// # Ok::<(), Box<dyn std::error::Error>>(())
+            /// ```
+            #[inline]
+            pub fn $write_to(&self, output: &mut [u8]) -> Result<usize, WriteRefusal> {
+                // SAFETY: the struct is all there; pointer and length are those
+                // of one slice, which is mutable, so they don't overlap.
+                let written = unsafe { $write(self, output.as_mut_ptr(), output.len()) };
+                written.answer(WriteRefusal::of_number)
+            }
+
+            #[doc = concat!("Writes the frame of a message ", stringify!($id), " at the start of")]
+            /// `buffer`, which has room for every frame, and gives its length.
+            /// The octets behind it keep what they held.
+            ///
+            /// # Errors
+            ///
+            /// [`SendRefusal::Field`]; a refusal writes nothing.
+            ///
+            /// ```
+            #[doc = concat!("use ostrogosz::messages::", stringify!($type), ";")]
+            #[doc = concat!("let message = ", $sample, ";")]
+            /// let mut buffer = [0; ostrogosz::LONGEST_FRAME];
+            #[doc = concat!("let length = message.", stringify!($send_to), "(&mut buffer)?;")]
+            /// assert_eq!((buffer[0], buffer[length - 1]), (0x7E, 0x7E));
+            /// # Ok::<(), Box<dyn std::error::Error>>(())
+            /// ```
+            #[inline]
+            pub fn $send_to(&self, buffer: &mut [u8; LONGEST_FRAME]) -> Result<usize, SendRefusal> {
+                // SAFETY: struct and buffer are all there, and one is mutable,
+                // so they don't overlap.
+                unsafe { $send(self, buffer) }.answer(SendRefusal::of_number)
+            }
+        }
+    };
+}
+
+kind! {
+    Heartbeat, 0, 7, "Heartbeat { time_stamp: 53_467, ..Heartbeat::default() }";
+    read_from ostrogosz_ucp_read_heartbeat;
+    write_to ostrogosz_ucp_write_heartbeat;
+    send_to ostrogosz_ucp_send_heartbeat
+}
+kind! {
+    Report, 10, 28, "Report { altitude: 240, ..Report::default() }";
+    read_ownship_from ostrogosz_ucp_read_ownship;
+    write_ownship_to ostrogosz_ucp_write_ownship;
+    send_ownship_to ostrogosz_ucp_send_ownship
+}
+kind! {
+    GeometricAltitude, 11, 5, "GeometricAltitude { altitude: 200, metrics: 10 }";
+    read_from ostrogosz_ucp_read_geometric_altitude;
+    write_to ostrogosz_ucp_write_geometric_altitude;
+    send_to ostrogosz_ucp_send_geometric_altitude
+}
+kind! {
+    Report, 20, 28, "Report { callsign: *b\"N825V   \", ..Report::default() }";
+    read_traffic_from ostrogosz_ucp_read_traffic;
+    write_traffic_to ostrogosz_ucp_write_traffic;
+    send_traffic_to ostrogosz_ucp_send_traffic
+}
+kind! {
+    Request, 44, 3, "Request { requested_id: 43 }";
+    read_from ostrogosz_ucp_read_request;
+    write_to ostrogosz_ucp_write_request;
+    send_to ostrogosz_ucp_send_request
+}
+kind! {
+    Control, 45, 18, "Control { squawk: 1200, identity: *b\"N825V   \", ..Control::default() }";
+    read_from ostrogosz_ucp_read_control;
+    write_to ostrogosz_ucp_write_control;
+    send_to ostrogosz_ucp_send_control
+}
+kind! {
+    Initialization, 117, 19, "Initialization { callsign: *b\"N825V   \", ..Initialization::default() }";
+    read_from ostrogosz_ucp_read_initialization;
+    write_to ostrogosz_ucp_write_initialization;
+    send_to ostrogosz_ucp_send_initialization
+}
+
+/// A struct of one kind is a message of that kind.
+macro_rules! into_message {
+    ($($type:ident)+) => {
+        $(impl From<$type> for Message<'_> {
+            fn from(of: $type) -> Self {
+                Self::$type(of)
+            }
+        })+
+    };
+}
+
+into_message! { Heartbeat GeometricAltitude Request Control Initialization }
+
+/// Which kind of message a body is. Its length and fields are not looked at.
+///
+/// # Errors
+///
+/// [`ReadRefusal::UnknownId`] for an unknown ID or no octet.
+///
+/// ```
+/// use ostrogosz::messages::{body_id, Id};
+/// use ostrogosz::ReadRefusal;
+///
+/// assert_eq!(body_id(&[44, 2, 43]), Ok(Id::Request));
+/// assert_eq!(body_id(&[1]), Err(ReadRefusal::UnknownId));
+/// ```
+#[inline]
+pub fn body_id(body: &[u8]) -> Result<Id, ReadRefusal> {
+    // SAFETY: pointer and length are those of one slice, which is only read.
+    let found = unsafe { ostrogosz_ucp_read_id(body.as_ptr(), body.len()) };
+    match found.refusal {
+        0 => Ok(Id::of_number(found.id)),
+        number => Err(ReadRefusal::of_number(number)),
+    }
+}
+
+/// Copies the payload out of the body of an uplink. It also stands in the body,
+/// from its second octet on.
+///
+/// # Errors
+///
+/// [`ReadRefusal::UnknownId`] for no octet or another kind's ID,
+/// [`ReadRefusal::MessageLength`] for other than 436 octets. A refusal leaves
+/// `payload` as it was.
+///
+/// ```
+/// use ostrogosz::messages::{read_uplink, UPLINK_PAYLOAD};
+///
+/// let mut body = [1; 1 + UPLINK_PAYLOAD];
+/// body[0] = 7;
+/// let mut payload = [0; UPLINK_PAYLOAD];
+/// read_uplink(&body, &mut payload)?;
+/// assert_eq!(payload, body[1..]);
+/// # Ok::<(), ostrogosz::ReadRefusal>(())
+/// ```
+#[inline]
+pub fn read_uplink(body: &[u8], payload: &mut [u8; UPLINK_PAYLOAD]) -> Result<(), ReadRefusal> {
+    // SAFETY: pointer and length are those of one slice, which is only read,
+    // and the payload is all there and mutable.
+    match unsafe { ostrogosz_ucp_read_uplink(body.as_ptr(), body.len(), payload) } {
+        0 => Ok(()),
+        number => Err(ReadRefusal::of_number(number)),
+    }
+}
+
 /// What a body means, as the receiver delivers one.
 ///
 /// # Errors
 ///
-/// Tested in this order: [`Refusal::UnknownId`] for an unknown ID or no octet,
-/// [`Refusal::MessageLength`] for another length than the kind's,
-/// [`Refusal::Fixed`] for a wrong version, signature or subtype,
-/// [`Refusal::Field`] for a field outside its range.
+/// Tested in this order: [`ReadRefusal::UnknownId`] for an unknown ID or no
+/// octet, [`ReadRefusal::MessageLength`] for another length than the kind's,
+/// [`ReadRefusal::Fixed`] for a wrong version, signature or subtype,
+/// [`ReadRefusal::Field`] for a field outside its range.
+///
+/// ```
+/// use ostrogosz::messages::{read_message, Message, Request};
+///
+/// let message = read_message(&[44, 2, 43])?;
+/// assert_eq!(message, Message::Request(Request { requested_id: 43 }));
+/// # Ok::<(), ostrogosz::ReadRefusal>(())
+/// ```
 #[inline]
-pub fn read_message(body: &[u8]) -> Result<Message<'_>, Refusal> {
-    // SAFETY: pointer and length are those of one slice, which is only read.
-    // Every bool of the answer is 0 or 1: all fields are filled, by proved
-    // code in which they are bools too.
-    let read = unsafe { ostrogosz_read_message(body.as_ptr(), body.len()) };
-    match read.refusal {
-        0 => Ok(message_of(&read, body)),
-        number => Err(Refusal::of_number(number)),
+pub fn read_message(body: &[u8]) -> Result<Message<'_>, ReadRefusal> {
+    /// A struct that a reader fills.
+    macro_rules! read {
+        ($type:ident, $read_from:ident, $kind:ident) => {{
+            let mut of = $type::default();
+            of.$read_from(body)?;
+            Message::$kind(of)
+        }};
     }
-}
-
-/// The message of a struct in which the fields of one kind count.
-#[inline]
-fn message_of<'a>(read: &ReadMessage, body: &'a [u8]) -> Message<'a> {
-    match read.id {
-        0 => Message::Heartbeat(read.heartbeat),
-        7 => Message::Uplink(&body[1..]),
-        10 => Message::Ownship(read.report),
-        11 => Message::GeometricAltitude(read.geometric_altitude),
-        20 => Message::Traffic(read.report),
-        44 => Message::Request(read.request),
-        45 => Message::Control(read.control),
-        117 => Message::Initialization(read.initialization),
-        id => unreachable!("the contracts give no message {id}"),
-    }
+    Ok(match body_id(body)? {
+        Id::Heartbeat => read!(Heartbeat, read_from, Heartbeat),
+        Id::Uplink if body.len() == 1 + UPLINK_PAYLOAD => Message::Uplink(&body[1..]),
+        Id::Uplink => return Err(ReadRefusal::MessageLength),
+        Id::Ownship => read!(Report, read_ownship_from, Ownship),
+        Id::GeometricAltitude => read!(GeometricAltitude, read_from, GeometricAltitude),
+        Id::Traffic => read!(Report, read_traffic_from, Traffic),
+        Id::Request => read!(Request, read_from, Request),
+        Id::Control => read!(Control, read_from, Control),
+        Id::Initialization => read!(Initialization, read_from, Initialization),
+    })
 }
 
 /// Writes the body of a message at the start of `output` and gives its length.
@@ -219,71 +532,87 @@ fn message_of<'a>(read: &ReadMessage, body: &'a [u8]) -> Message<'a> {
 ///
 /// # Errors
 ///
-/// Tested in this order: [`Refusal::Field`] for a field outside its range or
-/// too wide for its bits, [`Refusal::OutputLength`] for an output shorter than
-/// the body. A refusal writes nothing.
+/// Tested in this order: [`WriteRefusal::Field`] for a field outside its range
+/// or too wide for its bits, [`WriteRefusal::OutputLength`] for an output
+/// shorter than the body. A refusal writes nothing.
+///
+/// ```
+/// use ostrogosz::messages::{write_message, Message, Request};
+///
+/// let mut body = [0; 3];
+/// write_message(&Message::Request(Request { requested_id: 43 }), &mut body)?;
+/// assert_eq!(body, [44, 2, 43]);
+/// # Ok::<(), ostrogosz::WriteRefusal>(())
+/// ```
 #[inline]
-pub fn write_message(message: &Message<'_>, output: &mut [u8]) -> Result<usize, Refusal> {
-    let (to, room) = (output.as_mut_ptr(), output.len());
-    // SAFETY: each pointer goes with the length of its slice, and a payload,
-    // being shared, has no octet in common with the output, which is mutable.
+pub fn write_message(message: &Message<'_>, output: &mut [u8]) -> Result<usize, WriteRefusal> {
+    match message {
+        Message::Heartbeat(of) => of.write_to(output),
+        Message::Uplink(payload) => write_uplink(payload, output),
+        Message::Ownship(of) => of.write_ownship_to(output),
+        Message::GeometricAltitude(of) => of.write_to(output),
+        Message::Traffic(of) => of.write_traffic_to(output),
+        Message::Request(of) => of.write_to(output),
+        Message::Control(of) => of.write_to(output),
+        Message::Initialization(of) => of.write_to(output),
+    }
+}
+
+#[inline]
+fn write_uplink(payload: &[u8], output: &mut [u8]) -> Result<usize, WriteRefusal> {
+    // SAFETY: each pointer goes with the length of its slice, and a shared and
+    // a mutable slice have no octet in common.
     let written = unsafe {
-        match *message {
-            Message::Heartbeat(heartbeat) => ostrogosz_write_heartbeat(heartbeat, to, room),
-            Message::Uplink(payload) => {
-                ostrogosz_write_uplink(payload.as_ptr(), payload.len(), to, room)
-            }
-            Message::Ownship(report) => ostrogosz_write_ownship(report, to, room),
-            Message::GeometricAltitude(altitude) => {
-                ostrogosz_write_geometric_altitude(altitude, to, room)
-            }
-            Message::Traffic(report) => ostrogosz_write_traffic(report, to, room),
-            Message::Request(request) => ostrogosz_write_request(request, to, room),
-            Message::Control(control) => ostrogosz_write_control(control, to, room),
-            Message::Initialization(initialization) => {
-                ostrogosz_write_initialization(initialization, to, room)
-            }
-        }
+        ostrogosz_ucp_write_uplink(
+            payload.as_ptr(),
+            payload.len(),
+            output.as_mut_ptr(),
+            output.len(),
+        )
     };
-    written.answer()
+    written.answer(WriteRefusal::of_number)
 }
 
 /// Writes the frame of a message at the start of `buffer` and gives its length:
 /// body and frame in one call.
 ///
 /// The buffer has room for every frame. The octets behind the frame keep what
-/// they held. The body passes through the call's stack, which is not cleared.
+/// they held.
 ///
 /// # Errors
 ///
-/// [`Refusal::Field`] for a field outside its range or too wide for its bits.
-/// The body then goes through the frame writer, whose refusals 7 and 8 no
-/// message is known to get: a body has 3 to 436 octets, and the buffer has room
-/// for its frame. A refusal writes nothing.
+/// [`SendRefusal::Field`] for a field outside its range or too wide for its
+/// bits. A refusal writes nothing.
+///
+/// ```
+/// use ostrogosz::messages::{send_message, Message, Request};
+///
+/// let mut buffer = [0; ostrogosz::LONGEST_FRAME];
+/// let length = send_message(&Message::Request(Request { requested_id: 43 }), &mut buffer)?;
+/// assert_eq!(buffer[..length], [0x7E, 0x2C, 0x02, 0x2B, 0xC5, 0xE7, 0x7E]);
+/// # Ok::<(), ostrogosz::SendRefusal>(())
+/// ```
 #[inline]
 pub fn send_message(
     message: &Message<'_>,
     buffer: &mut [u8; LONGEST_FRAME],
-) -> Result<usize, Refusal> {
-    // SAFETY: the buffer has all its octets, a payload goes with its length,
-    // and being shared it has no octet in common with the buffer.
-    let written = unsafe {
-        match *message {
-            Message::Heartbeat(heartbeat) => ostrogosz_send_heartbeat(heartbeat, buffer),
-            Message::Uplink(payload) => {
-                ostrogosz_send_uplink(payload.as_ptr(), payload.len(), buffer)
-            }
-            Message::Ownship(report) => ostrogosz_send_ownship(report, buffer),
-            Message::GeometricAltitude(altitude) => {
-                ostrogosz_send_geometric_altitude(altitude, buffer)
-            }
-            Message::Traffic(report) => ostrogosz_send_traffic(report, buffer),
-            Message::Request(request) => ostrogosz_send_request(request, buffer),
-            Message::Control(control) => ostrogosz_send_control(control, buffer),
-            Message::Initialization(initialization) => {
-                ostrogosz_send_initialization(initialization, buffer)
-            }
-        }
-    };
-    written.answer()
+) -> Result<usize, SendRefusal> {
+    match message {
+        Message::Heartbeat(of) => of.send_to(buffer),
+        Message::Uplink(payload) => send_uplink(payload, buffer),
+        Message::Ownship(of) => of.send_ownship_to(buffer),
+        Message::GeometricAltitude(of) => of.send_to(buffer),
+        Message::Traffic(of) => of.send_traffic_to(buffer),
+        Message::Request(of) => of.send_to(buffer),
+        Message::Control(of) => of.send_to(buffer),
+        Message::Initialization(of) => of.send_to(buffer),
+    }
+}
+
+#[inline]
+fn send_uplink(payload: &[u8], buffer: &mut [u8; LONGEST_FRAME]) -> Result<usize, SendRefusal> {
+    // SAFETY: the payload goes with its length, the buffer has all its octets,
+    // and a shared and a mutable borrow have no octet in common.
+    let sent = unsafe { ostrogosz_ucp_send_uplink(payload.as_ptr(), payload.len(), buffer) };
+    sent.answer(SendRefusal::of_number)
 }

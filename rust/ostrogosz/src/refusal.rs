@@ -1,9 +1,21 @@
-//! The refusals of document 01's table.
+//! The refusals of document 01's table: all of them, and those of each family
+//! of calls.
 
 use core::error::Error;
 use core::fmt::{self, Display, Formatter};
 
-/// A refusal; nothing was written.
+/// A refusal of any call, by its number in document 01's table.
+///
+/// Each family of calls has its own type with just the refusals that it gives;
+/// all of them turn into this one.
+///
+/// ```
+/// use ostrogosz::{write_frame, FrameRefusal, Refusal};
+///
+/// let refused = write_frame(&[], &mut []).unwrap_err();
+/// assert_eq!(refused, FrameRefusal::BodyLength);
+/// assert_eq!(Refusal::from(refused).number(), 7);
+/// ```
 #[derive(Clone, Copy, Debug, PartialEq, Eq, Hash)]
 #[non_exhaustive]
 #[repr(u8)]
@@ -24,59 +36,39 @@ pub enum Refusal {
     BodyLength = 7,
     /// Writers: the output is shorter than this very frame or body.
     OutputLength = 8,
-    /// Message reader: unknown ID, or no octet.
+    /// Message readers: unknown ID, another kind's, or no octet.
     UnknownId = 10,
-    /// Message reader: another length than the kind's.
+    /// Message readers: another length than the kind's.
     MessageLength = 11,
-    /// Message reader: wrong version, signature or subtype.
+    /// Message readers: wrong version, signature or subtype.
     Fixed = 12,
-    /// Message reader: a field outside its range. Message writers: that, or a
+    /// Message readers: a field outside its range. Message writers: that, or a
     /// field too wide for its bits.
     Field = 13,
-    /// MAVLink reader: too few octets.
+    /// MAVLink readers: too few octets.
     MavlinkTooShort = 20,
-    /// MAVLink reader: the first octet is not FE.
+    /// MAVLink readers: the first octet is not FE.
     MavlinkStart = 21,
-    /// MAVLink reader: unknown message ID.
+    /// MAVLink readers: unknown message ID, or another kind's.
     MavlinkUnknownId = 22,
-    /// MAVLink reader: the length octet is not the kind's.
+    /// MAVLink readers: the length octet is not the kind's.
     MavlinkLength = 23,
-    /// MAVLink reader: the check is wrong.
+    /// MAVLink readers: the check is wrong.
     MavlinkCheck = 24,
-    /// MAVLink reader: a field outside its range. MAVLink writers: that, or a
+    /// MAVLink readers: a field outside its range. MAVLink writers: that, or a
     /// field too wide for its bits.
     MavlinkField = 25,
 }
 
 impl Refusal {
     /// The number of the refusal in document 01's table.
+    ///
+    /// ```
+    /// assert_eq!(ostrogosz::Refusal::WrongCheck.number(), 5);
+    /// ```
+    #[must_use]
     pub const fn number(self) -> u8 {
         self as u8
-    }
-
-    /// The refusal of a number that the proved code gave.
-    pub(crate) fn of_number(number: u32) -> Self {
-        match number {
-            1 => Self::BadEscape,
-            2 => Self::EscapeBeforeFlag,
-            3 => Self::TooLong,
-            4 => Self::TooShort,
-            5 => Self::WrongCheck,
-            6 => Self::Room,
-            7 => Self::BodyLength,
-            8 => Self::OutputLength,
-            10 => Self::UnknownId,
-            11 => Self::MessageLength,
-            12 => Self::Fixed,
-            13 => Self::Field,
-            20 => Self::MavlinkTooShort,
-            21 => Self::MavlinkStart,
-            22 => Self::MavlinkUnknownId,
-            23 => Self::MavlinkLength,
-            24 => Self::MavlinkCheck,
-            25 => Self::MavlinkField,
-            _ => unreachable!("the contracts give no refusal {number}"),
-        }
     }
 
     const fn words(self) -> &'static str {
@@ -89,13 +81,13 @@ impl Refusal {
             Self::Room => "the output is shorter than the body",
             Self::BodyLength => "a body has 1 to 436 octets",
             Self::OutputLength => "the output is shorter than what it gets",
-            Self::UnknownId => "no message has this ID",
+            Self::UnknownId => "no message, or another kind, has this ID",
             Self::MessageLength => "the body's length is not the kind's",
             Self::Fixed => "wrong version, signature or subtype",
             Self::Field => "a field is outside its range or its bits",
             Self::MavlinkTooShort => "too few octets for a MAVLink frame",
             Self::MavlinkStart => "a MAVLink frame starts with FE",
-            Self::MavlinkUnknownId => "no MAVLink message has this ID",
+            Self::MavlinkUnknownId => "no MAVLink message, or another kind, has this ID",
             Self::MavlinkLength => "the MAVLink length octet is not the kind's",
             Self::MavlinkCheck => "the MAVLink check is wrong",
             Self::MavlinkField => "a MAVLink field is outside its range or its bits",
@@ -110,3 +102,145 @@ impl Display for Refusal {
 }
 
 impl Error for Refusal {}
+
+/// The refusals of one family of calls, each with the name and the number that
+/// [`Refusal`] has for it.
+macro_rules! family {
+    ($(#[$about:meta])* $family:ident { $($(#[$why:meta])* $name:ident,)+ }) => {
+        $(#[$about])*
+        #[derive(Clone, Copy, Debug, PartialEq, Eq, Hash)]
+        #[non_exhaustive]
+        #[repr(u8)]
+        pub enum $family {
+            $($(#[$why])* $name = Refusal::$name as u8,)+
+        }
+
+        impl $family {
+            /// The number of the refusal in document 01's table.
+            #[must_use]
+            pub const fn number(self) -> u8 {
+                self as u8
+            }
+
+            /// The refusal of a number that the proved code gave.
+            #[inline]
+            pub(crate) fn of_number(number: u32) -> Self {
+                $(if number == Refusal::$name as u32 {
+                    return Self::$name;
+                })+
+                unreachable!("the contracts give no refusal {number} here")
+            }
+        }
+
+        impl From<$family> for Refusal {
+            #[inline]
+            fn from(refusal: $family) -> Self {
+                match refusal {
+                    $($family::$name => Self::$name,)+
+                }
+            }
+        }
+
+        impl PartialEq<Refusal> for $family {
+            fn eq(&self, other: &Refusal) -> bool {
+                Refusal::from(*self) == *other
+            }
+        }
+
+        impl Display for $family {
+            fn fmt(&self, to: &mut Formatter<'_>) -> fmt::Result {
+                Refusal::from(*self).fmt(to)
+            }
+        }
+
+        impl Error for $family {}
+    };
+}
+
+family! {
+    /// Why the receiver refuses a stretch.
+    ReceiveRefusal {
+        /// 1: 7D followed by an octet other than 5D, 5E, 7E.
+        BadEscape,
+        /// 2: 7D directly before the closing flag.
+        EscapeBeforeFlag,
+        /// 3: more than 438 unstuffed octets.
+        TooLong,
+        /// 4: fewer than 3 unstuffed octets.
+        TooShort,
+        /// 5: the check is wrong.
+        WrongCheck,
+        /// 6: the output is shorter than the body; the frame is lost.
+        Room,
+    }
+}
+
+family! {
+    /// Why the frame writer refuses a body.
+    FrameRefusal {
+        /// 7: a body of 0 or more than 436 octets.
+        BodyLength,
+        /// 8: the output is shorter than this very frame.
+        OutputLength,
+    }
+}
+
+family! {
+    /// Why a reader of messages refuses a body.
+    ReadRefusal {
+        /// 10: unknown ID, another kind's, or no octet.
+        UnknownId,
+        /// 11: another length than the kind's.
+        MessageLength,
+        /// 12: wrong version, signature or subtype.
+        Fixed,
+        /// 13: a field outside its range.
+        Field,
+    }
+}
+
+family! {
+    /// Why a writer of messages refuses a message.
+    WriteRefusal {
+        /// 13: a field outside its range or too wide for its bits.
+        Field,
+        /// 8: the output is shorter than the body.
+        OutputLength,
+    }
+}
+
+family! {
+    /// Why sending refuses a message: its buffer has room for every frame.
+    SendRefusal {
+        /// 13: a field outside its range or too wide for its bits.
+        Field,
+    }
+}
+
+family! {
+    /// Why a reader of MAVLink refuses an input.
+    MavlinkReadRefusal {
+        /// 20: too few octets.
+        MavlinkTooShort,
+        /// 21: the first octet is not FE.
+        MavlinkStart,
+        /// 22: unknown message ID, or another kind's.
+        MavlinkUnknownId,
+        /// 23: the length octet is not the kind's.
+        MavlinkLength,
+        /// 24: the check is wrong.
+        MavlinkCheck,
+        /// 25: a field outside its range.
+        MavlinkField,
+    }
+}
+
+family! {
+    /// Why a writer of MAVLink refuses a message.
+    MavlinkWriteRefusal {
+        /// 25: a field outside its range or too wide for its bits.
+        MavlinkField,
+        /// 8: the output is shorter than the frame.
+        OutputLength,
+    }
+}

@@ -2,10 +2,10 @@
 //! and in the answers that are due.
 
 use ostrogosz::messages::{
-    send_message, write_message, Control, GeometricAltitude, Heartbeat, Initialization, Message,
-    Request,
+    Control, GeometricAltitude, Heartbeat, Initialization, Message, Request, send_message,
+    write_message,
 };
-use ostrogosz::{write_frame, LONGEST_FRAME};
+use ostrogosz::{LONGEST_FRAME, write_frame};
 
 const CAPTURE: &[u8] = include_bytes!("../../../samples/driver.bin");
 const ANSWERS: &[u8] = include_bytes!("../../../samples/driver.answers");

@@ -2,7 +2,7 @@
 use Prim.Native.Nat.{_/_, _%_}
 use denote.Ref.{now}
 use lib.ListN.{length-set}
-use Rattle.c_lent.proofs.Puts.{two-put}
+use Rattle.c_ucp_report.proofs.Puts.{two-put}
 use borrow.Author.Needs.{needs}
 use Rattle.c_ucp_report.proofs.put_halves.Statement.{statement}
 use Rattle.c_ucp_report.proofs.put_halves.Tie as tie

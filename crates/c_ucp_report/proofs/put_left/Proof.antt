@@ -2,8 +2,7 @@
 use mathlib.Core.Path.{_∙_, ap}
 use denote.Ref.{now}
 use lib.Seq.{sets}
-use Rattle.c_ucp_report.specs.Steps.{halvesOf, wide24}
-use Rattle.c_lent.specs.Steps.{fourOf}
+use Rattle.c_ucp_report.specs.Steps.{halvesOf, wide24, fourOf}
 use borrow.Author.Needs.{needs}
 use Rattle.c_ucp_report.proofs.put_left.Statement.{statement}
 use Rattle.c_ucp_report.proofs.put_left.Tie as tie

@@ -5,8 +5,8 @@ use native.Mathlib.Omega.{arith}
 use denote.Ref.{now}
 use lib.ListN.{set, length-set}
 use lib.Seq.{sets}
-use Rattle.c_ucp_report.specs.Steps.{halvesOf, wide24}
-use Rattle.c_lent.specs.Steps.{twoOf, fourOf}
+use Rattle.c_ucp_report.specs.Steps.{halvesOf, wide24, fourOf}
+use Rattle.c_lent.specs.Steps.{twoOf}
 use borrow.Author.Needs.{needs}
 use Rattle.c_ucp_report.proofs.put_right.Statement.{statement}
 use Rattle.c_ucp_report.proofs.put_right.Tie as tie

@@ -1,26 +1,30 @@
 -- `line_lister::list_block` meets its contract. The loop's invariant: the record behind the block is the one behind the octets
--- that are left, from the present record on. Assumes nothing.
-use mathlib.Core.Path.{_≡_, refl, sym, _∙_}
-use Prim.Native.Nat.{_+_, _-_, _<_, _≤_}
+-- that are left, from the present record on; its lines are those that went out and those of the octets that are left. Assumes
+-- nothing.
+use mathlib.Core.Path.{_≡_, refl, _∙_}
+use Prim.Native.Nat.{_+_, _-_, _<_, _≤_, min}
+use native.Mathlib.Nat.{zero-add}
 use native.Mathlib.Omega.{arith}
 use denote.Ref.{now}
 use lib.ListN.{length, take, drop, length-drop}
-use lib.Seq.{take-all, length-take-le}
+use lib.Seq.{take-all}
 use Rattle.ucp_receiver.specs.Octet.{stateOf}
-use Rattle.text_ucp_listing.specs.Lists.{Lists, behindAll}
+use Rattle.text_ucp_listing.specs.Lists.{lines, Lists, behindAll, everyLine}
 use Rattle.text_ucp_listing.proofs.Whole.{same-long}
-use Rattle.text_ucp_listing.proofs.Slices.{lists-within, lists-moves, lists-onward}
-use Rattle.io_ucp.proofs.Blocks.{Reached, reached-first, reached-more, reached-last}
+use Rattle.text_ucp_listing.proofs.Slices.{lists-within, lists-moves, lists-onward, lists-text}
+use Rattle.io_ucp.proofs.Blocks.{Reached, reached-first, reached-more, reached-last, WentOut, went-first, went-more, went-last}
 use borrow.Author.Needs.{needs}
 use Rattle.line_lister.proofs.list_block.Statement.{statement}
 use Rattle.line_lister.proofs.list_block.Tie as tie
 
 abbrev Inv-loop : tie.InvT-loop
-Inv-loop store₀ room₀ block text₀ receiver₀ taken₀ store room text receiver taken =
-    (length text ≡ length text₀) × Reached block (behindAll (stateOf (receiver₀ .rest) store₀) (receiver₀ .counts) block) (stateOf (receiver .rest) store) (receiver .counts) taken
+Inv-loop store₀ room₀ block text₀ receiver₀ taken₀ written₀ store room text receiver taken written =
+    (length text ≡ length text₀)
+    × Reached block (behindAll (stateOf (receiver₀ .rest) store₀) (receiver₀ .counts) block) (stateOf (receiver .rest) store) (receiver .counts) taken
+    × WentOut block (everyLine (stateOf (receiver₀ .rest) store₀) (receiver₀ .counts) block) (stateOf (receiver .rest) store) (receiver .counts) taken written
 
 abbrev μ-loop : tie.MeasureT-loop
-μ-loop store₀ room₀ block text₀ receiver₀ taken₀ store room text receiver taken = length block - taken
+μ-loop store₀ room₀ block text₀ receiver₀ taken₀ written₀ store room text receiver taken written = length block - taken
 
 -- what a turn lists, of the part of the block that is left
 listed : (c : tie.After-list-some Inv-loop μ-loop)
@@ -47,39 +51,51 @@ turn-within c =
 text-long : (c : tie.After-list-some Inv-loop μ-loop) → length (c .list-some .last .1 .1 .1 .1 .0) ≡ length (now (c .before .before .before .before .before .before .before .before .before .args .text))
 text-long c = same-long (listed c .puts) ∙ c .before .before .before .before .before .before .loop .inv .0
 
-text-within : (c : tie.After-list-some Inv-loop μ-loop) → c .list-some .result .written ≤ length (c .list-some .last .1 .1 .1 .1 .0)
-text-within c = omega (arith, listed c .within, same-long (listed c .puts))
-
 loop-holds : tie.Need-loop-holds Inv-loop μ-loop
-loop-holds c = (refl, reached-first (now (c .before .before .args .block)) _ _)
+loop-holds c = let block = now (c .before .before .args .block) in (refl, reached-first block _ _, went-first block _ _)
 
 add-taken : tie.Need-add-taken Inv-loop μ-loop
 add-taken c = omega (arith, turn-within (c .before .before .before .before), c .before .before .before .before .before .before .before .before .before .before .before .before .before .good)
 
-slice-reshare-prefix-write-out : tie.Need-slice-reshare-prefix-write-out Inv-loop μ-loop
-slice-reshare-prefix-write-out c = text-within (c .before .before .before .before)
-
-slice-aggregate-write-out : tie.Need-slice-aggregate-write-out Inv-loop μ-loop
-slice-aggregate-write-out c = sym (length-take-le _ _ (text-within (c .before .before .before .before .before)))
-
 same-length : tie.Need-same-length Inv-loop μ-loop
-same-length c = text-long (c .before .before .before .before .before .before .before)
+same-length c = text-long (c .before .before .before .before .before .before .before .before .before)
+
+returns : tie.Need-returns Inv-loop μ-loop
+returns c = rw (c .listed-block .ensures) (tt, tt)
 
 loop-less : tie.Need-loop-less Inv-loop μ-loop
-loop-less c = omega (arith, turn-within (c .before .before .before .before .before .before .before))
+loop-less c = omega (arith, turn-within (c .before .before .before .before .before .before .before .before .before .before))
+
+-- as many octets went out as the turn's lines have
+out-long : (c : tie.After-output Inv-loop μ-loop)
+    → let t = c .before .before .before .before .before .before .before .before in
+    c .output .given .0 .0 ≡ t .list-some .result .written
+out-long c =
+    let t = c .before .before .before .before .before .before .before .before in
+    let n : c .output .given .0 .0 ≡ min (t .list-some .result .written) (length (t .list-some .last .1 .1 .1 .1 .0)) = rw (c .output .given .1) at (c .before .before .write-lines .ensures) in
+    omega (arith, n, listed t .within, same-long (listed t .puts))
 
 loop-again : tie.Need-loop-again Inv-loop μ-loop
 loop-again c =
-    let t = c .before .before .before .before .before .before .before in
+    let t = c .before .before .before .before .before .before .before .before .before .before in
     let l = t .before .before .before .before .before .before .loop in
-    let block = now (t .before .before .before .before .before .before .before .before .before .args .block) in
-    (text-long t, reached-more block _ _ _ (l .taken) (l .inv .1) _ _ (t .list-some .result .taken) (lists-within (listed t)) (lists-onward (listed t)))
+    let block = now (t .before .before .before .before .before .before .before .before .before .args .block) in (
+      text-long t,
+      reached-more block _ _ _ (l .taken) (l .inv .1) _ _ (t .list-some .result .taken) (lists-within (listed t)) (lists-onward (listed t)),
+      went-more block _ _ _ (l .taken) (l .written) (l .inv .2) _ _ (t .list-some .result .taken) (c .before .before .output .given .0 .0) _
+          (lines (stateOf (l .receiver .rest) (l .store)) (l .receiver .counts) (l .room) (drop (l .taken) block) (length (l .text)) .text)
+          (lists-text (listed t)) (out-long (c .before .before) ∙ listed t .puts .ends ∙ zero-add _) (c .wrapping-add-usize .ensures),
+    )
 
 same-length-2 : tie.Need-same-length-2 Inv-loop μ-loop
-same-length-2 c = c .before .loop .inv .0
+same-length-2 c = c .before .before .loop .inv .0
 
 returns-2 : tie.Need-returns-2 Inv-loop μ-loop
-returns-2 c = reached-last (now (c .before .before .before .before .args .block)) _ _ _ (c .before .loop .taken) (c .before .loop .inv .1) (c .loop-test .left)
+returns-2 c =
+    let block = now (c .before .before .before .before .before .args .block) in
+    let l = c .before .before .loop in
+    rw (c .listed-block2 .ensures)
+    (reached-last block _ _ _ (l .taken) (l .inv .1) (c .before .loop-test .left), went-last block _ _ _ (l .taken) (l .written) (l .inv .2) (c .before .loop-test .left))
 
 pub list-block-spec : {M : Type 1} → statement M
 list-block-spec =
@@ -93,12 +109,15 @@ list-block-spec =
     (λ c. search needs)
     (λ c κs. search needs)
     add-taken
-    slice-reshare-prefix-write-out
-    slice-aggregate-write-out
+    (λ c κs. search needs)
+    (λ c. search needs)
     (λ c κs. search needs)
     same-length
-    (λ c. tt)
+    returns
+    (λ c. search needs)
+    (λ c κs. search needs)
     loop-less
     loop-again
+    (λ c κs. search needs)
     same-length-2
     returns-2)

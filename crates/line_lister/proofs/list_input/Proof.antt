@@ -18,10 +18,10 @@ abbrev μ-loop : tie.MeasureT-loop
 
 -- what follows a turn is within the block, and leaves fewer
 onward : (c : tie.After-next-turn Inv-loop μ-loop)
-    → let l = c .before .before .before .before .before .before .before .before .before .before .before .before .loop in Onward (l .turn .left) (length (l .block)) (c .next-turn .result)
+    → let l = c .before .before .before .before .before .before .before .before .before .before .before .before .before .loop in Onward (l .turn .left) (length (l .block)) (c .next-turn .result)
 onward c =
-    let l = c .before .before .before .before .before .before .before .before .before .before .before .before .loop in
-    turns-onward (l .turn .left) (length (l .block)) 0 (c .next-turn .result) (c .before .before .before .before .before .list-block .result .input) (c .next-turn .ensures .0)
+    let l = c .before .before .before .before .before .before .before .before .before .before .before .before .before .loop in
+    turns-onward (l .turn .left) (length (l .block)) 0 (c .next-turn .result) (c .before .before .before .before .before .before .list-block .result .progress .input) (c .next-turn .ensures .0)
 
 loop-holds : tie.Need-loop-holds Inv-loop μ-loop
 loop-holds c = let a = c .before .before .before .before .before .before .before .args in let t = c .before .before .first-turn in (refl, refl, omega (arith, reads-onward _ (length (now (a .block))) 0 (t .result) (t .result .input) (t .ensures) .within, t .kept .0))
@@ -36,10 +36,10 @@ list-block-requires : tie.Need-list-block-requires Inv-loop μ-loop
 list-block-requires c κs = omega (arith, c .before .before .before .before .before .before .loop .inv .1, c .before .before .before .before .before .before .before .before .before .before .before .before .before .before .pre)
 
 loop-less : tie.Need-loop-less Inv-loop μ-loop
-loop-less c = omega (arith, onward (c .before .before) .fewer, c .before .before .before .before .before .before .before .before .before .before .before .before .if1 .taken)
+loop-less c = omega (arith, onward (c .before .before) .fewer, c .before .before .before .before .before .before .before .before .before .before .before .before .before .if1 .taken)
 
 loop-again : tie.Need-loop-again Inv-loop μ-loop
-loop-again c = let l = c .before .before .before .before .before .before .before .before .before .before .before .before .before .before .loop in let t = c .before .before .next-turn in (t .kept .1 .0 ∙ l .inv .0, c .before .before .before .before .before .before .before .list-block .kept .1 .1 .1 .1 .0 ∙ l .inv .1, omega (arith, onward (c .before .before) .within, t .kept .1 .0))
+loop-again c = let l = c .before .before .before .before .before .before .before .before .before .before .before .before .before .before .before .loop in let t = c .before .before .next-turn in (t .kept .1 .0 ∙ l .inv .0, c .before .before .before .before .before .before .before .before .list-block .kept .1 .1 .1 .1 .0 ∙ l .inv .1, omega (arith, onward (c .before .before) .within, t .kept .1 .0))
 
 same-length : tie.Need-same-length Inv-loop μ-loop
 same-length c = c .before .before .before .before .before .before .before .loop .inv .0 ∙ c .before .before .before .before .before .before .before .before .before .before .first-turn .kept .0

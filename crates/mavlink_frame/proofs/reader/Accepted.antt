@@ -9,16 +9,12 @@ use lib.Dec.{eqb, ltb}
 use lib.ListN.{length, getD}
 use Rattle.mavlink_frame.specs.declared.Kind.{Kind}
 use Rattle.mavlink_frame.specs.declared.Header.{Header}
-use Rattle.mavlink_frame.specs.declared.Lookup.{Lookup}
-use Rattle.mavlink_frame.specs.declared.Lookup.the-variants.{Known, Unknown}
-use Rattle.mavlink_frame.specs.declared.Found.{Found}
-use Rattle.mavlink_frame.specs.declared.Found.the-variants.{Frame, Refused}
-use Rattle.mavlink_frame.specs.Frame.{kinds, kindAmong, mavlinkKind, start}
-use Rattle.mavlink_frame.specs.Reader.{headerAt, checkAt, checkDue, foundOf, foundBy, found}
+use Rattle.mavlink_frame.specs.Frame.{KindAnswer, known, unknown, kinds, kindAmong, mavlinkKind, start}
+use Rattle.mavlink_frame.specs.Reader.{FrameAnswer, refused, frame, headerAt, checkAt, checkDue, foundOf, foundBy, found}
 
 pub record Accepted (s : List ℕ) (id : ℕ) (h : Header) (used : ℕ) : Type 0 where
   pub kind : Kind
-  pub known : mavlinkKind id ≡ Known kind
+  pub known : mavlinkKind id ≡ known kind
   pub named : kind .id ≡ id
   pub ends : used ≡ kind .length + 8
   pub room : used ≤ length s
@@ -29,30 +25,30 @@ pub record Accepted (s : List ℕ) (id : ℕ) (h : Header) (used : ℕ) : Type 0
   pub checks : checkAt (kind .length) s ≡ checkDue (kind .length) (kind .extra) s
 
 -- the kind that the table gives has the ID
-given : (ks : List Kind) (id : ℕ) (k : Kind) → kindAmong ks id ≡ Known k → k .id ≡ id
+given : (ks : List Kind) (id : ℕ) (k : Kind) → kindAmong ks id ≡ known k → k .id ≡ id
 given [] id k e = let z : _≡_ {A = ℕ} 0 1 = cc in absurd (omega arith)
 given (j ∷ ks) id k e = go (eqb id (j .id)) refl (given ks id k) e
   where
-    go : (t : Bool) → eqb id (j .id) ≡ t → (kindAmong ks id ≡ Known k → k .id ≡ id) → cond t (Known j) (kindAmong ks id) ≡ Known k → k .id ≡ id
+    go : (t : Bool) → eqb id (j .id) ≡ t → (kindAmong ks id ≡ known k → k .id ≡ id) → cond t (known j) (kindAmong ks id) ≡ known k → k .id ≡ id
     go true t later f = let same : j ≡ k = cc in sym (ap (λ x. x .id) same) ∙ sym (eqb-true _ _ t)
     go false t later f = later f
 
 module _ (s : List ℕ) (id : ℕ) (h : Header) (used : ℕ) where
   -- a test that refuses was not met, and one that is asked for was
-  passed : (t : Bool) (number : ℕ) {rest : Found} → cond t (Refused number) rest ≡ Frame id h used
-      → (t ≡ false) × (rest ≡ Frame id h used)
+  passed : (t : Bool) (number : ℕ) {rest : FrameAnswer} → cond t (refused number) rest ≡ frame id h used
+      → (t ≡ false) × (rest ≡ frame id h used)
   passed true number e = let z : _≡_ {A = ℕ} 0 1 = cc in absurd (omega arith)
   passed false number e = (refl, e)
 
-  met : (t : Bool) (number : ℕ) {rest : Found} → cond t rest (Refused number) ≡ Frame id h used
-      → (t ≡ true) × (rest ≡ Frame id h used)
+  met : (t : Bool) (number : ℕ) {rest : FrameAnswer} → cond t rest (refused number) ≡ frame id h used
+      → (t ≡ true) × (rest ≡ frame id h used)
   met true number e = (refl, e)
   met false number e = let z : _≡_ {A = ℕ} 0 1 = cc in absurd (omega arith)
 
-  of-kind : getD s 0 0 ≡ start → (l : Lookup) → mavlinkKind (getD s 5 0) ≡ l → foundBy l s ≡ Frame id h used → Accepted s id h used
+  of-kind : getD s 0 0 ≡ start → (l : KindAnswer) → mavlinkKind (getD s 5 0) ≡ l → foundBy l s ≡ frame id h used → Accepted s id h used
   unfolding foundOf mavlinkKind
-  of-kind first Unknown l e = let z : _≡_ {A = ℕ} 0 1 = cc in absurd (omega arith)
-  of-kind first (Known k) l e =
+  of-kind first unknown l e = let z : _≡_ {A = ℕ} 0 1 = cc in absurd (omega arith)
+  of-kind first (known k) l e =
       let sized = met (eqb (getD s 1 0) (k .length)) 23 e in
       let room = passed (ltb (length s) (k .length + 8)) 20 (sized .1) in
       let checks = met (eqb (checkAt (k .length) s) (checkDue (k .length) (k .extra) s)) 24 (room .1) in
@@ -72,7 +68,7 @@ module _ (s : List ℕ) (id : ℕ) (h : Header) (used : ℕ) where
         checks = eqb-true _ _ (checks .0);
       }
 
-  pub accepted : found s ≡ Frame id h used → Accepted s id h used
+  pub accepted : found s ≡ frame id h used → Accepted s id h used
   unfolding found
   accepted e =
       let some = passed (eqb (length s) 0) 20 e in

@@ -6,14 +6,12 @@ use native.Mathlib.Omega.{arith}
 use borrow.Author.Needs.{needs}
 use lib.ListN.{length, getD}
 use Rattle.mavlink_messages.specs.FailureBits.{failureBits}
-use Rattle.mavlink_messages.specs.declared.Failures.{Failures}
-use Rattle.mavlink_messages.specs.declared.Lowest.the-variants.{Bit}
-use Rattle.mavlink_messages.specs.Failures.{lowestOf, failuresIn, noFailures}
+use Rattle.mavlink_messages.specs.Failures.{FailureAnswer, bit, lowestOf, failuresIn, noFailures}
 use Rattle.mavlink_messages.proofs.failures_of.Statement.{statement}
 use Rattle.mavlink_messages.proofs.failures_of.Tie as tie
 
 -- the figures of some bits
-abbrev figures : List ℕ → Failures
+abbrev figures : List ℕ → FailureAnswer
 figures bs = record { count = length bs; lowest = lowestOf bs }
 
 none : (bs : List ℕ) → length bs ≡ 0 → figures bs ≡ noFailures
@@ -21,9 +19,9 @@ none [] e = refl
 none (b ∷ bs) e = absurd (omega arith)
 
 some : (bs : List ℕ) {count lowest : ℕ} → count ≡ length bs → (count ≡ 0 → ⊥) → lowest ≡ getD bs 0 0
-    → record { count = count; lowest = Bit lowest } ≡ figures bs
+    → record { count = count; lowest = bit lowest } ≡ figures bs
 some [] e ne l = absurd (ne e)
-some (b ∷ bs) e ne l = λ i. record { count = e i; lowest = Bit (l i) }
+some (b ∷ bs) e ne l = λ i. record { count = e i; lowest = bit (l i) }
 
 returns : tie.Need-returns
 unfolding failuresIn

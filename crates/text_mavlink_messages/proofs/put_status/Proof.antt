@@ -4,6 +4,7 @@ use native.Mathlib.Omega.{arith}
 use Rattle.text_fields.specs.Fields.{fieldsShown, shown}
 use Rattle.text_fields.specs.Templates.{filled}
 use Rattle.text_fields.proofs.Taken.{put-as}
+use Rattle.mavlink_messages.specs.Failures.{lowestAnswer}
 use Rattle.text_mavlink_messages.specs.Messages.{statusFields}
 use borrow.Author.Needs.{needs}
 use Rattle.text_mavlink_messages.proofs.put_status.Statement.{statement}
@@ -15,7 +16,7 @@ returns c =
     let m = c .before .before .before .before .before .before .before .before .before .before .before .args .message in
     let f = c .before .before .before .before .before .before .before .before .before .before .before .args .failures in
     let e = c .before .before .before .before .before .before .before .before .before .lowest .given .1 in
-    put-as (c .put-fields .ensures) (λ i. fieldsShown (statusFields m (record { count = f .count; lowest = sym e i })))
+    put-as (c .put-fields .ensures) (λ i. fieldsShown (statusFields m (record { count = f .count; lowest = lowestAnswer (sym e i) })))
 
 returns-2 : tie.Need-returns-2
 unfolding fieldsShown filled shown
@@ -23,7 +24,7 @@ returns-2 c =
     let m = c .before .before .before .before .before .before .before .before .before .before .args .message in
     let f = c .before .before .before .before .before .before .before .before .before .before .args .failures in
     let e = c .before .before .before .before .before .before .before .before .enum-told .given .1 in
-    put-as (c .put-fields2 .ensures) (λ i. fieldsShown (statusFields m (record { count = f .count; lowest = sym e i })))
+    put-as (c .put-fields2 .ensures) (λ i. fieldsShown (statusFields m (record { count = f .count; lowest = lowestAnswer (sym e i) })))
 
 pub put-status-spec : {M : Type 1} → statement M
 put-status-spec =

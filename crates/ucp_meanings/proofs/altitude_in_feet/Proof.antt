@@ -6,8 +6,7 @@ use Prim.Native.Nat.{_*_}
 use lib.IntN.{pos, _-ℤ_}
 use mir.Syntax.{w32}
 use mir.ValLaws.{toZ-pos, toZ-ofZ}
-use Rattle.ucp_meanings.specs.declared.Altitude.the-variants.{Feet}
-use Rattle.ucp_meanings.specs.Meanings.{altitudeMeans}
+use Rattle.ucp_meanings.specs.Meanings.{value, altitudeMeans}
 use Rattle.ucp_meanings.proofs.Scaled.{less-fits}
 use Rattle.ucp_meanings.proofs.altitude_in_feet.Statement.{statement}
 use Rattle.ucp_meanings.proofs.altitude_in_feet.Tie as tie
@@ -29,7 +28,7 @@ unfolding altitudeMeans
 returns-2 c =
     let n = c .before .args .number * 25 in
     rw (toZ-pos w32 n (omega arith), ne-eqb (c .before .args .number) 4095 (c .if1 .left))
-    (ap Feet (toZ-ofZ w32 (pos n -ℤ pos 1000) (less-fits n (omega arith))))
+    (ap value (toZ-ofZ w32 (pos n -ℤ pos 1000) (less-fits n (omega arith))))
 
 pub altitude-in-feet-spec : {M : Type 1} → statement M
 altitude-in-feet-spec = tie.close (tie.spec returns (λ c. omega arith) cast-t5 sub-t6 returns-2)

@@ -5,8 +5,7 @@ use lib.IntN.{pos, _*ℤ_}
 use mir.Syntax.{w16, w32}
 use mir.ValLaws.{toZ-ofZ}
 use Rattle.field_signed.proofs.Negative.{wider}
-use Rattle.ucp_meanings.specs.declared.Rate.the-variants.{FeetPerMinute}
-use Rattle.ucp_meanings.specs.Meanings.{rateMeans}
+use Rattle.ucp_meanings.specs.Meanings.{value, rateMeans}
 use Rattle.ucp_meanings.proofs.Scaled.{times-fits, no-rate, some-rate}
 use Rattle.ucp_meanings.proofs.rate_in_feet_per_minute.Statement.{statement}
 use Rattle.ucp_meanings.proofs.rate_in_feet_per_minute.Tie as tie
@@ -32,7 +31,7 @@ returns-2 c =
     let z = c .before .args .number in
     let f = c .before .fits .number in
     rw (toZ-ofZ w16 z f, toZ-ofZ w32 z (wider z f), some-rate z f (c .if1 .left))
-    (ap FeetPerMinute (toZ-ofZ w32 (z *ℤ pos 64) (times-fits z 64 f (omega arith))))
+    (ap value (toZ-ofZ w32 (z *ℤ pos 64) (times-fits z 64 f (omega arith))))
 
 pub rate-in-feet-per-minute-spec : {M : Type 1} → statement M
 rate-in-feet-per-minute-spec = tie.close (tie.spec returns cast-t3 mul-t4 returns-2)

@@ -9,7 +9,8 @@ use Rattle.ucp_frame.specs.Frame.{flag}
 use Rattle.ucp_receiver.specs.Answers.{receiverAnswer}
 use Rattle.ucp_receiver.specs.declared.Record.{Record}
 use Rattle.ucp_receiver.specs.declared.Received.{Received}
-use Rattle.ucp_receiver.specs.Octet.{stateAfter, countsAfter, verdictDue, Receives, Advances}
+use Rattle.ucp_receiver.specs.Octet.{stateAfter, countsAfter, verdictDue, Receives}
+use Rattle.ucp_receiver.specs.Steps.{Advances}
 
 -- what it does is what a call with it does, whatever output is lent
 pub other-received : {receiver : Record} {store : List ℕ} {octet : ℕ} {given : Received} {storeAfter : List ℕ} → (octet ≡ flag → ⊥)

@@ -3,6 +3,7 @@ use mathlib.Core.Path.{sym, ap, _∙_}
 use borrow.Author.Tests.{eq-eqb, ne-eqb, lt-ltb, le-ltb}
 use denote.Ref.{now}
 use Rattle.mavlink_frame.specs.Reader.{foundBy, found}
+use Rattle.mavlink_frame.specs.Frame.{kindAnswer}
 use borrow.Author.Needs.{needs}
 use Rattle.mavlink_frame.proofs.reader.read_frame.Statement.{statement}
 use Rattle.mavlink_frame.proofs.reader.read_frame.Tie as tie
@@ -23,13 +24,13 @@ returns-4 : tie.Need-returns-4
 unfolding found
 returns-4 c =
     rw (ne-eqb _ _ (c .before .before .before .before .before .before .before .before .before .if1 .left), eq-eqb _ _ (c .before .before .before .before .before .before .before .if2 .left), le-ltb _ _ (c .before .before .before .before .before .before .if3 .left))
-    (c .read-kind .ensures ∙ ap (λ l. foundBy l (now (c .before .before .before .before .before .before .before .before .before .before .before .args .input))) (sym (c .before .before .kind .given .1) ∙ c .before .before .before .before .kind-of .ensures))
+    (c .read-kind .ensures ∙ ap (λ l. foundBy l (now (c .before .before .before .before .before .before .before .before .before .before .before .args .input))) (sym (ap kindAnswer (c .before .before .kind .given .1)) ∙ c .before .before .before .before .kind-of .ensures))
 
 returns-5 : tie.Need-returns-5
 unfolding found
 returns-5 c =
     rw (ne-eqb _ _ (c .before .before .before .before .before .before .before .if1 .left), eq-eqb _ _ (c .before .before .before .before .before .if2 .left), le-ltb _ _ (c .before .before .before .before .if3 .left))
-    (ap (λ l. foundBy l (now (c .before .before .before .before .before .before .before .before .before .args .input))) (sym (c .enum-told .given .1) ∙ c .before .before .kind-of .ensures))
+    (ap (λ l. foundBy l (now (c .before .before .before .before .before .before .before .before .before .args .input))) (sym (ap kindAnswer (c .enum-told .given .1)) ∙ c .before .before .kind-of .ensures))
 
 pub read-frame-spec : {M : Type 1} → statement M
 read-frame-spec =

@@ -6,8 +6,7 @@ use native.Mathlib.Omega.{arith}
 use denote.Ref.{now}
 use lib.ListN.{take, drop}
 use Rattle.crc_x25.specs.Check.{x25}
-use Rattle.mavlink_frame.specs.declared.Found.the-variants.{Frame}
-use Rattle.mavlink_frame.specs.Reader.{headerAt, checkAt, checkDue}
+use Rattle.mavlink_frame.specs.Reader.{frame, headerAt, checkAt, checkDue}
 use Rattle.mavlink_frame.proofs.reader.Tests.{other-length, short, wrong, right}
 use borrow.Author.Needs.{needs}
 use Rattle.mavlink_frame.proofs.reader.read_kind.Statement.{statement}
@@ -42,7 +41,7 @@ returns-4 : tie.Need-returns-4
 returns-4 c =
     let a = c .before .before .before .before .before .before .before .before .before .before .before .before .before .before .before .args in
     let n : a .kind .length + 6 + 2 ≡ a .kind .length + 8 = omega arith in
-    ap (Frame (a .kind .id) (headerAt (now (a .input)))) n
+    ap (frame (a .kind .id) (headerAt (now (a .input)))) n
     ∙ sym (right (a .kind) (now (a .input)) (c .before .before .before .before .before .before .before .before .before .before .before .if1 .left) (omega (arith, c .before .before .before .before .before .before .before .before .before .if2 .left))
     (sym (sent (c .before .before .before .before)) ∙ c .before .before .before .if3 .left ∙ due (c .before .before .before .before .before .before .before)))
 

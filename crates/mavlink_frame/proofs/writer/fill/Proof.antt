@@ -1,25 +1,29 @@
--- `mavlink_frame::writer::fill` meets its contract: the parts make the frame. Assumes nothing.
-use mathlib.Core.Path.{ap, _∙_}
-use lib.ListN.{length}
-use lib.Seq.{paste}
+-- `mavlink_frame::writer::fill` meets its contract: the payload is put, and then what is around it. Assumes nothing.
+use mathlib.Core.Path.{_≡_, sym, ap, ap₂, _∙_}
+use mathlib.Core.List.{List, _++_}
+use Prim.Native.Nat.{ℕ, _+_}
+use native.Mathlib.Omega.{arith}
 use denote.Ref.{now}
-use Rattle.mavlink_frame.proofs.writer.Put.{payload-put, frame-put}
+use lib.ListN.{length, drop}
+use Rattle.mavlink_frame.specs.Frame.{mavlinkFrame}
+use Rattle.mavlink_frame.specs.Reader.{payloadAt}
+use Rattle.mavlink_frame.proofs.writer.Put.{payload-pasted, behind-pasted}
 use borrow.Author.Needs.{needs}
 use Rattle.mavlink_frame.proofs.writer.fill.Statement.{statement}
 use Rattle.mavlink_frame.proofs.writer.fill.Tie as tie
 
 returns : tie.Need-returns
 returns c =
-    let a = c .before .before .before .before .before .before .before .before .before .before .before .before .before .before .args in
-    let room = c .before .before .before .before .before .before .before .before .before .before .before .before .before .before .pre .1 in
-    c .before .before .put-check .ensures
-    ∙ frame-put (a .kind) (a .header) (now (a .payload)) (now (a .output)) room (c .before .before .before .before .before .before .put-payload .last .1 .0)
-    (c .before .before .before .before .before .before .put-payload .ensures
-    ∙ ap (λ xs. paste xs 6 (now (a .payload)) (length (now (a .payload)))) (c .before .before .before .before .before .before .before .before .before .before .put-header .ensures)
-    ∙ payload-put (a .kind) (a .header) (now (a .payload)) (now (a .output)) room)
+    let s = c .before .before .before .before .before .before .before .before .before .before in
+    let k = s .args .kind in
+    let h = s .args .header in
+    let p = now (s .args .payload) in
+    let o = now (s .args .output) in
+    let room = s .pre .1 in
+    let put = c .before .before .before .before .before .before .copy .ensures in
+    c .before .before .surround .ensures
+    ∙ ap₂ (λ (n : ℕ) (mid : List ℕ). mavlinkFrame k h (payloadAt n mid) ++ drop (n + 8) mid) (sym (s .pre .0)) put
+    ∙ ap₂ (λ (q behind : List ℕ). mavlinkFrame k h q ++ behind) (payload-pasted p o room) (behind-pasted p o room)
 
 pub fill-spec : {M : Type 1} → statement M
-fill-spec =
-    tie.close
-    (tie.spec (λ c κs. search needs) (λ c κs. search needs) (λ c. search needs) (λ c κs. search needs)
-    (λ c. search needs) returns)
+fill-spec = tie.close (tie.spec (λ c κs. search needs) (λ c κs. search needs) (λ c. search needs) returns)

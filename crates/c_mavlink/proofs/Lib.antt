@@ -1,0 +1,10 @@
+pub mod Parts
+pub mod Structs
+pub mod Ranges
+pub mod Static
+pub mod Agree
+pub mod Readers
+pub mod OneKind
+pub mod Ids
+pub mod Writers
+pub mod Failures

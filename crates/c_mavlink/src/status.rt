@@ -1,0 +1,47 @@
+// Message 203, the status of a transponder. Every payload is in range.
+use output_writing::OstrogoszWritten;
+ghost use mathlib.Core.Path.{_≡_};
+ghost use lib.ListN.{length};
+ghost use Rattle.mavlink_messages.specs.declared.Message.the-variants.{Status};
+ghost use Rattle.c_lent.specs.Structs.{held};
+ghost use Rattle.c_mavlink.specs.Structs.{headerStruct, statusStruct};
+ghost use Rattle.c_mavlink.specs.Readers.{ReadsMavlink, readAs};
+ghost use Rattle.c_mavlink.specs.Writers.{WritesMavlinkForC};
+
+// Reads the message in the frame at the start of input into both structs: 0, or the refusal that is due, and then both are as
+// they were.
+#[no_mangle]
+pub extern "C" fn ostrogosz_mavlink_read_status(
+    input: &[u8],
+    header: &mut [u8; 3],
+    message: &mut [u8; 1],
+) -> u32
+    ensures { λ r. ⌜ ReadsMavlink (readAs 203 (now (input .entry))) (now (header .entry)) (now (message .entry)) r (now (header .exit)) (now (message .exit)) ⌝ }
+{
+    let refusal = super::frames::refusal_of(203, input);
+    if refusal != 0 {
+        return refusal;
+    }
+    super::frames::put_sender(input, header);
+    field_words::copies::copy(&input[6..7], message, 0);
+    0
+}
+
+fn write(message: &[u8], header: &[u8], output: &mut [u8]) -> OstrogoszWritten
+    requires { ⌜ (length (now message) ≡ 1) × (length (now header) ≡ 3) ⌝ }
+    ensures { λ r. ⌜ WritesMavlinkForC (Status (held statusStruct (now (message .entry)))) (held headerStruct (now (header .entry))) (now (output .entry)) r (now (output .exit)) ⌝ }
+{
+    super::frames::write(203, message, header, output)
+}
+
+// Writes the frame of the message that a struct holds at the start of output: 8.
+#[no_mangle]
+pub extern "C" fn ostrogosz_mavlink_write_status(
+    message: &[u8; 1],
+    header: &[u8; 3],
+    output: &mut [u8],
+) -> OstrogoszWritten
+    ensures { λ r. ⌜ WritesMavlinkForC (Status (held statusStruct (now (message .entry)))) (held headerStruct (now (header .entry))) (now (output .entry)) r (now (output .exit)) ⌝ }
+{
+    write(message, header, output)
+}

@@ -1,2 +1,0 @@
-pub mod Writers
-pub mod Messages

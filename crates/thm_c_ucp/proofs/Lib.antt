@@ -1,0 +1,3 @@
+pub mod Receiver
+pub mod Slices
+pub mod Writer

@@ -1,0 +1,4 @@
+pub mod Input
+pub mod Calls
+pub mod Blocks
+pub mod Example
