@@ -21,6 +21,7 @@ use Rattle.refusals.specs.Numbers as because
 use Rattle.ucp_receiver.specs.declared.Answer.the-variants.{Nothing}
 use Rattle.c_ucp_receiver.specs.Numbers.{restIn, answerIn, answerValue}
 use Rattle.thm_mavlink_messages.proofs.RoundTrips as mavlink-trips
+use Rattle.thm_c_mavlink.proofs.ReadBack.{lent-mavlink-reads-back}
 use Rattle.thm_c_messages.proofs.EachKind.{lent-round-trips, lent-sent-is-delivered}
 use Rattle.thm_ucp_messages.proofs.Delivery.{sent-is-delivered, delivered-writes-back}
 use Rattle.thm_ucp_messages.proofs.ReadBack as message-read
@@ -179,6 +180,7 @@ demand2 =
       sentIsDelivered = sent-is-delivered;
       mavlinkReadsBack = mavlink-trips.written-reads-back;
       mavlinkWritesBack = mavlink-trips.accepted-writes-back;
+      lentMavlinkReadsBack = lent-mavlink-reads-back;
     }
 
 receiver-lists : ReceiverLists
