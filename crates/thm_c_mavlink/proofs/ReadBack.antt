@@ -57,13 +57,13 @@ accepted m h output w after call none =
             record { ranges = p; written = record { answers = n; leaves = call .leaves ∙ ap (outputAfter (messageFrame m h) output) (sym n) } }
 
 -- ---- a kind and its struct
-record SameKind {A : Type 0} (id : ℕ) (s : Struct A) (kind : A → Message) : Type 0 where
-  struct : RightStruct s
-  again : (r : Row (structColumns (s .members))) → structRowOf (s .members) (made (structColumns (s .members)) (s .value) r) ≡ r
-  named : (a : A) → idOf (kind a) ≡ id
-  stores : (a : A) → messageStored (kind a) ≡ stored s a
+pub record SameKind {A : Type 0} (id : ℕ) (s : Struct A) (kind : A → Message) : Type 0 where
+  pub struct : RightStruct s
+  pub again : (r : Row (structColumns (s .members))) → structRowOf (s .members) (made (structColumns (s .members)) (s .value) r) ≡ r
+  pub named : (a : A) → idOf (kind a) ≡ id
+  pub stores : (a : A) → messageStored (kind a) ≡ stored s a
   -- C's types are those of the fields
-  typed : (a : A) → TypedIn s a → inRange (kind a) ≡ true → MavlinkTyped (kind a)
+  pub typed : (a : A) → TypedIn s a → inRange (kind a) ≡ true → MavlinkTyped (kind a)
 
 struct-reads-back : {A : Type 0} (id : ℕ) (s : Struct A) (kind : A → Message) → SameKind id s kind → MavlinkStructReadsBack id s kind
 struct-reads-back {A} id s kind ok message header output after headerBefore messageBefore headerAfter messageAfter w r is n call none reading =
@@ -80,7 +80,7 @@ struct-reads-back {A} id s kind ok message header output after headerBefore mess
     )
 
 -- ---- the kinds
-data-stream-same : SameKind 66 dataStreamStruct DataStream
+pub data-stream-same : SameKind 66 dataStreamStruct DataStream
 data-stream-same = record {
   struct = record { sound = omega arith; back = λ a. refl };
   again = λ r. refl;
@@ -94,7 +94,7 @@ first-of-seven : (a b c d e f g : Bool) → (a && b && c && d && e && f && g) �
 first-of-seven true b c d e f g h = refl
 first-of-seven false b c d e f g h = h
 
-static-same : SameKind 201 staticStruct Static
+pub static-same : SameKind 201 staticStruct Static
 unfolding staticFits
 static-same = record {
   struct = record { sound = omega arith; back = λ a. refl };
@@ -110,7 +110,7 @@ static-same = record {
       );
 }
 
-dynamic-same : SameKind 202 dynamicStruct Dynamic
+pub dynamic-same : SameKind 202 dynamicStruct Dynamic
 dynamic-same = record {
   struct = record { sound = omega arith; back = λ a. refl };
   again = λ r. refl;
@@ -119,7 +119,7 @@ dynamic-same = record {
   typed = λ a t h. t .0;
 }
 
-status-same : SameKind 203 statusStruct Status
+pub status-same : SameKind 203 statusStruct Status
 status-same = record {
   struct = record { sound = omega arith; back = λ a. refl };
   again = λ r. refl;
@@ -128,7 +128,7 @@ status-same = record {
   typed = λ a t h. t .0;
 }
 
-traffic-same : SameKind 246 trafficStruct Traffic
+pub traffic-same : SameKind 246 trafficStruct Traffic
 traffic-same = record {
   struct = record { sound = omega arith; back = λ a. refl };
   again = λ r. refl;
