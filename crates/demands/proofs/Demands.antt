@@ -20,14 +20,17 @@ use Rattle.ucp_writer.specs.Room.{frameDue}
 use Rattle.refusals.specs.Numbers as because
 use Rattle.ucp_receiver.specs.declared.Answer.the-variants.{Nothing}
 use Rattle.c_ucp_receiver.specs.Numbers.{restIn, answerIn, answerValue}
+use Rattle.thm_mavlink_messages.proofs.Tabled.{tabled-mavlink}
 use Rattle.thm_mavlink_messages.proofs.RoundTrips as mavlink-trips
+use Rattle.thm_c_mavlink.proofs.ReadBack.{lent-mavlink-reads-back}
+use Rattle.thm_c_mavlink.proofs.WriteBack.{lent-mavlink-writes-back}
 use Rattle.thm_c_messages.proofs.EachKind.{lent-round-trips, lent-sent-is-delivered}
 use Rattle.thm_ucp_messages.proofs.Delivery.{sent-is-delivered, delivered-writes-back}
 use Rattle.thm_ucp_messages.proofs.ReadBack as message-read
 use Rattle.thm_ucp_messages.proofs.WriteBack as message-write
 use Rattle.ucp_messages.specs.Messages.{messageFits, messageBody}
 use Rattle.ucp_messages.specs.Kinds.{kindIn}
-use Rattle.demands.proofs.MessageRefusals.{tabled-message, message-refused, mavlink-refused, tabled-mavlink}
+use Rattle.demands.proofs.MessageRefusals.{tabled-message, message-refused, mavlink-refused}
 use Rattle.demands.proofs.ReaderRefusals as messages
 use Rattle.demands.proofs.MavlinkRefusals as mavlink
 use Rattle.ucp_writer.proofs.room.Due.{refused-so, refused-7, refused-8, due-accepted}
@@ -179,6 +182,8 @@ demand2 =
       sentIsDelivered = sent-is-delivered;
       mavlinkReadsBack = mavlink-trips.written-reads-back;
       mavlinkWritesBack = mavlink-trips.accepted-writes-back;
+      lentMavlinkReadsBack = lent-mavlink-reads-back;
+      lentMavlinkWritesBack = lent-mavlink-writes-back;
     }
 
 receiver-lists : ReceiverLists

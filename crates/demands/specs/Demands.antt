@@ -29,6 +29,7 @@ use Rattle.mavlink_messages.specs.Messages as MavlinkReads
 use Rattle.mavlink_messages.specs.Messages.{readDue, writeDue, messageFrame, inRange, payloadOf}
 use Rattle.mavlink_messages.specs.Refusals.{MavlinkShort, MavlinkWrongStart, MavlinkUnknownId, MavlinkWrongLength, MavlinkWrongCheck, MavlinkOutsideRange}
 use Rattle.thm_mavlink_messages.specs.RoundTrips as mavlink-trips
+use Rattle.thm_c_mavlink.specs.RoundTrips.{LentMavlinkReadsBack, LentMavlinkWritesBack}
 use Rattle.thm_c_messages.specs.RoundTrips.{LentRoundTrips}
 use Rattle.thm_c_messages.specs.Delivery.{LentSentIsDelivered}
 use Rattle.thm_ucp_messages.specs.Delivery.{SentIsDelivered, DeliveredWritesBack}
@@ -229,6 +230,10 @@ pub record Demand2 : Type 0 where
   pub sentIsDelivered : SentIsDelivered
   pub mavlinkReadsBack : mavlink-trips.MavlinkReadsBack
   pub mavlinkWritesBack : mavlink-trips.MavlinkWritesBack
+  -- of the calls that C links for one kind, `ostrogosz_mavlink_read_..` and `ostrogosz_mavlink_write_..`, by `ReadsMavlink` and
+  -- `WritesMavlinkForC` (c_mavlink)
+  pub lentMavlinkReadsBack : LentMavlinkReadsBack
+  pub lentMavlinkWritesBack : LentMavlinkWritesBack
 
 -- The receiver's part of demand 3, one claim about whole lists: from a fresh receiver every call answers as the rules say, and
 -- where the list ends in the frame carrying one of two such bodies with the other's check, the last call answers 5.
