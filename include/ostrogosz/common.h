@@ -8,7 +8,8 @@
  * most.
  *
  * Every call answers on every input. A refusal is a number of the table in
- * document 01 and never a length, and changes nothing that was lent.
+ * document 01 and never a length, and leaves the lent output, or struct, as it
+ * was.
  *
  * Pointers: a pointer goes with the length behind it and points to that many
  * octets; where the length is 0 it may be anything, NULL too. A pointer to a
