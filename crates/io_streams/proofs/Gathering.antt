@@ -2,7 +2,8 @@
 use mathlib.Core.Path.{_≡_, refl, sym, ap, _∙_}
 use mathlib.Core.Bool.{Bool, true, false}
 use mathlib.Core.List.{List}
-use Prim.Native.Nat.{ℕ, _+_, _-_, _<_, _≤_, min}
+use Prim.Native.Nat.{ℕ, _+_, _-_, _%_, _^_, _<_, _≤_, min}
+use native.Mathlib.Nat.{mod-add-mod}
 use native.Mathlib.Omega.{arith}
 use lib.Dec.{leb}
 use lib.ListN.{length, take}
@@ -46,3 +47,12 @@ take-clipped l n = go (leb (length l) n) refl
         let h = leb-false (length l) n e in
         let same : min n (length l) ≡ n = omega arith in
         ap (λ (k : ℕ). take k l) same
+
+-- a line of n octets more, whether it waits or those before it went out: what went out and what waits make up the same
+pub makes-up : (written waiting n out next : ℕ) → out + next ≡ waiting + n
+    → ((written + out) % 2 ^ 64 + next) % 2 ^ 64 ≡ ((written + waiting) % 2 ^ 64 + n) % 2 ^ 64
+makes-up written waiting n out next e =
+    let same : written + out + next ≡ written + waiting + n = omega arith in
+    mod-add-mod (written + out) (2 ^ 64) next
+    ∙ ap (λ (k : ℕ). k % 2 ^ 64) same
+    ∙ sym (mod-add-mod (written + waiting) (2 ^ 64) n)
