@@ -6,7 +6,7 @@ use Prim.Native.Nat.{ℕ, _+_, _-_, _%_, _^_, _<_, _≤_, min}
 use native.Mathlib.Nat.{mod-add-mod}
 use native.Mathlib.Omega.{arith}
 use lib.Dec.{leb}
-use lib.ListN.{length, take}
+use lib.ListN.{length, take, length-take}
 use lib.Seq.{paste, take-all}
 use borrow.Author.Tests.{leb-true, leb-false}
 use Rattle.io_streams.specs.Gathering.{GathersLine}
@@ -56,3 +56,23 @@ makes-up written waiting n out next e =
     mod-add-mod (written + out) (2 ^ 64) next
     ∙ ap (λ (k : ℕ). k % 2 ^ 64) same
     ∙ sym (mod-add-mod (written + waiting) (2 ^ 64) n)
+
+waits-within : {before : List ℕ} {waiting : ℕ} {line : List ℕ} {next out : ℕ} {after : List ℕ} → GathersLine before waiting line next out after
+    → length line ≤ length before → next ≤ length before
+waits-within {before} {waiting} {line} {next} g h = go (leb (waiting + length line) (length before)) refl
+  where
+    go : (b : Bool) → leb (waiting + length line) (length before) ≡ b → next ≤ length before
+    go true e =
+        let f : waiting + length line ≤ length before = leb-true _ _ e in
+        omega (arith, g .fits f, g .ends)
+    go false e =
+        let f : length before < waiting + length line = leb-false _ _ e in
+        omega (arith, g .full f, g .ends)
+
+-- a line of n octets, behind others within the buffer
+pub gathered-line : {before : List ℕ} (text : List ℕ) (waiting n : ℕ) {next out : ℕ} {after : List ℕ}
+    → GathersLine before (min waiting (length before)) (take (min n (length before)) text) next out after
+    → waiting ≤ length before → n ≤ length before → n ≤ length text → (next ≤ length before) × (out + next ≡ waiting + n)
+gathered-line {before} text waiting n g w b t =
+    let long : length (take (min n (length before)) text) ≡ n = simp length-take (omega arith) in
+    (waits-within g (omega (arith, long)), omega (arith, g .ends, long))

@@ -8,10 +8,14 @@ use native.Mathlib.Omega.{arith}
 use lib.ListN.{length, drop, length-append, length-drop, drop-of-length-le}
 use lib.Seq.{drop-drop}
 use Rattle.ucp_receiver.specs.declared.Counts.{Counts}
-use Rattle.ucp_receiver.specs.Octet.{State}
+use Rattle.ucp_receiver.specs.declared.Record.{Record}
+use Rattle.ucp_receiver.specs.Octet.{State, stateOf}
 use Rattle.text_ucp_listing.specs.Lists.{RecordBehind, behindAll}
 use Rattle.io_streams.specs.declared.Input.the-variants.{More}
-use Rattle.io_ucp.specs.Records.{Leaves, WritesLines}
+use Rattle.io_streams.specs.declared.Output.{Output}
+use Rattle.io_streams.specs.declared.Output.the-variants.{Wrote, Failed as WriteFailed}
+use Rattle.io_streams.specs.Gathering.{WritesWaiting}
+use Rattle.io_ucp.specs.Records.{Leaves, blockDone, WritesLines}
 
 abbrev pub Reached : List ℕ → RecordBehind → State → Counts → ℕ → Type 0
 Reached block last s c taken = (taken ≤ length block) × (last ≡ behindAll s c (drop taken block))
@@ -67,3 +71,13 @@ module _ (every : LinesOf) (block : List ℕ) where
     went-last none all =
         let end : whole ≡ w .done ++ [] = w .makes ∙ ap (λ (l : List ℕ). w .done ++ every s c l) (drop-of-length-le block all) ∙ ap (λ (l : List ℕ). w .done ++ l) none in
         w .number ∙ ap (λ (l : List ℕ). length l % 2 ^ 64) (sym (end ∙ append-nil (w .done)))
+
+-- ---- the end of a block: what waits goes out
+
+pub done-block : (receiver : Record) (output : Output) (store : List ℕ) (b : RecordBehind) (lines : List ℕ) (written waiting k : ℕ)
+    → WritesWaiting written k output → k ≡ waiting
+    → Leaves More (stateOf (receiver .rest) store) (receiver .counts) b → WritesLines More ((written + waiting) % 2 ^ 64) lines
+    → let d = blockDone receiver output in
+    Leaves (d .progress .input) (stateOf (d .progress .receiver .rest) store) (d .progress .receiver .counts) b × WritesLines (d .progress .input) (d .written) lines
+done-block receiver (Wrote n) store b lines written waiting k w e l o = (l, w ∙ ap (λ (m : ℕ). (written + m) % 2 ^ 64) e ∙ o)
+done-block receiver WriteFailed store b lines written waiting k w e l o = (tt, tt)
