@@ -105,6 +105,8 @@ fn clear_lent(
     io_streams::clear(buffer);
 }
 
+// The call of `explain_block` with the cleared block, which brings no line, is there for its place: a function with two callers
+// is compiled as one of its own, and all that it leaves on the stack lies below main's part, where `clear_stack` clears.
 fn main() {
     let mut store = [0u8; ucp_receiver::STORE_OCTETS];
     let mut room = [0u8; ucp_frame::LONGEST_BODY];
@@ -113,6 +115,8 @@ fn main() {
     let mut buffer = io::large_buffer();
     let whole = explain_input(&mut store, &mut room, &mut block, &mut text, &mut buffer);
     clear_lent(&mut store, &mut room, &mut block, &mut text, &mut buffer);
+    let none = ucp_receiver::octet::fresh_record();
+    explain_block(none, &mut store, &mut room, &block, &mut text, &mut buffer);
     io_streams::clear_stack();
     if whole {
         io_streams::close_output();

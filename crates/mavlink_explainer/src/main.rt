@@ -193,12 +193,15 @@ fn clear_lent(block: &mut [u8], text: &mut TextRoom, buffer: &mut [u8])
     io_streams::clear(buffer);
 }
 
+// The call of `explain_block` with no octets, which brings no line, is there for its place: a function with two callers is
+// compiled as one of its own, and all that it leaves on the stack lies below main's part, where `clear_stack` clears.
 fn main() {
     let mut block = io::large_buffer();
     let mut text = [0u8; text_output::TEXT_ROOM];
     let mut buffer = io::large_buffer();
     let whole = explain_input(&mut block, &mut text, &mut buffer);
     clear_lent(&mut block, &mut text, &mut buffer);
+    explain_block(0, 0, whole, &[], &mut text, &mut buffer);
     io_streams::clear_stack();
     if whole {
         io_streams::close_output();
