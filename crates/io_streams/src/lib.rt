@@ -1,11 +1,13 @@
 // What the programs share: standard input by the block, standard output, and clearing what was lent. What is read and written
-// no contract can say; each is safe, ends, and fixes what it can.
+// no contract can say: it speaks of what is lent and answered, and the files of the system are neither; the C library's says of
+// a read or a write only how many octets it moved. Each function is safe, ends, and fixes what it can.
 use libc::STDIN_FILENO;
 use libc::STDOUT_FILENO;
 ghost use mathlib.Core.Path.{_≡_};
-ghost use Prim.Native.Nat.{min, _<_, _≤_};
-ghost use lib.ListN.{length};
-ghost use Rattle.io_streams.specs.Blocks.{Zeroed, WithinBlock, WrittenIfEmpty};
+ghost use Prim.Native.Nat.{_+_, _%_, _^_, min, _<_, _≤_};
+ghost use lib.ListN.{length, take};
+ghost use Rattle.io_streams.specs.Blocks.{Zeroed, WithinBlock, WrittenIfEmpty, WritesOut, WritesFirst, ClosesOutput};
+ghost use Rattle.io_streams.specs.Gathering.{Gathers, WritesWaiting};
 ghost use Rattle.io_streams.specs.Turns.{Behind, KeepsHeld, over, hasEnded, AtEnd, ReadsBlock, BlockTurns};
 
 // Whether there is more of the input.
@@ -102,6 +104,7 @@ fn read_turn(block: &mut [u8], held: usize, left: u64) -> Turn
     }
 }
 
+// Of the block's octets nothing is said: none is held, and what a read brings is open.
 pub fn first_turn(block: &mut [u8]) -> Turn
     ensures { λ r. ⌜ ReadsBlock (r .input) 18446744073709551615 (length (now (block .entry))) 0 r ⌝ }
 {
@@ -141,6 +144,7 @@ fn write_failed() {
 // a frame stay in the memory that main lends.
 pub fn write_out(text: &[u8]) -> bool
     ensures { λ r. ⌜ WrittenIfEmpty (length (now (text .entry))) r ⌝ }
+    ensures { λ r. ⌜ WritesOut (length (now (text .entry))) r ⌝ }
 {
     let mut done = 0;
     while done < text.len() {
@@ -165,6 +169,74 @@ pub fn write_first(text: &[u8], n: usize) -> bool
     write_out(text)
 }
 
+// What writing came to: so many octets went out, or it failed, which is said on standard error.
+pub enum Output {
+    Wrote(usize),
+    Failed,
+}
+
+fn least(a: usize, b: usize) -> usize
+    ensures { λ r. ⌜ r ≡ min a b ⌝ }
+{
+    if a < b { a } else { b }
+}
+
+// Writes the first octets of text, or all of it where there are no more, and says how many went out.
+pub fn write_lines(text: &[u8], octets: usize) -> Output
+    ensures { λ r. ⌜ WritesFirst (min octets (length (now (text .entry)))) r ⌝ }
+{
+    let n = least(octets, text.len());
+    if write_out(&text[..n]) {
+        return Output::Wrote(n);
+    }
+    Output::Failed
+}
+
+// ---- lines that wait: one call of the system for many of them
+
+// What putting a line behind those that wait came to: so many octets wait then, and so many went out; or writing failed.
+pub enum Gathered {
+    Waiting(usize, usize),
+    Failed,
+}
+
+fn put_behind(buffer: &mut [u8], waiting: usize, line: &[u8]) -> Gathered
+    requires { ⌜ (waiting ≤ length (now buffer)) × (length (now line) ≤ length (now buffer)) ⌝ }
+    ensures { λ r. ⌜ Gathers (now (buffer .entry)) waiting (now (line .entry)) r (now (buffer .exit)) ⌝ }
+{
+    if line.len() <= buffer.len() - waiting {
+        field_words::copies::copy(line, buffer, waiting);
+        return Gathered::Waiting(waiting + line.len(), 0);
+    }
+    if !write_out(&buffer[..waiting]) {
+        return Gathered::Failed;
+    }
+    field_words::copies::copy(line, buffer, 0);
+    Gathered::Waiting(line.len(), waiting)
+}
+
+// Puts the first octets of text behind those that wait at the start of the buffer, and writes those that wait out first where
+// both do not fit. What the whole buffer does not hold is left out.
+pub fn gather(buffer: &mut [u8], waiting: usize, text: &[u8], octets: usize) -> Gathered
+    ensures { λ r. ⌜ Gathers (now (buffer .entry)) (min waiting (length (now (buffer .entry)))) (take (min octets (length (now (buffer .entry)))) (now (text .entry))) r (now (buffer .exit)) ⌝ }
+{
+    let waits = least(waiting, buffer.len());
+    let most = least(octets, buffer.len());
+    let n = least(most, text.len());
+    put_behind(buffer, waits, &text[..n])
+}
+
+// Writes out what waits at the start of the buffer, behind so many octets that went out before.
+pub fn write_waiting(buffer: &[u8], waiting: usize, written: usize) -> Output
+    ensures { λ r. ⌜ WritesWaiting written (min waiting (length (now (buffer .entry)))) r ⌝ }
+{
+    let output = write_lines(buffer, waiting);
+    match output {
+        Output::Wrote(n) => Output::Wrote(std::num::wrapping_add_usize(written, n)),
+        Output::Failed => Output::Failed,
+    }
+}
+
 // ---- clearing
 
 fn zero(memory: &mut [u8])
@@ -187,9 +259,33 @@ pub fn clear(memory: &mut [u8])
     libc::write(-1, memory);
 }
 
-// Some file systems say only here that a write failed.
-pub fn close_output() {
-    if libc::close(STDOUT_FILENO) < 0 {
-        write_failed();
+fn clear_below(above: &mut [u8], times: u8)
+    ensures { λ r. ⌜ Zeroed (now (above .entry)) (now (above .exit)) ⌝ }
+{
+    if times > 0 {
+        let mut here = io::buffer();
+        clear_below(&mut here, times - 1);
     }
+    clear(above);
+}
+
+// Clears 65536 octets of the stack below its caller's part, where the functions that worked have left copies. The arrays
+// stand one below the other because `clear_below` calls itself, and needs its array when the call is back: so no compiler
+// makes one of them, or puts them into the caller's part.
+pub fn clear_stack() {
+    let mut here = io::buffer();
+    clear_below(&mut here, 15);
+}
+
+// Whether closing succeeded; where it did not, that is said on standard error. Some file systems say only here that a write
+// failed.
+pub fn close_output() -> bool
+    ensures { λ r. ⌜ ClosesOutput r ⌝ }
+{
+    let status = libc::close(STDOUT_FILENO);
+    if status < 0 {
+        write_failed();
+        return false;
+    }
+    true
 }

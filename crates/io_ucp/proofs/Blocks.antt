@@ -8,10 +8,14 @@ use native.Mathlib.Omega.{arith}
 use lib.ListN.{length, drop, length-append, length-drop, drop-of-length-le}
 use lib.Seq.{drop-drop}
 use Rattle.ucp_receiver.specs.declared.Counts.{Counts}
-use Rattle.ucp_receiver.specs.Octet.{State}
-use Rattle.text_ucp_listing.specs.Lists.{RecordBehind, behindAll, everyLine}
+use Rattle.ucp_receiver.specs.declared.Record.{Record}
+use Rattle.ucp_receiver.specs.Octet.{State, stateOf}
+use Rattle.text_ucp_listing.specs.Lists.{RecordBehind, behindAll}
 use Rattle.io_streams.specs.declared.Input.the-variants.{More}
-use Rattle.io_ucp.specs.Records.{Leaves, WritesLines}
+use Rattle.io_streams.specs.declared.Output.{Output}
+use Rattle.io_streams.specs.declared.Output.the-variants.{Wrote, Failed as WriteFailed}
+use Rattle.io_streams.specs.Gathering.{WritesWaiting}
+use Rattle.io_ucp.specs.Records.{Leaves, blockDone, WritesLines}
 
 abbrev pub Reached : List ℕ → RecordBehind → State → Counts → ℕ → Type 0
 Reached block last s c taken = (taken ≤ length block) × (last ≡ behindAll s c (drop taken block))
@@ -34,33 +38,46 @@ module _ (block : List ℕ) where
 
 -- ---- what went out
 
+-- a block's lines, from a record on: none of no octets
+abbrev pub LinesOf : Type 0
+LinesOf = State → Counts → List ℕ → List ℕ
+
 -- the lines of the block are those that went out, and then those of the octets that are left
-pub record WentOut (block whole : List ℕ) (s : State) (c : Counts) (taken written : ℕ) : Type 0 where
+pub record WentOut (every : LinesOf) (block whole : List ℕ) (s : State) (c : Counts) (taken written : ℕ) : Type 0 where
   pub done : List ℕ
-  pub makes : whole ≡ done ++ everyLine s c (drop taken block)
+  pub makes : whole ≡ done ++ every s c (drop taken block)
   pub number : written ≡ length done % 2 ^ 64
 
-module _ (block : List ℕ) where
-  pub went-first : (s : State) (c : Counts) → WentOut block (everyLine s c block) s c 0 0
+module _ (every : LinesOf) (block : List ℕ) where
+  pub went-first : (s : State) (c : Counts) → WentOut every block (every s c block) s c 0 0
   went-first s c = record { done = []; makes = refl; number = refl }
 
-  module _ (whole : List ℕ) (s : State) (c : Counts) (taken written : ℕ) (w : WentOut block whole s c taken written) where
+  module _ (whole : List ℕ) (s : State) (c : Counts) (taken written : ℕ) (w : WentOut every block whole s c taken written) where
     pub went-more : (t : State) (d : Counts) (more n next : ℕ) (text : List ℕ)
-        → everyLine s c (drop taken block) ≡ text ++ everyLine t d (drop more (drop taken block))
-        → n ≡ length text → next ≡ (written + n) % 2 ^ 64 → WentOut block whole t d (taken + more) next
+        → every s c (drop taken block) ≡ text ++ every t d (drop more (drop taken block))
+        → n ≡ length text → next ≡ (written + n) % 2 ^ 64 → WentOut every block whole t d (taken + more) next
     went-more t d more n next text same long adds =
         record {
           done = w .done ++ text;
           makes =
-              w .makes ∙ ap (λ (l : List ℕ). w .done ++ l) (same ∙ ap (λ (l : List ℕ). text ++ everyLine t d l) (drop-drop more taken block))
+              w .makes ∙ ap (λ (l : List ℕ). w .done ++ l) (same ∙ ap (λ (l : List ℕ). text ++ every t d l) (drop-drop more taken block))
               ∙ sym (append-assoc (w .done) text _);
           number =
               adds ∙ ap₂ (λ (a b : ℕ). (a + b) % 2 ^ 64) (w .number) long ∙ mod-add-mod (length (w .done)) (2 ^ 64) (length text)
               ∙ ap (λ (k : ℕ). k % 2 ^ 64) (sym (length-append (w .done) text));
         }
 
-    pub went-last : length block ≤ taken → WritesLines More written whole
-    unfolding everyLine
-    went-last all =
-        let end : whole ≡ w .done ++ [] = w .makes ∙ ap (λ (l : List ℕ). w .done ++ everyLine s c l) (drop-of-length-le block all) in
+    pub went-last : every s c [] ≡ [] → length block ≤ taken → WritesLines More written whole
+    went-last none all =
+        let end : whole ≡ w .done ++ [] = w .makes ∙ ap (λ (l : List ℕ). w .done ++ every s c l) (drop-of-length-le block all) ∙ ap (λ (l : List ℕ). w .done ++ l) none in
         w .number ∙ ap (λ (l : List ℕ). length l % 2 ^ 64) (sym (end ∙ append-nil (w .done)))
+
+-- ---- the end of a block: what waits goes out
+
+pub done-block : (receiver : Record) (output : Output) (store : List ℕ) (b : RecordBehind) (lines : List ℕ) (written waiting k : ℕ)
+    → WritesWaiting written k output → k ≡ waiting
+    → Leaves More (stateOf (receiver .rest) store) (receiver .counts) b → WritesLines More ((written + waiting) % 2 ^ 64) lines
+    → let d = blockDone receiver output in
+    Leaves (d .progress .input) (stateOf (d .progress .receiver .rest) store) (d .progress .receiver .counts) b × WritesLines (d .progress .input) (d .written) lines
+done-block receiver (Wrote n) store b lines written waiting k w e l o = (l, w ∙ ap (λ (m : ℕ). (written + m) % 2 ^ 64) e ∙ o)
+done-block receiver WriteFailed store b lines written waiting k w e l o = (tt, tt)

@@ -2,16 +2,18 @@
 use mathlib.Core.Path.{_≡_}
 use mathlib.Core.Bool.{Bool, false}
 use mathlib.Core.List.{List}
-use Prim.Native.Nat.{ℕ, _%_, _^_, _<_}
+use Prim.Native.Nat.{ℕ, _%_, _^_}
 use lib.ListN.{length}
 use Rattle.ucp_receiver.specs.declared.Counts.{Counts}
+use Rattle.ucp_receiver.specs.declared.Record.{Record}
 use Rattle.ucp_receiver.specs.Octet.{State}
 use Rattle.text_ucp_listing.specs.Lists.{RecordBehind, PutsClosing}
 use Rattle.io_streams.specs.Blocks.{WrittenIfEmpty}
 use Rattle.io_streams.specs.declared.Input.{Input}
 use Rattle.io_streams.specs.declared.Input.the-variants.{More, Ended, Failed}
-use Rattle.io_ucp.specs.declared.Output.{Output}
-use Rattle.io_ucp.specs.declared.Output.the-variants.{Wrote, Failed as WriteFailed}
+use Rattle.io_streams.specs.declared.Output.{Output}
+use Rattle.io_streams.specs.declared.Output.the-variants.{Wrote, Failed as WriteFailed}
+use Rattle.io_ucp.specs.declared.BlockDone.{BlockDone}
 
 -- the input goes on: the record is the one behind the whole block. It does not end in a block; a write may have failed
 abbrev pub Leaves : Input → State → Counts → RecordBehind → Type 0
@@ -34,10 +36,10 @@ Ends Failed counts before written after = (written ≡ false) × (after ≡ befo
 
 -- ---- what goes out
 
--- so many octets were to be written: all of them went out, or there were some and it failed
-abbrev pub WritesFirst : ℕ → Output → Type 0
-WritesFirst octets (Wrote n) = n ≡ octets
-WritesFirst octets WriteFailed = 0 < octets
+-- a block is done where all of its text went out
+abbrev pub blockDone : Record → Output → BlockDone
+blockDone receiver (Wrote n) = record { progress = record { receiver = receiver; input = More }; written = n }
+blockDone receiver WriteFailed = record { progress = record { receiver = receiver; input = Failed }; written = 0 }
 
 -- the input goes on: as many octets went out as these lines have, modulo 2^64
 abbrev pub WritesLines : Input → ℕ → List ℕ → Type 0

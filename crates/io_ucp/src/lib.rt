@@ -1,15 +1,14 @@
 // What the programs that read the UCP line share, over the standard streams: the receiver's record from block to block, the
 // closing line, and clearing what was lent.
 use io_streams::Input;
+use io_streams::Output;
 use ucp_frame::BodyRoom;
 use ucp_receiver::Counts;
 use ucp_receiver::Record;
 use ucp_receiver::Store;
 ghost use mathlib.Core.Path.{_≡_};
-ghost use Prim.Native.Nat.{min};
-ghost use lib.ListN.{length};
 ghost use Rattle.io_streams.specs.Blocks.{Zeroed};
-ghost use Rattle.io_ucp.specs.Records.{Closed, Ends, WritesFirst};
+ghost use Rattle.io_ucp.specs.Records.{Closed, Ends, blockDone};
 
 // The receiver's record besides its store, from block to block.
 pub struct Progress {
@@ -17,27 +16,32 @@ pub struct Progress {
     pub input: Input,
 }
 
-// What writing came to: so many octets went out, or it failed, which is said on standard error.
-pub enum Output {
-    Wrote(usize),
-    Failed,
+// What a block came to, and how many octets of text went out for it, modulo 2^64: so far a contract can say what is written.
+pub struct BlockDone {
+    pub progress: Progress,
+    pub written: usize,
 }
 
-fn least(a: usize, b: usize) -> usize
-    ensures { λ r. ⌜ r ≡ min a b ⌝ }
+// A block is done where all of its text went out.
+pub fn block_done(receiver: Record, output: Output) -> BlockDone
+    ensures { λ r. ⌜ r ≡ blockDone receiver output ⌝ }
 {
-    if a < b { a } else { b }
-}
-
-// Writes the first octets of text, or all of it where there are no more, and says how many went out.
-pub fn write_lines(text: &[u8], octets: usize) -> Output
-    ensures { λ r. ⌜ WritesFirst (min octets (length (now (text .entry)))) r ⌝ }
-{
-    let n = least(octets, text.len());
-    if io_streams::write_out(&text[..n]) {
-        return Output::Wrote(n);
+    match output {
+        Output::Wrote(n) => BlockDone {
+            progress: Progress {
+                receiver: receiver,
+                input: Input::More,
+            },
+            written: n,
+        },
+        Output::Failed => BlockDone {
+            progress: Progress {
+                receiver: receiver,
+                input: Input::Failed,
+            },
+            written: 0,
+        },
     }
-    Output::Failed
 }
 
 // The closing line, where text has room for it, and whether what was put there was written.

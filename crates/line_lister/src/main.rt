@@ -6,37 +6,17 @@
 // Where a read fails, what was listed so far has been written out already, the failure is said on standard error, and no
 // closing line follows: one stands only behind an input that was read to its end. Where a write fails the failure is said and
 // nothing more is written. A pipe that is closed behind the program ends it by a signal, and nothing is said.
-use io_streams::Input;
-use io_ucp::Output;
-use io_ucp::Progress;
+use io_streams::Output;
+use io_ucp::BlockDone;
 use ucp_frame::BodyRoom;
 use ucp_receiver::Record;
 use ucp_receiver::Store;
-ghost use mathlib.Core.Path.{_≡_};
 ghost use Prim.Native.Nat.{_≤_};
 ghost use lib.ListN.{length};
 ghost use Rattle.text_ucp_listing.specs.Listing.{longestLine};
 ghost use Rattle.ucp_receiver.specs.Octet.{stateOf};
 ghost use Rattle.text_ucp_listing.specs.Lists.{behindAll, everyLine};
 ghost use Rattle.io_ucp.specs.Records.{Leaves, WritesLines};
-
-// What a block came to, and how many octets of text went out for it, modulo 2^64: so far a contract can say what is written.
-struct ListedBlock {
-    progress: Progress,
-    written: usize,
-}
-
-fn listed_block(receiver: Record, input: Input, written: usize) -> ListedBlock
-    ensures { λ r. ⌜ r ≡ record { progress = record { receiver = receiver; input = input }; written = written } ⌝ }
-{
-    ListedBlock {
-        progress: Progress {
-            receiver: receiver,
-            input: input,
-        },
-        written: written,
-    }
-}
 
 // Lists the octets of a block, and writes the text out each time that it is full, and at the block's end.
 fn list_block(
@@ -45,7 +25,7 @@ fn list_block(
     room: &mut BodyRoom,
     block: &[u8],
     text: &mut [u8],
-) -> ListedBlock
+) -> BlockDone
     requires { ⌜ longestLine ≤ length (now text) ⌝ }
     ensures { λ r. ⌜ Leaves (r .progress .input) (stateOf (r .progress .receiver .rest) (now (store .exit))) (r .progress .receiver .counts) (behindAll (stateOf (receiver .rest) (now (store .entry))) (receiver .counts) (now (block .entry))) ⌝ }
     ensures { λ r. ⌜ WritesLines (r .progress .input) (r .written) (everyLine (stateOf (receiver .rest) (now (store .entry))) (receiver .counts) (now (block .entry))) ⌝ }
@@ -57,17 +37,17 @@ fn list_block(
         let listed = text_ucp_listing::list_some(receiver, store, room, &block[taken..], text);
         receiver = listed.receiver;
         taken += listed.taken;
-        let output = io_ucp::write_lines(text, listed.written);
+        let output = io_streams::write_lines(text, listed.written);
         match output {
             Output::Failed => {
-                return listed_block(receiver, Input::Failed, written);
+                return io_ucp::block_done(receiver, Output::Failed);
             }
             Output::Wrote(n) => {
                 written = std::num::wrapping_add_usize(written, n);
             }
         }
     }
-    listed_block(receiver, Input::More, written)
+    io_ucp::block_done(receiver, Output::Wrote(written))
 }
 
 // Lists all of the input, and answers whether it came to its end and all was written.
@@ -96,6 +76,7 @@ fn main() {
     let mut text = io::large_buffer();
     let whole = list_input(&mut store, &mut room, &mut block, &mut text);
     io_ucp::clear_lent(&mut store, &mut room, &mut block, &mut text);
+    io_streams::clear_stack();
     if whole {
         io_streams::close_output();
     }

@@ -1,21 +1,24 @@
 -- What a turn of each loop keeps. Assumes nothing.
-use mathlib.Core.Path.{_≡_, refl, sym, ap, subst, _∙_}
+use mathlib.Core.Path.{_≡_, refl, sym, ap, ap₂, subst, _∙_}
 use mathlib.Core.Bool.{Bool, true, false, cond}
-use mathlib.Core.List.{List}
-use Prim.Native.Nat.{ℕ, _+_, _-_, _<_, _≤_}
-use native.Mathlib.Nat.{zero-add, add-comm}
+use mathlib.Core.List.{List, [], _++_, append-assoc, append-nil}
+use Prim.Native.Nat.{ℕ, _+_, _-_, _%_, _^_, _<_, _≤_}
+use native.Mathlib.Nat.{zero-add, add-comm, mod-add-mod}
 use native.Mathlib.Numerals.{add-one}
 use native.Mathlib.Omega.{arith}
-use lib.ListN.{length, set, getD, drop, length-drop}
+use lib.ListN.{length, set, getD, drop, length-drop, length-append}
 use lib.Seq.{paste, paste-suc, drop-paste, getD-drop, drop-drop}
-use Rattle.io_streams.specs.declared.Input.the-variants.{More, Ended}
+use Rattle.io_streams.specs.declared.Input.the-variants.{More, Ended, Failed}
+use Rattle.io_streams.specs.declared.Output.{Output}
+use Rattle.io_streams.specs.declared.Output.the-variants.{Wrote, Failed as WriteFailed}
+use Rattle.io_streams.specs.Gathering.{WritesWaiting}
 use Rattle.text_mavlink_explanation.specs.declared.Explained.{Explained}
 use Rattle.mavlink_messages.specs.Messages.{readDue}
-use Rattle.text_mavlink_explanation.specs.Explanation.{isRefused}
+use Rattle.text_mavlink_explanation.specs.Explanation.{frameLine}
 use Rattle.text_mavlink_explanation.specs.Calls.{ExplainsFrame}
 use Rattle.text_mavlink_explanation.specs.Decided.{frameRoom}
 use Rattle.text_mavlink_explanation.proofs.Used.{used-within, used-some}
-use Rattle.mavlink_explainer.specs.Blocks.{Carries, Walks, few, stops, onward, explains, UnlessFailed, Explores}
+use Rattle.mavlink_explainer.specs.Blocks.{Carries, Walks, few, stops, onward, inputOf, octetsOut, explains, UnlessFailed, Explores}
 
 -- ---- explaining
 
@@ -35,53 +38,110 @@ goes-on : (last : Bool) {claim : Type 0} → claim → UnlessFailed (cond last E
 goes-on true t = t
 goes-on false t = t
 
--- what is left, walked, is the whole block walked
-abbrev pub Onward : ℕ → List ℕ → ℕ → ℕ → Type 0
-Onward least block count left =
-    (n l : ℕ) (r : Bool) → Walks least (drop (length block - left) block) n l r → Walks least block (n + count) l r
+-- what is left, walked, is the whole block walked, behind these lines
+abbrev Onward : ℕ → List ℕ → ℕ → ℕ → List ℕ → Type 0
+Onward least block count left done =
+    (n l : ℕ) (r : Bool) (lines : List ℕ) → Walks least (drop (length block - left) block) n l r lines → Walks least block (n + count) l r (done ++ lines)
 
-pub from-start : (least : ℕ) (block : List ℕ) → Onward least block 0 (length block)
-from-start least block n l r w =
-    let none : length block - length block ≡ 0 = omega arith in
-    let same : n ≡ n + 0 = omega arith in
-    subst (λ (k : ℕ). Walks least block k l r) same (subst (λ (d : ℕ). Walks least (drop d block) n l r) none w)
+-- so far explained: these lines, and as many octets went out or wait
+pub record SoFar (least : ℕ) (block : List ℕ) (count left total : ℕ) : Type 0 where
+  pub done : List ℕ
+  pub goes : Onward least block count left done
+  pub number : total ≡ length done % 2 ^ 64
 
-module _ (least : ℕ) (block : List ℕ) (count left : ℕ) (h : left ≤ length block) (on : Onward least block count left) where
-  long : left ≡ length (drop (length block - left) block)
+pub from-start : (least : ℕ) (block : List ℕ) → SoFar least block 0 (length block) 0
+from-start least block = record {
+  done = [];
+  goes = λ n l r lines w.
+      let none : length block - length block ≡ 0 = omega arith in
+      let same : n ≡ n + 0 = omega arith in
+      subst (λ (k : ℕ). Walks least block k l r lines) same (subst (λ (d : ℕ). Walks least (drop d block) n l r lines) none w);
+  number = refl;
+}
+
+module _ (least : ℕ) (block : List ℕ) (count left total : ℕ) (h : left ≤ length block) (so : SoFar least block count left total) where
+  abbrev rest : List ℕ
+  rest = drop (length block - left) block
+
+  long : left ≡ length rest
   long = simp length-drop (omega arith)
 
-  pub next-frame : {text : List ℕ} {given : Explained} {after : List ℕ} → ExplainsFrame (drop (length block - left) block) text given after
-      → least ≤ left → given .refused ≡ false → Onward least block (count + 1) (left - given .used)
-  next-frame {text} {given} e enough r n l q w =
-      let within : given .used ≤ left = omega (arith, turn-within e, long) in
-      let place : length block - (left - given .used) ≡ length block - left + given .used = omega arith in
-      let there =
-      ap (λ (k : ℕ). drop k block) place
-      ∙ sym (drop-drop (given .used) (length block - left) block)
-      ∙ ap (λ (k : ℕ). drop k (drop (length block - left) block)) (e .used) in
-      let rest = subst (λ (d : List ℕ). Walks least d n l q) there w in
-      let more : n + 1 + count ≡ n + (count + 1) = omega arith in
-      let all = on (n + 1) l q (onward (omega (arith, long)) (sym (e .refuses) ∙ r) rest) in
-      subst (λ (k : ℕ). Walks least block k l q) more all
+  abbrev withLine : List ℕ
+  withLine = so .done ++ frameLine (readDue rest)
+
+  -- one line more
+  more-out : {text : List ℕ} {given : Explained} {after : List ℕ} → ExplainsFrame rest text given after → {next : ℕ}
+      → next ≡ (total + given .written) % 2 ^ 64 → next ≡ length withLine % 2 ^ 64
+  more-out e adds =
+      adds
+      ∙ ap₂ (λ (a b : ℕ). (a + b) % 2 ^ 64) (so .number) (e .line .all)
+      ∙ mod-add-mod (length (so .done)) (2 ^ 64) (length (frameLine (readDue rest)))
+      ∙ ap (λ (k : ℕ). k % 2 ^ 64) (sym (length-append (so .done) (frameLine (readDue rest))))
+
+  pub next-frame : {text : List ℕ} {given : Explained} {after : List ℕ} → ExplainsFrame rest text given after
+      → least ≤ left → given .refused ≡ false → (next : ℕ) → next ≡ (total + given .written) % 2 ^ 64
+      → SoFar least block (count + 1) (left - given .used) next
+  next-frame {text} {given} e enough r next adds = record {
+    done = withLine;
+    goes = λ n l q lines w.
+        let within : given .used ≤ left = omega (arith, turn-within e, long) in
+        let place : length block - (left - given .used) ≡ length block - left + given .used = omega arith in
+        let there =
+        ap (λ (k : ℕ). drop k block) place
+        ∙ sym (drop-drop (given .used) (length block - left) block)
+        ∙ ap (λ (k : ℕ). drop k rest) (e .used) in
+        let further = subst (λ (d : List ℕ). Walks least d n l q lines) there w in
+        let more : n + 1 + count ≡ n + (count + 1) = omega arith in
+        let all = so .goes (n + 1) l q (frameLine (readDue rest) ++ lines) (onward (omega (arith, long)) (sym (e .refuses) ∙ r) further) in
+        subst (λ (ls : List ℕ). Walks least block (n + (count + 1)) l q ls) (sym (append-assoc (so .done) (frameLine (readDue rest)) lines))
+        (subst (λ (k : ℕ). Walks least block k l q (so .done ++ (frameLine (readDue rest) ++ lines))) more all);
+    number = more-out e adds;
+  }
 
   module _ (last : Bool) (same : least ≡ cond last 1 frameRoom) (frames bytes : ℕ) where
-    walked : (r : Bool) → Walks least (drop (length block - left) block) 0 left r → Walks (cond last 1 frameRoom) block count left r
-    walked r w =
+    walked : (r : Bool) (lines : List ℕ) → Walks least rest 0 left r lines → Walks (cond last 1 frameRoom) block count left r (so .done ++ lines)
+    walked r lines w =
         let all : 0 + count ≡ count = omega arith in
-        subst (λ (k : ℕ). Walks (cond last 1 frameRoom) block k left r) all (subst (λ (m : ℕ). Walks m block (0 + count) left r) same (on 0 left r w))
+        subst (λ (k : ℕ). Walks (cond last 1 frameRoom) block k left r (so .done ++ lines)) all
+        (subst (λ (m : ℕ). Walks m block (0 + count) left r (so .done ++ lines)) same (so .goes 0 left r lines w))
 
-    pub at-refused : least ≤ left → isRefused (readDue (drop (length block - left) block)) ≡ true
-        → Explores last block frames bytes (explains frames bytes count (length block - left) left Ended)
-    at-refused enough r = record {
+    -- where a write failed
+    pub at-failure : Explores last block frames bytes (explains frames bytes count (length block - left) left Failed 0)
+    at-failure = record { leaves = record { carries = tt; within = h }; explored = tt }
+
+    pub at-refused : {text : List ℕ} {given : Explained} {after : List ℕ} → ExplainsFrame rest text given after → least ≤ left
+        → given .refused ≡ true → (written waiting : ℕ) → (written + waiting) % 2 ^ 64 ≡ (total + given .written) % 2 ^ 64
+        → (output : Output) → WritesWaiting written waiting output
+        → Explores last block frames bytes (explains frames bytes count (length block - left) left (inputOf output Ended) (octetsOut output))
+    at-refused e enough r written waiting adds WriteFailed w = at-failure
+    at-refused e enough r written waiting adds (Wrote n) w = record {
       leaves = record { carries = tt; within = h };
-      explored = record { count = count; refused = true; walks = walked true (stops long enough r); counts = refl };
+      explored = record {
+        count = count;
+        refused = true;
+        lines = withLine;
+        walks = walked true _ (stops long enough (sym (e .refuses) ∙ r));
+        counts = ap (explains frames bytes count (length block - left) left Ended) (w ∙ more-out e adds);
+      };
     }
 
-    pub at-end : left < least → Explores last block frames bytes (explains frames bytes count (length block - left) left (cond last Ended More))
-    at-end less = record {
-      leaves = record { carries = few-left last left (omega (arith, same)); within = h };
-      explored = goes-on last (record { count = count; refused = false; walks = walked false (few long less); counts = refl });
-    }
+    pub at-end : left < least → (written waiting : ℕ) → (written + waiting) % 2 ^ 64 ≡ total → (output : Output) → WritesWaiting written waiting output
+        → Explores last block frames bytes (explains frames bytes count (length block - left) left (inputOf output (cond last Ended More)) (octetsOut output))
+    at-end less written waiting all WriteFailed w = at-failure
+    at-end less written waiting all (Wrote n) w =
+        let out : n ≡ length (so .done ++ []) % 2 ^ 64 = w ∙ all ∙ so .number ∙ ap (λ (ls : List ℕ). length ls % 2 ^ 64) (sym (append-nil (so .done))) in
+        record {
+          leaves = record { carries = few-left last left (omega (arith, same)); within = h };
+          explored =
+              goes-on last
+              (record {
+                count = count;
+                refused = false;
+                lines = so .done ++ [];
+                walks = walked false [] (few long less);
+                counts = ap (explains frames bytes count (length block - left) left (cond last Ended More)) out;
+              });
+        }
 
 -- ---- carrying over
 

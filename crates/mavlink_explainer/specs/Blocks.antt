@@ -1,14 +1,16 @@
 -- What a block of the input leaves, and the closing line. Assumes nothing.
 use mathlib.Core.Path.{_≡_}
 use mathlib.Core.Bool.{Bool, true, false, cond}
-use mathlib.Core.List.{List}
+use mathlib.Core.List.{List, [], _++_}
 use Prim.Native.Nat.{ℕ, _+_, _-_, _%_, _^_, _<_, _≤_}
 use lib.ListN.{length, drop}
 use Rattle.io_streams.specs.declared.Input.{Input}
 use Rattle.io_streams.specs.declared.Input.the-variants.{More, Ended, Failed}
+use Rattle.io_streams.specs.declared.Output.{Output}
+use Rattle.io_streams.specs.declared.Output.the-variants.{Wrote, Failed as WriteFailed}
 use Rattle.mavlink_explainer.specs.declared.Progress.{Progress}
 use Rattle.mavlink_messages.specs.Messages.{readDue}
-use Rattle.text_mavlink_explanation.specs.Explanation.{usedBy, isRefused, framesLine}
+use Rattle.text_mavlink_explanation.specs.Explanation.{frameLine, usedBy, isRefused, framesLine}
 use Rattle.text_mavlink_explanation.specs.Calls.{WholeFrame}
 use Rattle.text_mavlink_explanation.specs.Decided.{frameRoom}
 
@@ -26,28 +28,39 @@ pub record FramesLeave (input : Input) (left block : ℕ) : Type 0 where
 -- ---- the frames of a block
 
 -- frames one after the other, each decided where at least so many octets are there: how many there are, how many octets are
--- left behind them, and whether what stands there is refused
-pub data Walks : ℕ → List ℕ → ℕ → ℕ → Bool → Type 0 where
-  few : {least : ℕ} {s : List ℕ} {left : ℕ} → left ≡ length s → left < least → Walks least s 0 left false
-  stops : {least : ℕ} {s : List ℕ} {left : ℕ} → left ≡ length s → least ≤ left → isRefused (readDue s) ≡ true → Walks least s 0 left true
-  onward : {least : ℕ} {s : List ℕ} {n left : ℕ} {refused : Bool} → least ≤ length s → isRefused (readDue s) ≡ false
-      → Walks least (drop (usedBy (readDue s)) s) n left refused → Walks least s (n + 1) left refused
+-- left behind them, whether what stands there is refused, and the lines of all
+pub data Walks : ℕ → List ℕ → ℕ → ℕ → Bool → List ℕ → Type 0 where
+  few : {least : ℕ} {s : List ℕ} {left : ℕ} → left ≡ length s → left < least → Walks least s 0 left false []
+  stops : {least : ℕ} {s : List ℕ} {left : ℕ} → left ≡ length s → least ≤ left → isRefused (readDue s) ≡ true
+      → Walks least s 0 left true (frameLine (readDue s))
+  onward : {least : ℕ} {s : List ℕ} {n left : ℕ} {refused : Bool} {lines : List ℕ} → least ≤ length s → isRefused (readDue s) ≡ false
+      → Walks least (drop (usedBy (readDue s)) s) n left refused lines → Walks least s (n + 1) left refused (frameLine (readDue s) ++ lines)
 
--- so many frames more, of so many octets; the counts run round
-abbrev pub explains : ℕ → ℕ → ℕ → ℕ → ℕ → Input → Progress
-explains frames bytes count used left input =
-    record { frames = (frames + count) % 2 ^ 64; bytes = (bytes + used) % 2 ^ 64; left = left; input = input }
+-- so many frames more, of so many octets, and so many octets of text; the counts run round
+abbrev pub explains : ℕ → ℕ → ℕ → ℕ → ℕ → Input → ℕ → Progress
+explains frames bytes count used left input written =
+    record { frames = (frames + count) % 2 ^ 64; bytes = (bytes + used) % 2 ^ 64; left = left; input = input; written = written }
+
+-- where a write fails, the input goes no further, and nothing is said of what went out
+abbrev pub inputOf : Output → Input → Input
+inputOf (Wrote n) input = input
+inputOf WriteFailed input = Failed
+
+abbrev pub octetsOut : Output → ℕ
+octetsOut (Wrote n) = n
+octetsOut WriteFailed = 0
 
 -- a refused frame ends the input, and so does its end
 abbrev pub inputAfter : Bool → Bool → Input
 inputAfter last refused = cond refused Ended (cond last Ended More)
 
--- what the frames of a block leave, where each of their lines was written
+-- what the frames of a block leave, where all of their lines were written: as many octets went out as these have
 pub record Explored (last : Bool) (block : List ℕ) (frames bytes : ℕ) (given : Progress) : Type 0 where
   pub count : ℕ
   pub refused : Bool
-  pub walks : Walks (cond last 1 frameRoom) block count (given .left) refused
-  pub counts : given ≡ explains frames bytes count (length block - given .left) (given .left) (inputAfter last refused)
+  pub lines : List ℕ
+  pub walks : Walks (cond last 1 frameRoom) block count (given .left) refused lines
+  pub counts : given ≡ explains frames bytes count (length block - given .left) (given .left) (inputAfter last refused) (length lines % 2 ^ 64)
 
 abbrev pub UnlessFailed : Input → Type 0 → Type 0
 UnlessFailed More claim = claim

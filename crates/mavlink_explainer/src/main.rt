@@ -1,11 +1,15 @@
 // The MAVLink explainer: reads standard input, frames back to back, to its end or to the first frame that is refused, and writes
 // a line for each frame that says what it means. It closes with how many frames were explained and the octets that they used.
 // `text_mavlink_explanation` has the text, `io_streams` the reading and the writing. What the frames of one block are is proved
-// (`Explores`); that octets and counts go on from block to block is tested.
+// (`Explores`), and that as many octets went out as their lines have; that octets and counts go on from block to block is tested.
+//
+// Lines wait in a buffer, and go out where the next one does not fit, and at the end of every block that a read brought.
 //
 // Where a read or a write fails the line lister's rules hold: what was explained has been written out, the failure is said on
 // standard error, and no closing line follows.
+use io_streams::Gathered;
 use io_streams::Input;
+use io_streams::Output;
 use text_output::TextRoom;
 ghost use mathlib.Core.Path.{_≡_};
 ghost use mathlib.Core.Bool.{cond};
@@ -14,16 +18,19 @@ ghost use lib.ListN.{length, drop};
 ghost use lib.Seq.{paste};
 ghost use Rattle.io_streams.specs.declared.Input.the-variants.{More, Ended};
 ghost use Rattle.io_streams.specs.Blocks.{Zeroed};
+ghost use Rattle.text_output.specs.Clips.{textRoom};
 ghost use Rattle.text_mavlink_explanation.specs.Decided.{frameRoom};
-ghost use Rattle.mavlink_explainer.specs.Blocks.{explains, Explores, FramesClosed};
+ghost use Rattle.mavlink_explainer.specs.Blocks.{inputOf, octetsOut, explains, Explores, FramesClosed};
 
 // How far the frames are explained: how many, the octets that they used, and how many octets behind them are left of the block.
-// The input has ended where it is at its end or a frame was refused.
+// The input has ended where it is at its end or a frame was refused. So many octets of text went out for the block, modulo
+// 2^64: so far a contract can say what is written.
 struct Progress {
     frames: u64,
     bytes: u64,
     left: usize,
     input: Input,
+    written: usize,
 }
 
 // How many octets decide a frame: 50 do, and all that there are where the input has ended.
@@ -45,7 +52,7 @@ fn goes_on(last: bool) -> Input
     Input::More
 }
 
-// So many frames more, of so many octets.
+// So many frames more, of so many octets, and what writing their lines came to.
 fn progressed(
     frames: u64,
     bytes: u64,
@@ -53,46 +60,79 @@ fn progressed(
     used: usize,
     left: usize,
     input: Input,
+    output: Output,
 ) -> Progress
-    ensures { λ r. ⌜ r ≡ explains frames bytes count used left input ⌝ }
+    ensures { λ r. ⌜ r ≡ explains frames bytes count used left (inputOf output input) (octetsOut output) ⌝ }
 {
-    Progress {
-        frames: std::num::wrapping_add_u64(frames, count as u64),
-        bytes: std::num::wrapping_add_u64(bytes, used as u64),
-        left: left,
-        input: input,
+    let frames = std::num::wrapping_add_u64(frames, count as u64);
+    let bytes = std::num::wrapping_add_u64(bytes, used as u64);
+    match output {
+        Output::Wrote(n) => Progress {
+            frames: frames,
+            bytes: bytes,
+            left: left,
+            input: input,
+            written: n,
+        },
+        Output::Failed => Progress {
+            frames: frames,
+            bytes: bytes,
+            left: left,
+            input: Input::Failed,
+            written: 0,
+        },
     }
 }
 
-// Explains the frames of a block, and writes each line out. A frame is decided where 50 octets are there, or the input has
+// Explains the frames of a block, and writes their lines out. A frame is decided where 50 octets are there, or the input has
 // ended (`last`).
-fn explain_block(frames: u64, bytes: u64, last: bool, block: &[u8], text: &mut TextRoom) -> Progress
+fn explain_block(
+    frames: u64,
+    bytes: u64,
+    last: bool,
+    block: &[u8],
+    text: &mut TextRoom,
+    buffer: &mut [u8],
+) -> Progress
+    requires { ⌜ textRoom ≤ length (now buffer) ⌝ }
     ensures { λ r. ⌜ Explores last (now (block .entry)) frames bytes r ⌝ }
 {
     let mut count = 0;
     let mut left = block.len();
+    let mut waiting = 0;
+    let mut written = 0;
     let least = least_octets(last);
     while least <= left {
         let used = block.len() - left;
         let explained = text_mavlink_explanation::explain_frame(&block[used..], text);
-        let n = explained.written;
-        if !io_streams::write_first(text, n) {
-            return progressed(frames, bytes, count, used, left, Input::Failed);
+        let gathered = io_streams::gather(buffer, waiting, text, explained.written);
+        match gathered {
+            Gathered::Failed => {
+                return progressed(
+                    frames,
+                    bytes,
+                    count,
+                    used,
+                    left,
+                    Input::Failed,
+                    Output::Failed,
+                );
+            }
+            Gathered::Waiting(next, out) => {
+                waiting = next;
+                written = std::num::wrapping_add_usize(written, out);
+            }
         }
         if explained.refused {
-            return progressed(frames, bytes, count, used, left, Input::Ended);
+            let output = io_streams::write_waiting(buffer, waiting, written);
+            return progressed(frames, bytes, count, used, left, Input::Ended, output);
         }
         count += 1;
         left -= explained.used;
     }
-    progressed(
-        frames,
-        bytes,
-        count,
-        block.len() - left,
-        left,
-        goes_on(last),
-    )
+    let output = io_streams::write_waiting(buffer, waiting, written);
+    let used = block.len() - left;
+    progressed(frames, bytes, count, used, left, goes_on(last), output)
 }
 
 // Moves the octets from a place of the block up to another to its start.
@@ -117,7 +157,9 @@ fn write_closing(text: &mut TextRoom, frames: u64, bytes: u64) -> bool
 
 // Explains all of the input, and answers whether it came to its end or to a refused frame, and all was written. Octets that do
 // not decide a frame yet are carried over.
-fn explain_input(block: &mut [u8], text: &mut TextRoom) -> bool {
+fn explain_input(block: &mut [u8], text: &mut TextRoom, buffer: &mut [u8]) -> bool
+    requires { ⌜ textRoom ≤ length (now buffer) ⌝ }
+{
     let mut frames: u64 = 0;
     let mut bytes: u64 = 0;
     let mut turn = io_streams::first_turn(block);
@@ -125,7 +167,7 @@ fn explain_input(block: &mut [u8], text: &mut TextRoom) -> bool {
         let end = turn.octets;
         let input = turn.input;
         let last = io_streams::has_ended(input);
-        let progress = explain_block(frames, bytes, last, &block[..end], text);
+        let progress = explain_block(frames, bytes, last, &block[..end], text, buffer);
         let held = progress.left;
         carry(block, end - held, end);
         frames = progress.frames;
@@ -140,20 +182,27 @@ fn explain_input(block: &mut [u8], text: &mut TextRoom) -> bool {
     write_closing(text, frames, bytes)
 }
 
-// Frames, and what they say, passed through both. What was carried over stood in the block.
-fn clear_lent(block: &mut [u8], text: &mut TextRoom)
+// Frames, and what they say, passed through all of these. What was carried over stood in the block.
+fn clear_lent(block: &mut [u8], text: &mut TextRoom, buffer: &mut [u8])
     ensures { λ r. ⌜ Zeroed (now (block .entry)) (now (block .exit)) ⌝ }
     ensures { λ r. ⌜ Zeroed (now (text .entry)) (now (text .exit)) ⌝ }
+    ensures { λ r. ⌜ Zeroed (now (buffer .entry)) (now (buffer .exit)) ⌝ }
 {
     io_streams::clear(block);
     io_streams::clear(text);
+    io_streams::clear(buffer);
 }
 
+// The call of `explain_block` with no octets, which brings no line, is there for its place: a function with two callers is
+// compiled as one of its own, and all that it leaves on the stack lies below main's part, where `clear_stack` clears.
 fn main() {
     let mut block = io::large_buffer();
     let mut text = [0u8; text_output::TEXT_ROOM];
-    let whole = explain_input(&mut block, &mut text);
-    clear_lent(&mut block, &mut text);
+    let mut buffer = io::large_buffer();
+    let whole = explain_input(&mut block, &mut text, &mut buffer);
+    clear_lent(&mut block, &mut text, &mut buffer);
+    explain_block(0, 0, whole, &[], &mut text, &mut buffer);
+    io_streams::clear_stack();
     if whole {
         io_streams::close_output();
     }

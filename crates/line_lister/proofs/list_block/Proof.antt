@@ -2,13 +2,15 @@
 -- that are left, from the present record on; its lines are those that went out and those of the octets that are left. Assumes
 -- nothing.
 use mathlib.Core.Path.{_≡_, refl, _∙_}
+use mathlib.Core.List.{[]}
 use Prim.Native.Nat.{_+_, _-_, _<_, _≤_, min}
 use native.Mathlib.Nat.{zero-add}
 use native.Mathlib.Omega.{arith}
 use denote.Ref.{now}
 use lib.ListN.{length, take, drop, length-drop}
 use lib.Seq.{take-all}
-use Rattle.ucp_receiver.specs.Octet.{stateOf}
+use Rattle.ucp_receiver.specs.declared.Counts.{Counts}
+use Rattle.ucp_receiver.specs.Octet.{State, stateOf}
 use Rattle.text_ucp_listing.specs.Lists.{lines, Lists, behindAll, everyLine}
 use Rattle.text_ucp_listing.proofs.Whole.{same-long}
 use Rattle.text_ucp_listing.proofs.Slices.{lists-within, lists-moves, lists-onward, lists-text}
@@ -21,10 +23,14 @@ abbrev Inv-loop : tie.InvT-loop
 Inv-loop store₀ room₀ block text₀ receiver₀ taken₀ written₀ store room text receiver taken written =
     (length text ≡ length text₀)
     × Reached block (behindAll (stateOf (receiver₀ .rest) store₀) (receiver₀ .counts) block) (stateOf (receiver .rest) store) (receiver .counts) taken
-    × WentOut block (everyLine (stateOf (receiver₀ .rest) store₀) (receiver₀ .counts) block) (stateOf (receiver .rest) store) (receiver .counts) taken written
+    × WentOut everyLine block (everyLine (stateOf (receiver₀ .rest) store₀) (receiver₀ .counts) block) (stateOf (receiver .rest) store) (receiver .counts) taken written
 
 abbrev μ-loop : tie.MeasureT-loop
 μ-loop store₀ room₀ block text₀ receiver₀ taken₀ written₀ store room text receiver taken written = length block - taken
+
+no-lines : (s : State) (c : Counts) → everyLine s c [] ≡ []
+unfolding everyLine
+no-lines s c = refl
 
 -- what a turn lists, of the part of the block that is left
 listed : (c : tie.After-list-some Inv-loop μ-loop)
@@ -52,7 +58,7 @@ text-long : (c : tie.After-list-some Inv-loop μ-loop) → length (c .list-some 
 text-long c = same-long (listed c .puts) ∙ c .before .before .before .before .before .before .loop .inv .0
 
 loop-holds : tie.Need-loop-holds Inv-loop μ-loop
-loop-holds c = let block = now (c .before .before .args .block) in (refl, reached-first block _ _, went-first block _ _)
+loop-holds c = let block = now (c .before .before .args .block) in (refl, reached-first block _ _, went-first everyLine block _ _)
 
 add-taken : tie.Need-add-taken Inv-loop μ-loop
 add-taken c = omega (arith, turn-within (c .before .before .before .before), c .before .before .before .before .before .before .before .before .before .before .before .before .before .good)
@@ -61,7 +67,7 @@ same-length : tie.Need-same-length Inv-loop μ-loop
 same-length c = text-long (c .before .before .before .before .before .before .before .before .before)
 
 returns : tie.Need-returns Inv-loop μ-loop
-returns c = rw (c .listed-block .ensures) (tt, tt)
+returns c = rw (c .block-done .ensures) (tt, tt)
 
 loop-less : tie.Need-loop-less Inv-loop μ-loop
 loop-less c = omega (arith, turn-within (c .before .before .before .before .before .before .before .before .before .before))
@@ -82,7 +88,7 @@ loop-again c =
     let block = now (t .before .before .before .before .before .before .before .before .before .args .block) in (
       text-long t,
       reached-more block _ _ _ (l .taken) (l .inv .1) _ _ (t .list-some .result .taken) (lists-within (listed t)) (lists-onward (listed t)),
-      went-more block _ _ _ (l .taken) (l .written) (l .inv .2) _ _ (t .list-some .result .taken) (c .before .before .output .given .0 .0) _
+      went-more everyLine block _ _ _ (l .taken) (l .written) (l .inv .2) _ _ (t .list-some .result .taken) (c .before .before .output .given .0 .0) _
           (lines (stateOf (l .receiver .rest) (l .store)) (l .receiver .counts) (l .room) (drop (l .taken) block) (length (l .text)) .text)
           (lists-text (listed t)) (out-long (c .before .before) ∙ listed t .puts .ends ∙ zero-add _) (c .wrapping-add-usize .ensures),
     )
@@ -94,8 +100,8 @@ returns-2 : tie.Need-returns-2 Inv-loop μ-loop
 returns-2 c =
     let block = now (c .before .before .before .before .before .args .block) in
     let l = c .before .before .loop in
-    rw (c .listed-block2 .ensures)
-    (reached-last block _ _ _ (l .taken) (l .inv .1) (c .before .loop-test .left), went-last block _ _ _ (l .taken) (l .written) (l .inv .2) (c .before .loop-test .left))
+    rw (c .block-done2 .ensures)
+    (reached-last block _ _ _ (l .taken) (l .inv .1) (c .before .loop-test .left), went-last everyLine block _ _ _ (l .taken) (l .written) (l .inv .2) (no-lines _ _) (c .before .loop-test .left))
 
 pub list-block-spec : {M : Type 1} → statement M
 list-block-spec =

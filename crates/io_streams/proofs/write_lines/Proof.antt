@@ -1,12 +1,12 @@
--- `io_ucp::write_lines` meets its contract. Assumes nothing.
+-- `io_streams::write_lines` meets its contract. Assumes nothing.
 use mathlib.Core.Path.{_≡_, refl, sym, _∙_}
 use mathlib.Core.Bool.{Bool, true, false, true≢false}
 use Prim.Native.Nat.{ℕ, zero, suc, _<_}
 use native.Mathlib.Omega.{arith}
 use lib.ListN.{length-take}
 use borrow.Author.Needs.{needs}
-use Rattle.io_ucp.proofs.write_lines.Statement.{statement}
-use Rattle.io_ucp.proofs.write_lines.Tie as tie
+use Rattle.io_streams.proofs.write_lines.Statement.{statement}
+use Rattle.io_streams.proofs.write_lines.Tie as tie
 
 slice-aggregate-write-out : tie.Need-slice-aggregate-write-out
 slice-aggregate-write-out c = simp length-take (omega (arith, c .before .least .ensures))
@@ -18,7 +18,7 @@ some-left (suc n) written tells failed = omega arith
 
 returns-2 : tie.Need-returns-2
 returns-2 c =
-    some-left _ _ (λ empty. c .before .write-out .ensures (simp length-take (omega (arith, empty)))) (c .if1 .left)
+    some-left _ _ (λ empty. c .before .write-out .ensures .0 (simp length-take (omega (arith, empty)))) (c .if1 .left)
 
 pub write-lines-spec : {M : Type 1} → statement M
 write-lines-spec =
