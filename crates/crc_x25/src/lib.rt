@@ -55,17 +55,8 @@ pub fn x25_check(octets: &[u8], extra: u8) -> u16
     x25_after(0xFFFF, octets, extra)
 }
 
-// The same of octets that follow others, whose check is given. Few octets have no loop of words, so that it folds into a caller.
+// The same of octets that follow others, whose check is given.
 pub fn x25_after(check: u16, octets: &[u8], extra: u8) -> u16
-    ensures { λ r. ⌜ r ≡ x25From check (now (octets .entry) ++ extra ∷ []) ⌝ }
-{
-    if octets.len() < 8 {
-        return check_rest(octets, 0, check, extra);
-    }
-    check_words(check, octets, extra)
-}
-
-fn check_words(check: u16, octets: &[u8], extra: u8) -> u16
     ensures { λ r. ⌜ r ≡ x25From check (now (octets .entry) ++ extra ∷ []) ⌝ }
 {
     let mut check = check;
