@@ -252,3 +252,16 @@ eight-next check octets extra i first h e =
     ap (take 8) (drop-append-le i octets (extra ∷ []) (omega arith)) ∙ take-append-le 8 (drop i octets) (extra ∷ []) few ∙ sym e in
     ap (x25From check) (sym (take-append-drop 8 (drop i all)) ∙ ap₂ (λ (xs ys : List ℕ). xs ++ ys) front (drop-drop 8 i all))
     ∙ from-append check first (drop (i + 8) all)
+
+-- the check of octets that follow others, from the start on
+pub after : (xs ys : List ℕ) → x25From (x25 xs) ys ≡ x25 (xs ++ ys)
+after xs ys =
+    ap (λ (n : ℕ). x25From n ys) (sym (starts xs)) ∙ sym (from-append 0xFFFF xs ys) ∙ starts (xs ++ ys)
+
+-- three zeros turn 8EB4 into the start
+pub zeros-before : (xs : List ℕ) → x25From 0x8EB4 (0 ∷ 0 ∷ 0 ∷ xs) ≡ x25 xs
+unfolding x25From x25 mirrored bitsUp polynomial register next step reduced wireBits
+zeros-before xs = from-append 0x8EB4 (0 ∷ 0 ∷ 0 ∷ []) xs ∙ ap (λ (n : ℕ). x25From n xs) start ∙ starts xs
+  where
+    start : x25From 0x8EB4 (0 ∷ 0 ∷ 0 ∷ []) ≡ 0xFFFF
+    start = refl

@@ -37,11 +37,29 @@ fn next_eight(check: u16, word: u64) -> u16
     (((q >> 48) ^ (q >> 53) ^ (q >> 60)) % 65536) as u16
 }
 
+// The check of five octets at once: the step of eight over three zeros and them, from the check that the zeros turn into the start.
+pub fn x25_five(first: u8, second: u8, third: u8, fourth: u8, fifth: u8) -> u16
+    ensures { λ r. ⌜ r ≡ x25 (first ∷ second ∷ third ∷ fourth ∷ fifth ∷ []) ⌝ }
+{
+    let word = first as u64 * 16777216
+        + (second as u64 * 4294967296
+            + (third as u64 * 1099511627776
+                + (fourth as u64 * 281474976710656 + fifth as u64 * 72057594037927936)));
+    next_eight(0x8EB4, word)
+}
+
 // The check of octets and then of one more, the extra that is not sent.
 pub fn x25_check(octets: &[u8], extra: u8) -> u16
     ensures { λ r. ⌜ r ≡ x25 (now (octets .entry) ++ extra ∷ []) ⌝ }
 {
-    let mut check: u16 = 0xFFFF;
+    x25_after(0xFFFF, octets, extra)
+}
+
+// The same of octets that follow others, whose check is given.
+pub fn x25_after(check: u16, octets: &[u8], extra: u8) -> u16
+    ensures { λ r. ⌜ r ≡ x25From check (now (octets .entry) ++ extra ∷ []) ⌝ }
+{
+    let mut check = check;
     let mut i = 0;
     while octets.len() - i > 7 {
         check = next_eight(check, field_words::little_64(octets, i));

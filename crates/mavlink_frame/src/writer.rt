@@ -4,15 +4,16 @@ use super::Kind;
 use super::Lookup;
 use output_writing::Written;
 ghost use mathlib.Core.Path.{_≡_};
-ghost use mathlib.Core.List.{[], _∷_, _++_};
-ghost use Prim.Native.Nat.{_+_, _-_, _≤_};
-ghost use lib.ListN.{length, take, drop};
+ghost use mathlib.Core.List.{_++_};
+ghost use Prim.Native.Nat.{_+_, _≤_};
+ghost use lib.ListN.{length, drop};
 ghost use lib.Seq.{sets};
 ghost use Rattle.output_writing.specs.Writing.{Writing};
-ghost use Rattle.crc_x25.specs.Check.{x25Octets};
-ghost use Rattle.mavlink_frame.specs.Frame.{headerOctets, mavlinkFrame};
+ghost use Rattle.crc_x25.specs.Check.{x25};
+ghost use Rattle.mavlink_frame.specs.Frame.{headerOctets, covered, mavlinkFrame};
 ghost use Rattle.mavlink_frame.specs.Reader.{payloadAt};
 ghost use Rattle.mavlink_frame.specs.Writer.{frameWriteDue, writeOf, frameOf};
+ghost use Rattle.mavlink_frame.specs.Steps.{lowFirst, closed};
 
 // Writes the frame of a payload at the start of output. On a refusal nothing is written.
 pub fn write_frame(id: u8, header: Header, payload: &[u8], output: &mut [u8]) -> Written
@@ -43,8 +44,9 @@ fn fill(kind: Kind, header: Header, payload: &[u8], output: &mut [u8])
     requires { ⌜ (length (now payload) ≡ kind .length) × (length (now payload) + 8 ≤ length (now output)) ⌝ }
     ensures { λ r. ⌜ now (output .exit) ≡ mavlinkFrame kind header (now (payload .entry)) ++ drop (length (now (payload .entry)) + 8) (now (output .entry)) ⌝ }
 {
+    let check = check_of(kind, header, payload);
     field_words::copies::copy(payload, output, 6);
-    surround(kind, header, output);
+    put_around(kind, header, check, output);
 }
 
 // Puts header and check around a payload that stands in the output already, from 6 on.
@@ -52,8 +54,31 @@ pub fn surround(kind: Kind, header: Header, output: &mut [u8])
     requires { ⌜ kind .length + 8 ≤ length (now output) ⌝ }
     ensures { λ r. ⌜ now (output .exit) ≡ mavlinkFrame kind header (payloadAt (kind .length) (now (output .entry))) ++ drop (kind .length + 8) (now (output .entry)) ⌝ }
 {
+    let check = check_of(kind, header, &output[6..kind.length as usize + 6]);
+    put_around(kind, header, check, output);
+}
+
+// The check of a frame, from what its octets come from: octets that were just stored in other pieces are slow to load.
+fn check_of(kind: Kind, header: Header, payload: &[u8]) -> u16
+    ensures { λ r. ⌜ r ≡ x25 (covered kind header (now (payload .entry))) ⌝ }
+{
+    let head = crc_x25::x25_five(
+        kind.length,
+        header.sequence,
+        header.system,
+        header.component,
+        kind.id,
+    );
+    crc_x25::x25_after(head, payload, kind.extra)
+}
+
+// Puts the header before the payload, and behind it a check.
+fn put_around(kind: Kind, header: Header, check: u16, output: &mut [u8])
+    requires { ⌜ kind .length + 8 ≤ length (now output) ⌝ }
+    ensures { λ r. ⌜ now (output .exit) ≡ closed kind header (payloadAt (kind .length) (now (output .entry))) check ++ drop (kind .length + 8) (now (output .entry)) ⌝ }
+{
     put_header(kind, header, output);
-    put_check(kind.extra, kind.length as usize + 6, output);
+    put_check(check, kind.length as usize + 6, output);
 }
 
 fn put_header(kind: Kind, header: Header, output: &mut [u8])
@@ -68,12 +93,11 @@ fn put_header(kind: Kind, header: Header, output: &mut [u8])
     output[5] = kind.id;
 }
 
-// Puts the check of the octets from 1 on behind them, low octet first.
-fn put_check(extra: u8, end: usize, output: &mut [u8])
-    requires { ⌜ (1 ≤ end) × (end + 2 ≤ length (now output)) ⌝ }
-    ensures { λ r. ⌜ now (output .exit) ≡ sets (now (output .entry)) end (x25Octets (take (end - 1) (drop 1 (now (output .entry))) ++ extra ∷ [])) ⌝ }
+// Puts a check, low octet first.
+fn put_check(check: u16, at: usize, output: &mut [u8])
+    requires { ⌜ at + 2 ≤ length (now output) ⌝ }
+    ensures { λ r. ⌜ now (output .exit) ≡ sets (now (output .entry)) at (lowFirst check) ⌝ }
 {
-    let check = crc_x25::x25_check(&output[1..end], extra);
-    output[end] = (check % 256) as u8;
-    output[end + 1] = (check / 256) as u8;
+    output[at] = (check % 256) as u8;
+    output[at + 1] = (check / 256) as u8;
 }

@@ -5,11 +5,12 @@ use Prim.Native.Nat.{ℕ, _+_, _-_, _≤_}
 use native.Mathlib.Omega.{arith}
 use lib.ListN.{length, take, drop, length-append, length-drop, take-append-drop}
 use lib.Seq.{sets, sets-eq, paste, drop-paste, take-at, drop-at, take-length, length-take-le, drop-drop, drop-append-add}
-use Rattle.crc_x25.specs.Check.{x25Octets}
+use Rattle.crc_x25.specs.Check.{x25}
 use Rattle.mavlink_frame.specs.declared.Kind.{Kind}
 use Rattle.mavlink_frame.specs.declared.Header.{Header}
 use Rattle.mavlink_frame.specs.Frame.{headerOctets, covered, mavlinkFrame}
 use Rattle.mavlink_frame.specs.Reader.{payloadAt}
+use Rattle.mavlink_frame.specs.Steps.{lowFirst, closed}
 
 module _ (k : Kind) (h : Header) (payload output : List ℕ) (room : length payload + 8 ≤ length output) where
   -- the output up to the check, and what is behind
@@ -38,21 +39,22 @@ module _ (k : Kind) (h : Header) (payload output : List ℕ) (room : length payl
   eight-more : 6 + length payload + 2 ≡ length payload + 8
   eight-more = omega arith
 
-  -- the octets that the check is over
-  checked : take (length payload + 6 - 1) (drop 1 (ahead ++ behind)) ++ k .extra ∷ [] ≡ covered k h payload
-  checked = ap (λ (xs : List ℕ). xs ++ k .extra ∷ []) (take-at (drop 1 ahead) behind (length payload + 6 - 1) (omega arith))
-
-  pub frame-put : (before : List ℕ) → before ≡ ahead ++ behind
-      → sets before (length payload + 6) (x25Octets (take (length payload + 6 - 1) (drop 1 before) ++ k .extra ∷ []))
-      ≡ mavlinkFrame k h payload ++ drop (length payload + 8) output
-  unfolding mavlinkFrame
-  frame-put before e =
-      rw (e, checked)
-      (sets-eq (x25Octets (covered k h payload)) (ahead ++ behind) (length payload + 6) (simp (length-append, length-drop) (omega arith))
-      ∙ ap₂ (λ (p q : List ℕ). p ++ x25Octets (covered k h payload) ++ q)
+  -- the check behind
+  pub frame-put : (check : ℕ) (before : List ℕ) → before ≡ ahead ++ behind
+      → sets before (length payload + 6) (lowFirst check) ≡ closed k h payload check ++ drop (length payload + 8) output
+  frame-put check before e =
+      rw e
+      (sets-eq (lowFirst check) (ahead ++ behind) (length payload + 6) (simp (length-append, length-drop) (omega arith))
+      ∙ ap₂ (λ (p q : List ℕ). p ++ lowFirst check ++ q)
       (take-at ahead behind (length payload + 6) ahead-length)
       (ap (λ (n : ℕ). drop n (ahead ++ behind)) two-more ∙ drop-append-add ahead behind 2 ∙ drop-drop 2 (6 + length payload) output
       ∙ ap (λ (n : ℕ). drop n output) eight-more))
+
+-- with the right check it is the frame
+pub frame-closed : (k : Kind) (h : Header) (payload : List ℕ) {check : ℕ} → check ≡ x25 (covered k h payload)
+    → closed k h payload check ≡ mavlinkFrame k h payload
+unfolding mavlinkFrame
+frame-closed k h payload e = ap (closed k h payload) e
 
 -- a payload that is put from 6 on, and what is behind
 module _ (payload output : List ℕ) (room : length payload + 8 ≤ length output) where

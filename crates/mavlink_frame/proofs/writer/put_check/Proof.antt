@@ -1,12 +1,8 @@
 -- `mavlink_frame::writer::put_check` meets its contract. Assumes nothing.
-use mathlib.Core.Path.{ap}
-use mathlib.Core.List.{[], _∷_}
-use Prim.Native.Nat.{ℕ, _/_, _%_}
 use native.Mathlib.Omega.{arith}
 use native.Mathlib.Numerals.{add-one}
-use denote.Ref.{now}
+use mathlib.Core.Path.{refl}
 use lib.ListN.{length-set}
-use lib.Seq.{sets}
 use borrow.Author.Needs.{needs}
 use Rattle.mavlink_frame.proofs.writer.put_check.Statement.{statement}
 use Rattle.mavlink_frame.proofs.writer.put_check.Tie as tie
@@ -18,13 +14,9 @@ same-length : tie.Need-same-length
 same-length c = simp length-set
 
 returns : tie.Need-returns
-returns c =
-    let a = c .before .before .before .before .args in
-    rw add-one
-    (ap (λ (n : ℕ). sets (now (a .output)) (a .end) (n % 256 ∷ n / 256 ∷ [])) (c .x25-check .ensures))
+returns c = rw add-one refl
 
 pub put-check-spec : {M : Type 1} → statement M
 put-check-spec =
     tie.close
-    (tie.spec (λ c. search needs) (λ c. search needs) (λ c. search needs) (λ c κs. search needs) (λ c. search needs)
-    (λ c. search needs) (λ c. search needs) (λ c. search needs) slice-write-output-2 same-length returns)
+    (tie.spec (λ c. search needs) (λ c. search needs) (λ c. search needs) (λ c. search needs) slice-write-output-2 same-length returns)
