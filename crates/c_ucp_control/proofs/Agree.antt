@@ -3,7 +3,7 @@ use mathlib.Core.Path.{_≡_, refl}
 use mathlib.Core.List.{[], _∷_}
 use native.Mathlib.Omega.{arith}
 use lib.ListN.{length}
-use Rattle.ucp_kinds.specs.declared.Control.{Control}
+use Rattle.ucp_messages.specs.declared.Control.{Control}
 use Rattle.c_lent.specs.Structs.{RightStruct, structOffsets, structSize, stored, held, TypedIn}
 use Rattle.c_lent.proofs.Structs.{held-stored}
 use Rattle.c_ucp_control.specs.Struct.{controlStruct}

@@ -13,7 +13,7 @@ use Rattle.output_writing.specs.Puts.{Puts}
 use Rattle.output_writing.proofs.ToPut.{ToPut, all-to-put, last-put}
 use Rattle.ucp_writer.proofs.Rest.{frame-rest, frame-put, pair-room, pair-put}
 use Rattle.field_format.specs.Format.{bodyOf}
-use Rattle.ucp_kinds.specs.Control45.{controlFormat}
+use Rattle.ucp_messages.specs.Control45.{controlFormat}
 use Rattle.c_lent.specs.Structs.{held}
 use Rattle.c_ucp_control.specs.Struct.{controlStruct, controlState}
 use Rattle.c_ucp_control.proofs.Held.{body-found, from-9}

@@ -17,11 +17,11 @@ use Rattle.ucp_frame.specs.Frame.{frame}
 use Rattle.ucp_frame.proofs.Frame.{frame-length-most}
 use Rattle.ucp_writer.specs.Sends.{sendDue}
 use Rattle.ucp_writer.proofs.room.Due.{due-accepted}
-use Rattle.ucp_kinds.specs.declared.Control.{Control}
+use Rattle.ucp_messages.specs.declared.Control.{Control}
 use Rattle.field_format.specs.Format.{bodyOf, fits}
 use Rattle.field_format.proofs.Formats.{fitting, bound}
-use Rattle.ucp_kinds.specs.Control45.{controlFormat}
-use Rattle.ucp_kinds.proofs.Formats.{control-right}
+use Rattle.ucp_messages.specs.Control45.{controlFormat}
+use Rattle.ucp_messages.proofs.Formats.{control-right}
 use Rattle.c_lent.specs.Structs.{held}
 use Rattle.c_lent.specs.Sends.{SendsStruct}
 use Rattle.c_ucp_control.specs.Struct.{controlStruct, controlState}

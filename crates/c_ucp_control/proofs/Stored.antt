@@ -16,7 +16,7 @@ use Rattle.field_codes.specs.Codes.{isSquawk}
 use Rattle.field_texts.specs.Text.{isPadded}
 use Rattle.field_format.specs.Format.{valueIn, bodyOf}
 use Rattle.field_format.proofs.ByOctets.{by-octets}
-use Rattle.ucp_kinds.specs.Control45.{controlFormat}
+use Rattle.ucp_messages.specs.Control45.{controlFormat}
 use Rattle.c_lent.specs.Structs.{stored, held}
 use Rattle.c_ucp_control.specs.Struct.{controlStruct, controlState}
 

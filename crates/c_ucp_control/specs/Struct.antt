@@ -3,8 +3,8 @@ use mathlib.Core.List.{[], _∷_}
 use Prim.Native.Nat.{ℕ}
 use lib.ListN.{getD}
 use Rattle.field_format.specs.Format.{unsigned, integer, bodyOf}
-use Rattle.ucp_kinds.specs.declared.Control.{Control}
-use Rattle.ucp_kinds.specs.Control45.{controlFormat}
+use Rattle.ucp_messages.specs.declared.Control.{Control}
+use Rattle.ucp_messages.specs.Control45.{controlFormat}
 use Rattle.c_lent.specs.Structs.{Struct, bool, low, text, padding, structOctet}
 
 -- offsets 0 to 4: 1090ES enabled, modes S, C and A, ident; 5: air-ground state; 6: barometer checked; 7: padding; 8: altitude;

@@ -12,7 +12,7 @@ ghost use Rattle.ucp_frame.specs.Frame.{frame};
 ghost use Rattle.field_layout.specs.Steps.{little16};
 ghost use Rattle.field_layout.specs.Layout.{bitOf};
 ghost use Rattle.field_format.specs.Format.{valueIn, bodyOf};
-ghost use Rattle.ucp_kinds.specs.Control45.{controlFormat};
+ghost use Rattle.ucp_messages.specs.Control45.{controlFormat};
 ghost use Rattle.c_lent.specs.Reads.{ReadsInto};
 ghost use Rattle.c_lent.specs.Writes.{WritesStructBody};
 ghost use Rattle.c_lent.specs.Sends.{SendsStruct};

@@ -10,8 +10,8 @@ use Rattle.c_lent.specs.Steps.{twoOf}
 use Rattle.c_lent.proofs.Octets.{little-two, big-two, signed-two}
 use Rattle.field_layout.proofs.Elements.{by-elements}
 use Rattle.field_format.specs.Format.{valueIn, bodyOf, fits}
-use Rattle.ucp_kinds.specs.declared.GeometricAltitude.{GeometricAltitude}
-use Rattle.ucp_kinds.specs.GeometricAltitude11.{geometricFormat}
+use Rattle.ucp_messages.specs.declared.GeometricAltitude.{GeometricAltitude}
+use Rattle.ucp_messages.specs.GeometricAltitude11.{geometricFormat}
 use Rattle.c_lent.specs.Structs.{stored, held}
 use Rattle.c_ucp_geometric_altitude.specs.Struct.{geometricStruct}
 

@@ -1,8 +1,8 @@
 -- Message 11 as the octets of its C struct. Assumes nothing.
 use mathlib.Core.List.{[], _∷_}
 use Rattle.field_format.specs.Format.{unsigned, integer}
-use Rattle.ucp_kinds.specs.declared.GeometricAltitude.{GeometricAltitude}
-use Rattle.ucp_kinds.specs.GeometricAltitude11.{geometricFormat}
+use Rattle.ucp_messages.specs.declared.GeometricAltitude.{GeometricAltitude}
+use Rattle.ucp_messages.specs.GeometricAltitude11.{geometricFormat}
 use Rattle.c_lent.specs.Structs.{Struct, low}
 
 -- offset 0: altitude, signed; 2: metrics

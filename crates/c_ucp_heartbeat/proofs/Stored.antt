@@ -9,8 +9,8 @@ use Rattle.crc_polynomial.specs.Polynomial.{Octets}
 use Rattle.c_lent.proofs.Octets.{little-two, big-two}
 use Rattle.field_layout.proofs.Elements.{by-elements}
 use Rattle.field_format.specs.Format.{valueIn, bodyOf, fits}
-use Rattle.ucp_kinds.specs.declared.Heartbeat.{Heartbeat}
-use Rattle.ucp_kinds.specs.Heartbeat0.{heartbeatFormat}
+use Rattle.ucp_messages.specs.declared.Heartbeat.{Heartbeat}
+use Rattle.ucp_messages.specs.Heartbeat0.{heartbeatFormat}
 use Rattle.c_lent.specs.Structs.{stored, held}
 use Rattle.c_ucp_heartbeat.specs.Struct.{heartbeatStruct}
 

@@ -1,8 +1,8 @@
 -- Message 0 as the octets of its C struct. Assumes nothing.
 use mathlib.Core.List.{[], _∷_}
 use Rattle.field_format.specs.Format.{unsigned}
-use Rattle.ucp_kinds.specs.declared.Heartbeat.{Heartbeat}
-use Rattle.ucp_kinds.specs.Heartbeat0.{heartbeatFormat}
+use Rattle.ucp_messages.specs.declared.Heartbeat.{Heartbeat}
+use Rattle.ucp_messages.specs.Heartbeat0.{heartbeatFormat}
 use Rattle.c_lent.specs.Structs.{Struct, low, structOctet}
 
 -- offset 0 and 1: status; 2: time stamp; 4: message counts

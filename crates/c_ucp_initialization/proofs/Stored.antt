@@ -17,9 +17,9 @@ use Rattle.field_texts.specs.Text.{isSpaced}
 use Rattle.field_format.specs.Format.{valueIn, bodyOf, fits}
 use Rattle.field_format.proofs.ByOctets.{by-octets}
 use Rattle.field_format.proofs.Formats.{fitting, bound}
-use Rattle.ucp_kinds.specs.declared.Initialization.{Initialization}
-use Rattle.ucp_kinds.specs.Initialization117.{initializationFormat}
-use Rattle.ucp_kinds.proofs.Formats.{initialization-right}
+use Rattle.ucp_messages.specs.declared.Initialization.{Initialization}
+use Rattle.ucp_messages.specs.Initialization117.{initializationFormat}
+use Rattle.ucp_messages.proofs.Formats.{initialization-right}
 use Rattle.c_lent.specs.Structs.{stored, held}
 use Rattle.c_ucp_initialization.specs.Struct.{initializationStruct}
 use Rattle.c_ucp_initialization.specs.Steps.{firstOctets, SmallFields}

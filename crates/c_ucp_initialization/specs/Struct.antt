@@ -1,8 +1,8 @@
 -- Message 117 as the octets of its C struct. Assumes nothing.
 use mathlib.Core.List.{[], _∷_}
 use Rattle.field_format.specs.Format.{unsigned}
-use Rattle.ucp_kinds.specs.declared.Initialization.{Initialization}
-use Rattle.ucp_kinds.specs.Initialization117.{initializationFormat}
+use Rattle.ucp_messages.specs.declared.Initialization.{Initialization}
+use Rattle.ucp_messages.specs.Initialization117.{initializationFormat}
 use Rattle.c_lent.specs.Structs.{Struct, low, text, padding, structOctet}
 
 -- offset 0: version; 1: padding, 3 octets; 4: address; 8: emitter; 9: callsign; 17: stall speed; 18: size; 19: lateral antenna

@@ -8,7 +8,7 @@ ghost use Prim.Native.Nat.{_≤_};
 ghost use lib.ListN.{length, drop};
 ghost use lib.Seq.{sets};
 ghost use Rattle.field_format.specs.Format.{valueIn, bodyOf, fits};
-ghost use Rattle.ucp_kinds.specs.Initialization117.{initializationFormat};
+ghost use Rattle.ucp_messages.specs.Initialization117.{initializationFormat};
 ghost use Rattle.c_lent.specs.Reads.{ReadsInto};
 ghost use Rattle.c_lent.specs.Writes.{WritesStructBody};
 ghost use Rattle.c_lent.specs.Sends.{SendsStruct};

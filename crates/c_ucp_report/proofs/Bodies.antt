@@ -5,7 +5,7 @@ use Prim.Native.Nat.{ℕ}
 use lib.ListN.{length, replicate}
 use Rattle.field_layout.proofs.Elements.{by-elements}
 use Rattle.field_format.specs.Format.{valueIn}
-use Rattle.ucp_kinds.specs.Report10.{reportFormat}
+use Rattle.ucp_messages.specs.Report10.{reportFormat}
 use Rattle.c_lent.specs.Structs.{stored}
 use Rattle.c_ucp_report.specs.Struct.{reportStruct}
 use Rattle.c_ucp_report.specs.Steps.{leftStored, rightStored, othersStored}

@@ -12,11 +12,11 @@ use Rattle.field_layout.specs.Steps.{little16, little32}
 use Rattle.field_layout.proofs.Elements.{elements, by-elements}
 use Rattle.field_signed.specs.Signed.{signed, holds}
 use Rattle.field_format.proofs.Conjunction.{both}
-use Rattle.ucp_kinds.specs.declared.Report.{Report}
+use Rattle.ucp_messages.specs.declared.Report.{Report}
 use Rattle.field_format.specs.Format.{bodyOf, fits}
-use Rattle.ucp_kinds.specs.Report10.{reportFormat}
+use Rattle.ucp_messages.specs.Report10.{reportFormat}
 use Rattle.field_format.proofs.Formats.{fitting, bound}
-use Rattle.ucp_kinds.proofs.Formats.{report-right}
+use Rattle.ucp_messages.proofs.Formats.{report-right}
 use Rattle.c_lent.specs.Structs.{held}
 use Rattle.c_ucp_report.specs.Struct.{reportStruct}
 use Rattle.c_ucp_report.specs.Steps.{Small, leftOf, rightOf}

@@ -1,8 +1,8 @@
 -- A report, message 10 or 20, as the octets of its C struct. Assumes nothing.
 use mathlib.Core.List.{[], _∷_}
 use Rattle.field_format.specs.Format.{unsigned, integer}
-use Rattle.ucp_kinds.specs.declared.Report.{Report}
-use Rattle.ucp_kinds.specs.Report10.{reportFormat}
+use Rattle.ucp_messages.specs.declared.Report.{Report}
+use Rattle.ucp_messages.specs.Report10.{reportFormat}
 use Rattle.c_lent.specs.Structs.{Struct, low, text, padding, structOctet}
 
 -- offset 0: alert; 1: address type; 2: padding, 2 octets; 4: address; 8: latitude; 12: longitude; 16: altitude; 18: miscellaneous;

@@ -11,7 +11,7 @@ ghost use Rattle.field_layout.specs.Steps.{big16, big24, big32};
 ghost use Rattle.field_signed.specs.Signed.{signed, complement, holds};
 ghost use Rattle.field_words.specs.Words.{octetsUp, eight};
 ghost use Rattle.field_format.specs.Format.{valueIn, bodyOf, fits};
-ghost use Rattle.ucp_kinds.specs.Report10.{reportFormat};
+ghost use Rattle.ucp_messages.specs.Report10.{reportFormat};
 ghost use Rattle.c_lent.specs.Steps.{twoOf};
 ghost use Rattle.c_lent.specs.Reads.{ReadsInto};
 ghost use Rattle.c_lent.specs.Writes.{WritesStructBody};

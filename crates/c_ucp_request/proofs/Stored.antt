@@ -7,8 +7,8 @@ use lib.ListN.{getD, length, drop}
 use lib.Seq.{sets, sets-eq}
 use Rattle.field_layout.proofs.Elements.{by-elements}
 use Rattle.field_format.specs.Format.{valueIn, bodyOf, fits}
-use Rattle.ucp_kinds.specs.declared.Request.{Request}
-use Rattle.ucp_kinds.specs.Request44.{requestFormat}
+use Rattle.ucp_messages.specs.declared.Request.{Request}
+use Rattle.ucp_messages.specs.Request44.{requestFormat}
 use Rattle.c_lent.specs.Structs.{stored, held}
 use Rattle.c_ucp_request.specs.Struct.{requestStruct}
 

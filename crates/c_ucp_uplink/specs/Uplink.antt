@@ -7,7 +7,7 @@ use Rattle.output_writing.specs.Writing.{WritingNumbers}
 use Rattle.ucp_frame.specs.Frame.{frame}
 use Rattle.ucp_writer.specs.Sends.{sendDue}
 use Rattle.ucp_answers.specs.Writes.{bodyDue}
-use Rattle.ucp_kinds.specs.Uplink7.{uplinkRefusal, uplinkFits, uplinkBody}
+use Rattle.ucp_messages.specs.Uplink7.{uplinkRefusal, uplinkFits, uplinkBody}
 use Rattle.c_lent.specs.Reads.{refusalAs, FillsStruct}
 
 -- one reader's call, whole: the body, the payload as it was lent, the answer, and the payload as at return

@@ -29,7 +29,7 @@ pub extern "C" fn ostrogosz_ucp_read_uplink(body: &[u8], payload: &mut [u8; 435]
 fn write(payload: &[u8], output: &mut [u8]) -> OstrogoszWritten
     ensures { λ r. ⌜ WritesUplink (now (payload .entry)) (now (output .entry)) r (now (output .exit)) ⌝ }
 {
-    output_writing::in_numbers(ucp_kinds::uplink_7::write(payload, output))
+    output_writing::in_numbers(ucp_messages::uplink_7::write(payload, output))
 }
 
 // Writes the body that carries a payload: 13 for another length than 435, then 8.

@@ -10,10 +10,10 @@ use Rattle.text_fields.specs.declared.Reading.the-variants.{Known}
 use Rattle.text_fields.specs.declared.Unit.the-variants.{Seconds, Metres}
 use Rattle.text_fields.specs.Fields.{unless, number, reading, squawk, hexadecimal, quotedText, truth, Labelled, _is_, fieldsShown}
 use Rattle.text_ucp_messages.specs.Reports.{knots, reportFields, geometricFields}
-use Rattle.ucp_kinds.specs.declared.Heartbeat.{Heartbeat}
-use Rattle.ucp_kinds.specs.declared.Request.{Request}
-use Rattle.ucp_kinds.specs.declared.Control.{Control}
-use Rattle.ucp_kinds.specs.declared.Initialization.{Initialization}
+use Rattle.ucp_messages.specs.declared.Heartbeat.{Heartbeat}
+use Rattle.ucp_messages.specs.declared.Request.{Request}
+use Rattle.ucp_messages.specs.declared.Control.{Control}
+use Rattle.ucp_messages.specs.declared.Initialization.{Initialization}
 use Rattle.ucp_messages.specs.declared.Message.{Message}
 use Rattle.ucp_messages.specs.declared.Message.the-variants.{Heartbeat as HeartbeatMessage, Uplink as UplinkMessage, Ownship as OwnshipMessage, GeometricAltitude as GeometricMessage, Traffic as TrafficMessage, Request as RequestMessage, Control as ControlMessage, Initialization as InitializationMessage}
 

@@ -5,8 +5,8 @@ use lib.IntN.{pos}
 use Rattle.text_output.specs.declared.Scale.the-variants.{Ones}
 use Rattle.text_fields.specs.declared.Unit.the-variants.{Knots}
 use Rattle.text_fields.specs.Fields.{unless, Value, number, reading, hexadecimal, quotedText, reportAltitude, rate, geometricAltitude, angle, Labelled, _is_}
-use Rattle.ucp_kinds.specs.declared.Report.{Report}
-use Rattle.ucp_kinds.specs.declared.GeometricAltitude.{GeometricAltitude}
+use Rattle.ucp_messages.specs.declared.Report.{Report}
+use Rattle.ucp_messages.specs.declared.GeometricAltitude.{GeometricAltitude}
 
 -- ---- raw numbers
 

@@ -7,12 +7,12 @@ use lib.ListN.{length, take, drop}
 use Rattle.crc_polynomial.specs.Polynomial.{Octets}
 use Rattle.field_format.specs.Format.{Format}
 use Rattle.output_writing.specs.declared.OstrogoszWritten.{OstrogoszWritten}
-use Rattle.ucp_kinds.specs.Heartbeat0.{heartbeatFormat}
-use Rattle.ucp_kinds.specs.Report10.{reportFormat}
-use Rattle.ucp_kinds.specs.GeometricAltitude11.{geometricFormat}
-use Rattle.ucp_kinds.specs.Request44.{requestFormat}
-use Rattle.ucp_kinds.specs.Control45.{controlFormat}
-use Rattle.ucp_kinds.specs.Initialization117.{initializationFormat}
+use Rattle.ucp_messages.specs.Heartbeat0.{heartbeatFormat}
+use Rattle.ucp_messages.specs.Report10.{reportFormat}
+use Rattle.ucp_messages.specs.GeometricAltitude11.{geometricFormat}
+use Rattle.ucp_messages.specs.Request44.{requestFormat}
+use Rattle.ucp_messages.specs.Control45.{controlFormat}
+use Rattle.ucp_messages.specs.Initialization117.{initializationFormat}
 use Rattle.c_lent.specs.Structs.{Struct, structSize, stored, held}
 use Rattle.c_lent.specs.Reads.{ReadsInto}
 use Rattle.c_lent.specs.Writes.{WritesStructBody}

@@ -6,7 +6,7 @@ use Rattle.field_signed.specs.Signed.{signed, holds}
 use Rattle.field_format.specs.Format.{valueIn, bodyOf, fits}
 use Rattle.ucp_answers.specs.Refusals.{refusalBy, refusalOf, reads}
 use Rattle.ucp_meanings.specs.Meanings.{altitudeMeans, rateMeans, geometricMeans}
-use Rattle.ucp_kinds.specs.Uplink7.{uplinkFits}
+use Rattle.ucp_messages.specs.Uplink7.{uplinkFits}
 use Rattle.ucp_messages.specs.Kinds.{kindOf}
 use Rattle.ucp_messages.specs.Messages.{answerAs, messageFits, messageBody}
 use Rattle.thm_kind_examples.specs.Ucp.{UcpKindExamples}

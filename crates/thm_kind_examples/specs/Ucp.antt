@@ -8,12 +8,12 @@ use lib.IntN.{ℤ, pos, negsuc}
 use lib.ListN.{take, replicate}
 use Rattle.refusals.specs.Numbers as because
 use Rattle.ucp_meanings.specs.Meanings.{noData, value, altitudeMeans, rateMeans, geometricMeans}
-use Rattle.ucp_kinds.specs.declared.Heartbeat as heartbeat-as
-use Rattle.ucp_kinds.specs.declared.Report as report-as
-use Rattle.ucp_kinds.specs.declared.GeometricAltitude as geometric-as
-use Rattle.ucp_kinds.specs.declared.Request as request-as
-use Rattle.ucp_kinds.specs.declared.Control as control-as
-use Rattle.ucp_kinds.specs.declared.Initialization as initialization-as
+use Rattle.ucp_messages.specs.declared.Heartbeat as heartbeat-as
+use Rattle.ucp_messages.specs.declared.Report as report-as
+use Rattle.ucp_messages.specs.declared.GeometricAltitude as geometric-as
+use Rattle.ucp_messages.specs.declared.Request as request-as
+use Rattle.ucp_messages.specs.declared.Control as control-as
+use Rattle.ucp_messages.specs.declared.Initialization as initialization-as
 use Rattle.ucp_messages.specs.declared.Message.{Message}
 use Rattle.ucp_messages.specs.declared.Message.the-variants.{Heartbeat, Uplink, Ownship, GeometricAltitude, Traffic, Request, Control, Initialization}
 use Rattle.ucp_messages.specs.Messages.{refused, means, messageDue, messageFits, messageBody}

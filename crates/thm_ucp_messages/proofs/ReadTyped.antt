@@ -14,14 +14,14 @@ use Rattle.ucp_messages.specs.declared.Kind.{Kind}
 use Rattle.ucp_messages.specs.declared.Kind.the-variants.{Heartbeat, Uplink, Ownship, GeometricAltitude, Traffic, Request, Control, Initialization, Unknown}
 use Rattle.ucp_messages.specs.declared.Message.{Message}
 use Rattle.ucp_messages.specs.declared.Message.the-variants as message
-use Rattle.ucp_kinds.specs.Heartbeat0.{heartbeatFormat}
-use Rattle.ucp_kinds.specs.Uplink7.{uplinkRefusal}
-use Rattle.ucp_kinds.specs.Report10.{reportFormat}
-use Rattle.ucp_kinds.specs.GeometricAltitude11.{geometricFormat}
-use Rattle.ucp_kinds.specs.Request44.{requestFormat}
-use Rattle.ucp_kinds.specs.Control45.{controlFormat}
-use Rattle.ucp_kinds.specs.Initialization117.{initializationFormat}
-use Rattle.ucp_kinds.proofs.Formats.{heartbeat-right, report-right, geometric-right, request-right, control-right, initialization-right}
+use Rattle.ucp_messages.specs.Heartbeat0.{heartbeatFormat}
+use Rattle.ucp_messages.specs.Uplink7.{uplinkRefusal}
+use Rattle.ucp_messages.specs.Report10.{reportFormat}
+use Rattle.ucp_messages.specs.GeometricAltitude11.{geometricFormat}
+use Rattle.ucp_messages.specs.Request44.{requestFormat}
+use Rattle.ucp_messages.specs.Control45.{controlFormat}
+use Rattle.ucp_messages.specs.Initialization117.{initializationFormat}
+use Rattle.ucp_messages.proofs.Formats.{heartbeat-right, report-right, geometric-right, request-right, control-right, initialization-right}
 use Rattle.ucp_messages.specs.Kinds.{kindIn}
 use Rattle.ucp_messages.specs.Messages.{means, refused, answerAs}
 use Rattle.thm_ucp_messages.proofs.WriteBack.{means-so}

@@ -1,19 +1,19 @@
 // Theorems: a written message reads back equal, and an accepted body writes back to the same octets. The functions do nothing: their
 // contracts say that every message that a program holds meets what the theorems ask of it.
-use ucp_kinds::Control;
-use ucp_kinds::GeometricAltitude;
-use ucp_kinds::Heartbeat;
-use ucp_kinds::Initialization;
-use ucp_kinds::Report;
-use ucp_kinds::Request;
+use ucp_messages::Control;
+use ucp_messages::GeometricAltitude;
+use ucp_messages::Heartbeat;
+use ucp_messages::Initialization;
+use ucp_messages::Report;
+use ucp_messages::Request;
 use ucp_messages::Message;
 ghost use Rattle.field_format.specs.Format.{TypedAs};
-ghost use Rattle.ucp_kinds.specs.Heartbeat0.{heartbeatFormat};
-ghost use Rattle.ucp_kinds.specs.Report10.{reportFormat};
-ghost use Rattle.ucp_kinds.specs.GeometricAltitude11.{geometricFormat};
-ghost use Rattle.ucp_kinds.specs.Request44.{requestFormat};
-ghost use Rattle.ucp_kinds.specs.Control45.{controlFormat};
-ghost use Rattle.ucp_kinds.specs.Initialization117.{initializationFormat};
+ghost use Rattle.ucp_messages.specs.Heartbeat0.{heartbeatFormat};
+ghost use Rattle.ucp_messages.specs.Report10.{reportFormat};
+ghost use Rattle.ucp_messages.specs.GeometricAltitude11.{geometricFormat};
+ghost use Rattle.ucp_messages.specs.Request44.{requestFormat};
+ghost use Rattle.ucp_messages.specs.Control45.{controlFormat};
+ghost use Rattle.ucp_messages.specs.Initialization117.{initializationFormat};
 ghost use Rattle.thm_ucp_messages.specs.Typed.{MessageTyped};
 
 // ---- one kind

@@ -9,12 +9,12 @@ use lib.Dec.{eqb}
 use lib.ListN.{length, getD, drop}
 use Rattle.field_format.specs.Format.{Format, valueIn}
 use Rattle.ucp_answers.specs.Refusals.{refusalBy, refusalOf, reads}
-use Rattle.ucp_kinds.specs.Heartbeat0.{heartbeatFormat}
-use Rattle.ucp_kinds.specs.Report10.{reportFormat}
-use Rattle.ucp_kinds.specs.GeometricAltitude11.{geometricFormat}
-use Rattle.ucp_kinds.specs.Request44.{requestFormat}
-use Rattle.ucp_kinds.specs.Control45.{controlFormat}
-use Rattle.ucp_kinds.specs.Initialization117.{initializationFormat}
+use Rattle.ucp_messages.specs.Heartbeat0.{heartbeatFormat}
+use Rattle.ucp_messages.specs.Report10.{reportFormat}
+use Rattle.ucp_messages.specs.GeometricAltitude11.{geometricFormat}
+use Rattle.ucp_messages.specs.Request44.{requestFormat}
+use Rattle.ucp_messages.specs.Control45.{controlFormat}
+use Rattle.ucp_messages.specs.Initialization117.{initializationFormat}
 use Rattle.ucp_messages.specs.declared.Kind.{Kind}
 use Rattle.ucp_messages.specs.declared.Kind.the-variants.{Heartbeat, Uplink, Ownship, GeometricAltitude, Traffic, Request, Control, Initialization, Unknown}
 use Rattle.ucp_messages.specs.declared.Message.{Message}

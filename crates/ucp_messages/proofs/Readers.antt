@@ -3,30 +3,30 @@ use mathlib.Core.Path.{_≡_, ap, _∙_}
 use mathlib.Core.List.{List}
 use Prim.Native.Nat.{ℕ}
 use Rattle.ucp_answers.proofs.Readers.{in-other-terms}
-use Rattle.ucp_kinds.specs.declared.HeartbeatRead.{HeartbeatRead}
-use Rattle.ucp_kinds.specs.declared.HeartbeatRead.the-variants as heartbeat
-use Rattle.ucp_kinds.specs.declared.UplinkRead.{UplinkRead}
-use Rattle.ucp_kinds.specs.declared.UplinkRead.the-variants as uplink
-use Rattle.ucp_kinds.specs.declared.ReportRead.{ReportRead}
-use Rattle.ucp_kinds.specs.declared.ReportRead.the-variants as report
-use Rattle.ucp_kinds.specs.declared.GeometricAltitudeRead.{GeometricAltitudeRead}
-use Rattle.ucp_kinds.specs.declared.GeometricAltitudeRead.the-variants as geometric
-use Rattle.ucp_kinds.specs.declared.RequestRead.{RequestRead}
-use Rattle.ucp_kinds.specs.declared.RequestRead.the-variants as request
-use Rattle.ucp_kinds.specs.declared.ControlRead.{ControlRead}
-use Rattle.ucp_kinds.specs.declared.ControlRead.the-variants as control
-use Rattle.ucp_kinds.specs.declared.InitializationRead.{InitializationRead}
-use Rattle.ucp_kinds.specs.declared.InitializationRead.the-variants as initialization
+use Rattle.ucp_messages.specs.declared.HeartbeatRead.{HeartbeatRead}
+use Rattle.ucp_messages.specs.declared.HeartbeatRead.the-variants as heartbeat
+use Rattle.ucp_messages.specs.declared.UplinkRead.{UplinkRead}
+use Rattle.ucp_messages.specs.declared.UplinkRead.the-variants as uplink
+use Rattle.ucp_messages.specs.declared.ReportRead.{ReportRead}
+use Rattle.ucp_messages.specs.declared.ReportRead.the-variants as report
+use Rattle.ucp_messages.specs.declared.GeometricAltitudeRead.{GeometricAltitudeRead}
+use Rattle.ucp_messages.specs.declared.GeometricAltitudeRead.the-variants as geometric
+use Rattle.ucp_messages.specs.declared.RequestRead.{RequestRead}
+use Rattle.ucp_messages.specs.declared.RequestRead.the-variants as request
+use Rattle.ucp_messages.specs.declared.ControlRead.{ControlRead}
+use Rattle.ucp_messages.specs.declared.ControlRead.the-variants as control
+use Rattle.ucp_messages.specs.declared.InitializationRead.{InitializationRead}
+use Rattle.ucp_messages.specs.declared.InitializationRead.the-variants as initialization
 use Rattle.field_format.specs.Format.{valueIn}
 use Rattle.ucp_answers.specs.Refusals.{refusalOf, reads}
 use Rattle.ucp_answers.proofs.Answers.{in-terms-of}
-use Rattle.ucp_kinds.specs.Heartbeat0.{heartbeatFormat}
-use Rattle.ucp_kinds.specs.Uplink7.{uplinkRefusal, uplinkRead}
-use Rattle.ucp_kinds.specs.Report10.{reportFormat}
-use Rattle.ucp_kinds.specs.GeometricAltitude11.{geometricFormat}
-use Rattle.ucp_kinds.specs.Request44.{requestFormat}
-use Rattle.ucp_kinds.specs.Control45.{controlFormat}
-use Rattle.ucp_kinds.specs.Initialization117.{initializationFormat}
+use Rattle.ucp_messages.specs.Heartbeat0.{heartbeatFormat}
+use Rattle.ucp_messages.specs.Uplink7.{uplinkRefusal, uplinkRead}
+use Rattle.ucp_messages.specs.Report10.{reportFormat}
+use Rattle.ucp_messages.specs.GeometricAltitude11.{geometricFormat}
+use Rattle.ucp_messages.specs.Request44.{requestFormat}
+use Rattle.ucp_messages.specs.Control45.{controlFormat}
+use Rattle.ucp_messages.specs.Initialization117.{initializationFormat}
 use Rattle.ucp_messages.specs.declared.Kind.the-variants as kind
 use Rattle.ucp_messages.specs.declared.Message.the-variants as message
 use Rattle.ucp_messages.specs.Messages.{ReaderAnswer, refused, means, refusalIn, answerAs}

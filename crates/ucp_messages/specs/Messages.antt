@@ -2,12 +2,12 @@
 -- kind's format, what the reader answers to a body, and the body of a message. An uplink has no format: its payload
 -- is carried beside the message. Assumes nothing.
 use Rattle.field_format.specs.Format.{Format, fits, bodyOf}
-use Rattle.ucp_kinds.specs.Heartbeat0.{heartbeatFormat}
-use Rattle.ucp_kinds.specs.Report10.{reportFormat}
-use Rattle.ucp_kinds.specs.GeometricAltitude11.{geometricFormat}
-use Rattle.ucp_kinds.specs.Request44.{requestFormat}
-use Rattle.ucp_kinds.specs.Control45.{controlFormat}
-use Rattle.ucp_kinds.specs.Initialization117.{initializationFormat}
+use Rattle.ucp_messages.specs.Heartbeat0.{heartbeatFormat}
+use Rattle.ucp_messages.specs.Report10.{reportFormat}
+use Rattle.ucp_messages.specs.GeometricAltitude11.{geometricFormat}
+use Rattle.ucp_messages.specs.Request44.{requestFormat}
+use Rattle.ucp_messages.specs.Control45.{controlFormat}
+use Rattle.ucp_messages.specs.Initialization117.{initializationFormat}
 use Rattle.ucp_messages.specs.declared.Kind.{Kind}
 use Rattle.ucp_messages.specs.declared.Kind.the-variants as kind
 use Rattle.ucp_messages.specs.declared.Message.{Message}
@@ -19,7 +19,7 @@ use lib.ListN.{drop}
 use Rattle.refusals.specs.Numbers as because
 use Rattle.ucp_answers.specs.Refusals
 use Rattle.ucp_answers.specs.Refusals.{refusalOf, reads}
-use Rattle.ucp_kinds.specs.Uplink7.{uplinkRefusal, uplinkFits, uplinkBody}
+use Rattle.ucp_messages.specs.Uplink7.{uplinkRefusal, uplinkFits, uplinkBody}
 use Rattle.ucp_messages.specs.declared.Read.{Read}
 use Rattle.ucp_messages.specs.declared.Read.the-variants.{Message as Means, Refused}
 use Rattle.ucp_messages.specs.Kinds.{kindIn}

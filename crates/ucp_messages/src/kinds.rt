@@ -2,20 +2,20 @@
 use super::Kind;
 use super::Message;
 use super::Read;
-use ucp_kinds::ControlRead;
-use ucp_kinds::GeometricAltitudeRead;
-use ucp_kinds::HeartbeatRead;
-use ucp_kinds::InitializationRead;
-use ucp_kinds::ReportRead;
-use ucp_kinds::RequestRead;
-use ucp_kinds::UplinkRead;
+use super::ControlRead;
+use super::GeometricAltitudeRead;
+use super::HeartbeatRead;
+use super::InitializationRead;
+use super::ReportRead;
+use super::RequestRead;
+use super::UplinkRead;
 ghost use mathlib.Core.Path.{_≡_};
 ghost use Rattle.ucp_messages.specs.Messages.{readerAnswer, answerAs};
 
 pub fn heartbeat(body: &[u8]) -> Read
     ensures { λ r. ⌜ readerAnswer r ≡ answerAs Kind.Heartbeat (now (body .entry)) ⌝ }
 {
-    match ucp_kinds::heartbeat_0::read(body) {
+    match super::heartbeat_0::read(body) {
         HeartbeatRead::Heartbeat(heartbeat) => Read::Message(Message::Heartbeat(heartbeat)),
         HeartbeatRead::Refused(number) => Read::Refused(number),
     }
@@ -24,7 +24,7 @@ pub fn heartbeat(body: &[u8]) -> Read
 pub fn uplink(body: &[u8]) -> Read
     ensures { λ r. ⌜ readerAnswer r ≡ answerAs Kind.Uplink (now (body .entry)) ⌝ }
 {
-    match ucp_kinds::uplink_7::read(body) {
+    match super::uplink_7::read(body) {
         UplinkRead::Uplink => Read::Message(Message::Uplink),
         UplinkRead::Refused(number) => Read::Refused(number),
     }
@@ -33,7 +33,7 @@ pub fn uplink(body: &[u8]) -> Read
 pub fn ownship(body: &[u8]) -> Read
     ensures { λ r. ⌜ readerAnswer r ≡ answerAs Kind.Ownship (now (body .entry)) ⌝ }
 {
-    match ucp_kinds::report_10::read(body) {
+    match super::report_10::read(body) {
         ReportRead::Report(report) => Read::Message(Message::Ownship(report)),
         ReportRead::Refused(number) => Read::Refused(number),
     }
@@ -42,7 +42,7 @@ pub fn ownship(body: &[u8]) -> Read
 pub fn geometric_altitude(body: &[u8]) -> Read
     ensures { λ r. ⌜ readerAnswer r ≡ answerAs Kind.GeometricAltitude (now (body .entry)) ⌝ }
 {
-    match ucp_kinds::geometric_altitude_11::read(body) {
+    match super::geometric_altitude_11::read(body) {
         GeometricAltitudeRead::GeometricAltitude(altitude) =>
             Read::Message(Message::GeometricAltitude(altitude)),
         GeometricAltitudeRead::Refused(number) => Read::Refused(number),
@@ -52,7 +52,7 @@ pub fn geometric_altitude(body: &[u8]) -> Read
 pub fn traffic(body: &[u8]) -> Read
     ensures { λ r. ⌜ readerAnswer r ≡ answerAs Kind.Traffic (now (body .entry)) ⌝ }
 {
-    match ucp_kinds::report_10::read(body) {
+    match super::report_10::read(body) {
         ReportRead::Report(report) => Read::Message(Message::Traffic(report)),
         ReportRead::Refused(number) => Read::Refused(number),
     }
@@ -61,7 +61,7 @@ pub fn traffic(body: &[u8]) -> Read
 pub fn request(body: &[u8]) -> Read
     ensures { λ r. ⌜ readerAnswer r ≡ answerAs Kind.Request (now (body .entry)) ⌝ }
 {
-    match ucp_kinds::request_44::read(body) {
+    match super::request_44::read(body) {
         RequestRead::Request(request) => Read::Message(Message::Request(request)),
         RequestRead::Refused(number) => Read::Refused(number),
     }
@@ -70,7 +70,7 @@ pub fn request(body: &[u8]) -> Read
 pub fn control(body: &[u8]) -> Read
     ensures { λ r. ⌜ readerAnswer r ≡ answerAs Kind.Control (now (body .entry)) ⌝ }
 {
-    match ucp_kinds::control_45::read(body) {
+    match super::control_45::read(body) {
         ControlRead::Control(control) => Read::Message(Message::Control(control)),
         ControlRead::Refused(number) => Read::Refused(number),
     }
@@ -79,7 +79,7 @@ pub fn control(body: &[u8]) -> Read
 pub fn initialization(body: &[u8]) -> Read
     ensures { λ r. ⌜ readerAnswer r ≡ answerAs Kind.Initialization (now (body .entry)) ⌝ }
 {
-    match ucp_kinds::initialization_117::read(body) {
+    match super::initialization_117::read(body) {
         InitializationRead::Initialization(initialization) => Read::Message(Message::Initialization(
             initialization,
         )),

@@ -7,7 +7,7 @@ use lib.ListN.{length}
 use Rattle.ucp_messages.specs.declared.Message.{Message}
 use Rattle.ucp_messages.specs.declared.Message.the-variants.{Heartbeat, Uplink, Ownship, GeometricAltitude, Traffic, Request, Control, Initialization}
 use Rattle.field_format.specs.Format.{bodyOf}
-use Rattle.ucp_kinds.specs.Uplink7.{uplinkFits}
+use Rattle.ucp_messages.specs.Uplink7.{uplinkFits}
 use Rattle.ucp_messages.specs.Messages.{messageFits, messageBody}
 use Rattle.ucp_writer.proofs.Sends.{Sendable}
 

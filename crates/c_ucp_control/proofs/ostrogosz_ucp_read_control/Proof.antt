@@ -5,7 +5,7 @@ use native.Mathlib.Omega.{arith}
 use borrow.Author.Tests.{eq-eqb, ne-eqb, not-true, not-false}
 use denote.Ref.{now}
 use lib.ListN.{length}
-use Rattle.ucp_kinds.specs.Control45.{controlFormat}
+use Rattle.ucp_messages.specs.Control45.{controlFormat}
 use Rattle.c_lent.specs.Reads.{hasId}
 use Rattle.c_lent.proofs.Answers.{first-refused, past-first, refused-12, refused-13, read}
 use Rattle.c_ucp_control.specs.Struct.{controlStruct}

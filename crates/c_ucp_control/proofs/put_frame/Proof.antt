@@ -4,7 +4,7 @@ use denote.Ref.{now}
 use native.Mathlib.Omega.{arith}
 use lib.ListN.{length, take, drop, length-set, length-take, length-drop}
 use Rattle.field_format.specs.Format.{bodyOf}
-use Rattle.ucp_kinds.specs.Control45.{controlFormat}
+use Rattle.ucp_messages.specs.Control45.{controlFormat}
 use Rattle.ucp_writer.specs.Steps.{frameRest}
 use Rattle.ucp_writer.proofs.Rest.{frame-rest}
 use Rattle.output_writing.proofs.ToPut.{last-room}

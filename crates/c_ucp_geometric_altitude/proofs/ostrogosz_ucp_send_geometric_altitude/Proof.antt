@@ -1,7 +1,7 @@
 -- `ostrogosz_ucp_send_geometric_altitude` meets its contract: its two halves make up a send. Assumes nothing.
 use native.Mathlib.Omega.{arith}
 use denote.Ref.{now}
-use Rattle.ucp_kinds.specs.GeometricAltitude11.{geometricFormat}
+use Rattle.ucp_messages.specs.GeometricAltitude11.{geometricFormat}
 use Rattle.c_lent.specs.Structs.{held}
 use Rattle.c_lent.proofs.Sends.{struct-sends}
 use Rattle.c_ucp_geometric_altitude.specs.Struct.{geometricStruct}

@@ -1,7 +1,7 @@
 -- `ostrogosz_ucp_send_heartbeat` meets its contract: its two halves make up a send. Assumes nothing.
 use native.Mathlib.Omega.{arith}
 use denote.Ref.{now}
-use Rattle.ucp_kinds.specs.Heartbeat0.{heartbeatFormat}
+use Rattle.ucp_messages.specs.Heartbeat0.{heartbeatFormat}
 use Rattle.c_lent.specs.Structs.{held}
 use Rattle.c_lent.proofs.Sends.{struct-sends}
 use Rattle.c_ucp_heartbeat.specs.Struct.{heartbeatStruct}

@@ -7,7 +7,7 @@ use borrow.Author.Tests.{eq-eqb, ne-eqb, not-true, not-false}
 use denote.Ref.{now}
 use lib.ListN.{length}
 use Rattle.field_format.specs.Format.{standAt}
-use Rattle.ucp_kinds.specs.Initialization117.{initializationFormat}
+use Rattle.ucp_messages.specs.Initialization117.{initializationFormat}
 use Rattle.c_lent.specs.Reads.{hasId}
 use Rattle.c_lent.proofs.Answers.{first-refused, past-first, refused-12, refused-13, read}
 use Rattle.c_ucp_initialization.specs.Struct.{initializationStruct}

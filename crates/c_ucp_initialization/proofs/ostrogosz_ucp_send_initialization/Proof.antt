@@ -1,7 +1,7 @@
 -- `ostrogosz_ucp_send_initialization` meets its contract: its two halves make up a send. Assumes nothing.
 use native.Mathlib.Omega.{arith}
 use denote.Ref.{now}
-use Rattle.ucp_kinds.specs.Initialization117.{initializationFormat}
+use Rattle.ucp_messages.specs.Initialization117.{initializationFormat}
 use Rattle.c_lent.specs.Structs.{held}
 use Rattle.c_lent.proofs.Sends.{struct-sends}
 use Rattle.c_ucp_initialization.specs.Struct.{initializationStruct}

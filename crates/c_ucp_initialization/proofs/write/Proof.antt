@@ -2,7 +2,7 @@
 use borrow.Author.Tests.{not-false}
 use denote.Ref.{now}
 use native.Mathlib.Omega.{arith}
-use Rattle.ucp_kinds.specs.Initialization117.{initializationFormat}
+use Rattle.ucp_messages.specs.Initialization117.{initializationFormat}
 use Rattle.c_lent.proofs.Writers.{fitting, not-fitting, no-field, no-room, written}
 use Rattle.c_lent.specs.Structs.{held}
 use Rattle.c_ucp_initialization.specs.Struct.{initializationStruct}

@@ -1,7 +1,7 @@
 -- `c_ucp_report::send` meets its contract: its two halves make up a send. Assumes nothing.
 use native.Mathlib.Omega.{arith}
 use denote.Ref.{now}
-use Rattle.ucp_kinds.specs.Report10.{reportFormat}
+use Rattle.ucp_messages.specs.Report10.{reportFormat}
 use Rattle.c_lent.specs.Structs.{held}
 use Rattle.c_lent.proofs.Sends.{struct-sends}
 use Rattle.c_ucp_report.specs.Struct.{reportStruct}

@@ -3,7 +3,7 @@ use mathlib.Core.Path.{_∙_}
 use borrow.Author.Tests.{not-false}
 use denote.Ref.{now}
 use native.Mathlib.Omega.{arith}
-use Rattle.ucp_kinds.specs.Report10.{reportFormat}
+use Rattle.ucp_messages.specs.Report10.{reportFormat}
 use Rattle.c_lent.proofs.Writers.{fitting, not-fitting, no-field, no-room, written}
 use Rattle.c_lent.specs.Structs.{held}
 use Rattle.c_ucp_report.specs.Struct.{reportStruct}

@@ -5,7 +5,7 @@ use native.Mathlib.Omega.{arith}
 use borrow.Author.Tests.{eq-eqb, ne-eqb}
 use denote.Ref.{now}
 use lib.ListN.{length}
-use Rattle.ucp_kinds.specs.Request44.{requestFormat}
+use Rattle.ucp_messages.specs.Request44.{requestFormat}
 use Rattle.c_lent.specs.Reads.{hasId}
 use Rattle.c_lent.proofs.Answers.{first-refused, past-first, refused-12, read}
 use Rattle.c_ucp_request.specs.Struct.{requestStruct}

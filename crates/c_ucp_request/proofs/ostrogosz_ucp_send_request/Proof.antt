@@ -1,7 +1,7 @@
 -- `ostrogosz_ucp_send_request` meets its contract: its two halves make up a send. Assumes nothing.
 use native.Mathlib.Omega.{arith}
 use denote.Ref.{now}
-use Rattle.ucp_kinds.specs.Request44.{requestFormat}
+use Rattle.ucp_messages.specs.Request44.{requestFormat}
 use Rattle.c_lent.specs.Structs.{held}
 use Rattle.c_lent.proofs.Sends.{struct-sends}
 use Rattle.c_ucp_request.specs.Struct.{requestStruct}

@@ -7,7 +7,7 @@ use native.Mathlib.Omega.{arith}
 use borrow.Author.Tests.{eqb-true}
 use denote.Ref.{now}
 use lib.ListN.{length}
-use Rattle.ucp_kinds.specs.Uplink7.{uplinkFits, uplinkBody}
+use Rattle.ucp_messages.specs.Uplink7.{uplinkFits, uplinkBody}
 use Rattle.c_lent.proofs.Sends.{body-sends}
 use borrow.Author.Needs.{needs}
 use Rattle.c_ucp_uplink.proofs.ostrogosz_ucp_send_uplink.Statement.{statement}

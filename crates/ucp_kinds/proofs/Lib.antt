@@ -1,2 +1,0 @@
-pub mod Uplink
-pub mod Formats
