@@ -19,10 +19,10 @@ use Rattle.ucp_messages.specs.Control45.{controlFormat}
 use Rattle.ucp_messages.specs.Initialization117.{initializationFormat}
 use Rattle.ucp_messages.specs.declared.Kind.{Kind}
 use Rattle.ucp_messages.specs.declared.Kind.the-variants.{Heartbeat, Uplink, Ownship, GeometricAltitude, Traffic, Request, Control, Initialization, Unknown}
-use Rattle.ucp_messages.specs.Kinds.{kindOf, kindIn}
+use Rattle.ucp_messages.specs.Kinds.{knownIds, kindOf, kindIn}
 use Rattle.ucp_messages.specs.Messages as Reads
 use Rattle.ucp_messages.specs.Messages.{refusalIn, answerAs}
-use Rattle.ucp_messages.specs.Refusals.{knownIds, Among, UnknownId, kindLength, HasKindLength, WrongMessageLength, fixedOctets, StandFrom, HasFixedOctets, WrongFixedOctet, fieldsInRange, FieldOutsideRange}
+use Rattle.ucp_messages.specs.Refusals.{Among, UnknownId, kindLength, HasKindLength, WrongMessageLength, fixedOctets, StandFrom, HasFixedOctets, WrongFixedOctet, fieldsInRange, FieldOutsideRange}
 use Rattle.demands.proofs.MessageRefusals.{tabled-message}
 
 -- ---- 10: the kind is unknown where there is no octet, or an ID that is none of the eight

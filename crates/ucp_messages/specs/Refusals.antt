@@ -11,11 +11,7 @@ use Rattle.ucp_messages.specs.Control45.{controlFormat}
 use Rattle.ucp_messages.specs.Initialization117.{initializationFormat}
 use Rattle.ucp_messages.specs.declared.Kind.{Kind}
 use Rattle.ucp_messages.specs.declared.Kind.the-variants.{Heartbeat, Uplink, Ownship, GeometricAltitude, Traffic, Request, Control, Initialization, Unknown}
-use Rattle.ucp_messages.specs.Kinds.{kindIn}
-
--- the IDs of the eight kinds
-abbrev pub knownIds : List ℕ
-knownIds = 0 ∷ 7 ∷ 10 ∷ 11 ∷ 20 ∷ 44 ∷ 45 ∷ 117 ∷ []
+use Rattle.ucp_messages.specs.Kinds.{knownIds, kindIn}
 
 abbrev pub Among : List ℕ → ℕ → Type 0
 Among [] n = ⊥

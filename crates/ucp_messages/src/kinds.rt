@@ -1,11 +1,11 @@
 // What a body that has a kind's ID means, by the kind's own reader.
-use super::Kind;
-use super::Message;
-use super::Read;
 use super::ControlRead;
 use super::GeometricAltitudeRead;
 use super::HeartbeatRead;
 use super::InitializationRead;
+use super::Kind;
+use super::Message;
+use super::Read;
 use super::ReportRead;
 use super::RequestRead;
 use super::UplinkRead;

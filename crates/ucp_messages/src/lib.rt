@@ -14,7 +14,7 @@ use field_layout::Text;
 use output_writing::Written;
 ghost use mathlib.Core.Path.{_≡_};
 ghost use Rattle.ucp_answers.specs.Writes.{WritesBody};
-ghost use Rattle.ucp_messages.specs.Kinds.{kindOf};
+ghost use Rattle.ucp_messages.specs.Kinds.{kindOf, idsOf, idsIn};
 ghost use Rattle.ucp_messages.specs.Messages.{Reads, GivesPayload, messageFits, messageBody};
 
 // Message 0, Heartbeat: all bits carried as they are.
@@ -178,7 +178,7 @@ pub enum Read {
 
 // The kind of a message, by its ID.
 pub fn kind_of(id: u8) -> Kind
-    ensures { λ r. ⌜ r ≡ kindOf id ⌝ }
+    ensures { λ r. ⌜ (r ≡ kindOf id) × (idsOf r ≡ idsIn id) ⌝ }
 {
     match id {
         0 => Kind::Heartbeat,
