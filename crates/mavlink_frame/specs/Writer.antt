@@ -14,13 +14,13 @@ use Rattle.mavlink_frame.specs.Frame.{KindAnswer, known, unknown, mavlin
 abbrev pub roomFor : ℕ → List ℕ → WriterAnswer
 roomFor octets output = cond (ltb (length output) octets) (refused because.outputLength) (wrote octets)
 
--- 22 for an ID that no kind has, 23 for a payload that is not of the kind's length, then 8
+-- 25 for an ID that no kind has, and for a payload that is not of the kind's length, then 8
 unfoldable pub writeOf : Kind → List ℕ → List ℕ → WriterAnswer
-writeOf k payload output = cond (eqb (length payload) (k .length)) (roomFor (length payload + 8) output) (refused because.mavlinkLength)
+writeOf k payload output = cond (eqb (length payload) (k .length)) (roomFor (length payload + 8) output) (refused because.mavlinkField)
 
 abbrev pub writeBy : KindAnswer → List ℕ → List ℕ → WriterAnswer
 writeBy (known k) payload output = writeOf k payload output
-writeBy unknown payload output = refused because.mavlinkUnknownId
+writeBy unknown payload output = refused because.mavlinkField
 
 abbrev pub frameWriteDue : ℕ → List ℕ → List ℕ → WriterAnswer
 frameWriteDue id = writeBy (mavlinkKind id)

@@ -21,7 +21,7 @@ pub fn write_frame(id: u8, header: Header, payload: &[u8], output: &mut [u8]) ->
 {
     match super::kind_of(id) {
         Lookup::Known(kind) => write_kind(kind, header, payload, output),
-        Lookup::Unknown => Written::Refused(refusals::MAVLINK_UNKNOWN_ID),
+        Lookup::Unknown => Written::Refused(refusals::MAVLINK_FIELD),
     }
 }
 
@@ -30,7 +30,7 @@ fn write_kind(kind: Kind, header: Header, payload: &[u8], output: &mut [u8]) -> 
 {
     let n = payload.len();
     if n != kind.length as usize {
-        return Written::Refused(refusals::MAVLINK_LENGTH);
+        return Written::Refused(refusals::MAVLINK_FIELD);
     }
     if output.len() < n + 8 {
         return Written::Refused(refusals::OUTPUT_LENGTH);
