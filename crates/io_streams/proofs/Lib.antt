@@ -1,2 +1,3 @@
+mod Answers
 pub mod Gathering
 pub mod Turns

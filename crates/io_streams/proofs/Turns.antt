@@ -13,7 +13,7 @@ use Rattle.io_streams.specs.Blocks.{WithinBlock}
 use Rattle.io_streams.specs.Turns.{Behind, over, AtEnd, ReadsBlock, BlockTurns}
 
 pub read-behind : (g : Got) (part held block : ℕ) → WithinBlock g part → held + part ≤ block → Behind g held block
-read-behind (Octets n) part held block w h = omega arith
+read-behind (Octets n) part held block w h = (omega (arith, w .0), w .1)
 read-behind NoMore part held block w h = tt
 read-behind ReadFailed part held block w h = tt
 

@@ -11,9 +11,9 @@ use Rattle.io_streams.specs.declared.Input.{Input}
 use Rattle.io_streams.specs.declared.Input.the-variants.{More, Ended, Failed}
 use Rattle.io_streams.specs.declared.Turn.{Turn}
 
--- octets that were read behind those held are within the block
+-- octets that were read behind those held: some, and within the block
 abbrev pub Behind : Got → ℕ → ℕ → Type 0
-Behind (Octets n) held block = held + n ≤ block
+Behind (Octets n) held block = (held + n ≤ block) × (0 < n)
 Behind NoMore held block = Unit {0}
 Behind ReadFailed held block = Unit {0}
 
@@ -31,7 +31,7 @@ AtEnd held left t = t ≡ cond (eqb held 0) (over Ended) (record { octets = held
 
 -- what a read behind the octets held gives, where so many turns are left: by what the turn says of the input
 abbrev pub ReadsBlock : Input → ℕ → ℕ → ℕ → Turn → Type 0
-ReadsBlock More left block held t = (held ≤ t .octets) × (t .octets ≤ block) × (t .left < left)
+ReadsBlock More left block held t = (held < t .octets) × (t .octets ≤ block) × (t .left < left)
 ReadsBlock Ended left block held t = (held ≤ block) × (0 < left) × AtEnd held left t
 ReadsBlock Failed left block held t = t ≡ over Failed
 

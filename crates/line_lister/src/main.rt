@@ -76,6 +76,7 @@ fn main() {
     let mut text = io::large_buffer();
     let whole = list_input(&mut store, &mut room, &mut block, &mut text);
     io_ucp::clear_lent(&mut store, &mut room, &mut block, &mut text);
+    io_streams::clear_stack();
     if whole {
         io_streams::close_output();
     }

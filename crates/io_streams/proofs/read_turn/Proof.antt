@@ -15,10 +15,10 @@ returns-2 : tie.Need-returns-2
 returns-2 c = let a = c .before .before .before .before .args in (failed-reads (a .left) (length (now (a .block))) (a .held) (c .last-turn2 .result) (c .last-turn2 .ensures), refl)
 
 add-t13 : tie.Need-add-t13
-add-t13 c = omega (arith, rw (c .before .got .given .1) at (c .before .before .before .before .before .read-behind .ensures .0), c .before .before .before .before .before .before .before .before .before .before .good)
+add-t13 c = omega (arith, (rw (c .before .got .given .1) at (c .before .before .before .before .before .read-behind .ensures .0)) .0, c .before .before .before .before .before .before .before .before .before .before .good)
 
 returns-3 : tie.Need-returns-3
-returns-3 c = ((omega arith, omega (arith, rw (c .before .got .given .1) at (c .before .before .before .before .before .read-behind .ensures .0)), omega arith), c .before .before .before .before .before .read-behind .ensures .1)
+returns-3 c = ((omega (arith, (rw (c .before .got .given .1) at (c .before .before .before .before .before .read-behind .ensures .0)) .1), omega (arith, (rw (c .before .got .given .1) at (c .before .before .before .before .before .read-behind .ensures .0)) .0), omega arith), c .before .before .before .before .before .read-behind .ensures .1)
 
 returns-4 : tie.Need-returns-4
 returns-4 c = let s = c .before .before .before .before .before .before .before .before .before .before in (ended-reads (s .args .left) (length (now (s .args .block))) (s .args .held) (c .end-turn .result) (omega arith) (omega arith) (c .end-turn .ensures), c .before .before .before .before .before .read-behind .ensures .1)
