@@ -2,7 +2,7 @@
 // `Clips` says so, and where all fits it says that all is there.
 ghost use mathlib.Core.Path.{_≡_};
 ghost use mathlib.Core.List.{[], _∷_};
-ghost use Prim.Native.Nat.{_+_, _/_, _%_, _<_, _≤_, _^_};
+ghost use Prim.Native.Nat.{_/_, _%_, _<_, _≤_, _^_};
 ghost use lib.ListN.{length, drop};
 ghost use lib.IntN.{natAbs};
 ghost use Rattle.text_output.specs.Clips.{textRoom, Clips};
@@ -141,23 +141,9 @@ pub fn put_printed(
     at
 }
 
-fn set_word(text: &mut [u8], at: usize, word: &[u8]) -> usize
-    requires { ⌜ (length (now text) ≡ textRoom) × (at + length (now word) ≤ textRoom) ⌝ }
-    ensures { λ r. ⌜ Clips (now (text .entry)) at (now (word .entry)) r (now (text .exit)) ⌝ }
-{
-    field_words::copies::copy(word, text, at);
-    at + word.len()
-}
-
-// Eight octets at a time where all of the word fits, as words do.
 pub fn put_word(text: &mut TextRoom, at: usize, word: &[u8]) -> usize
     ensures { λ r. ⌜ Clips (now (text .entry)) at (now (word .entry)) r (now (text .exit)) ⌝ }
 {
-    if at < TEXT_ROOM {
-        if word.len() <= TEXT_ROOM - at {
-            return set_word(text, at, word);
-        }
-    }
     put_printed(text, at, Printing::Plain, word, 0)
 }
 
