@@ -40,15 +40,17 @@ use Rattle.ucp_receiver.specs.Octet.{verdictDue}
 use Rattle.crc_gdl90_strength.proofs.Caught.{strength}
 use Rattle.crc_gdl90_strength.proofs.Premises.{premises-met}
 use Rattle.thm_ucp_examples.proofs.LinePremises.{ends-in-met, slice-line-met, writer-call-met}
+use Rattle.thm_kind_examples.proofs.Ucp as ucp-kinds
+use Rattle.thm_kind_examples.proofs.Mavlink as mavlink-kinds
+use Rattle.thm_c_examples.proofs.Structs.{struct-examples}
 use Rattle.thm_ucp_writer.proofs.Calls.{writer-lists}
 use Rattle.thm_ucp_receiver.specs.Line.{Line}
-use Rattle.thm_ucp_receiver.proofs.Promises.{answers, counts, every-octet-counted, store-clean, store-by-history, hunting-stores-nothing, flag-clears, later-only}
+use Rattle.thm_ucp_receiver.proofs.Promises.{answers, stretch-is-answered, counts, every-octet-counted, store-clean, store-by-history, hunting-stores-nothing, flag-clears, later-only}
 use Rattle.thm_ucp_receiver.proofs.Lines.{every-line}
-use Rattle.thm_ucp_receiver.proofs.Slice.{line-of-slices, slice-is-call}
-use Rattle.thm_ucp_receiver.proofs.Stretch.{stretch-is-answered}
+use Rattle.thm_ucp_receiver.proofs.Slice.{line-of-slices, slice-flag-clears, slice-is-call}
 use Rattle.thm_ucp_receiver.proofs.Frames.{put-out-is-frame, frame-is-put-out, wrong-check-refused}
 use Rattle.thm_c_ucp.proofs.Receiver.{linked-lines, linked-answers, linked-counts, linked-store, linked-flag-clears, linked-later-only, linked-put-out-is-frame, linked-frame-is-put-out, linked-receiver-lists}
-use Rattle.thm_c_ucp.proofs.Slices.{linked-slice-lines, linked-slice-is-call}
+use Rattle.thm_c_ucp.proofs.Slices.{linked-slice-lines, linked-slice-takes-all, linked-slice-flag-clears, linked-slice-is-call}
 use Rattle.thm_c_ucp.proofs.Writer.{linked-writer, linked-writer-lists}
 use Rattle.demands.specs.Demands.{TableNumbers, Demand1, Demand2, Demand3, ReceiverLists, PremisesTied}
 use Rattle.demands.proofs.Refusals.{Tabled, quiet, numbered, whole, tabled}
@@ -113,7 +115,7 @@ demand1 =
       messageReaderRefuses13 = λ body r d. along d (messages.exactly-13 body);
       messageWriterRefuses = λ m payload output after r number w.
           along (w .answers) (message-refused (messageFits m payload) (messageBody m payload) output number);
-      mavlinkReaderRefuses = tabled-mavlink;
+      mavlinkReaderRefuses = λ input r number d e. tabled-mavlink input number (sym d ∙ e);
       mavlinkReaderRefuses20 = λ input r d. along d (mavlink.exactly-20 input);
       mavlinkReaderRefuses21 = λ input r d. along d (mavlink.exactly-21 input);
       mavlinkReaderRefuses22 = λ input r d. along d (mavlink.exactly-22 input);
@@ -127,6 +129,7 @@ demand1 =
       receiverIsSilent = λ receiver store octet output given storeAfter outputThen m e.
           m .puts ∙ answer-nothing (verdictDue (record { rest = receiver .rest; store = store }) octet (length output)) output (sym (m .answers) ∙ e);
       flagClears = flag-clears;
+      sliceFlagClears = slice-flag-clears;
       storeByHistory = store-by-history;
       huntingStoresNothing = hunting-stores-nothing;
       storeClean = store-clean;
@@ -148,6 +151,7 @@ demand1 =
           );
       linkedWriterRefuses = λ body output after given w some. written-refused (frameDue body output) body output after given refl w some;
       linkedFlagClears = linked-flag-clears;
+      linkedSliceFlagClears = linked-slice-flag-clears;
       linkedStoreByHistory = linked-store;
       linkedLaterOnly = linked-later-only;
     }
@@ -173,6 +177,7 @@ demand2 =
       linkedDeliveredIsFrame = linked-put-out-is-frame;
       linkedFrameIsDelivered = linked-frame-is-put-out;
       linkedCountsByHistory = linked-counts;
+      linkedSliceTakesAll = linked-slice-takes-all;
       linkedSliceEndsAsCall = linked-slice-is-call;
       messageReadsBack = message-read.written-reads-back;
       messageWritesBack = message-write.accepted-writes-back;
@@ -211,4 +216,7 @@ premises-tied =
       endsIn = ends-in-met;
       sliceLine = slice-line-met;
       writerCalls = writer-call-met;
+      ucpKinds = ucp-kinds.examples;
+      mavlinkKinds = mavlink-kinds.examples;
+      structs = struct-examples;
     }

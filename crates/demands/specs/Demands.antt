@@ -50,15 +50,18 @@ use Rattle.ucp_messages.specs.Refusals.{UnknownId, WrongMessageLength, WrongFix
 use Rattle.ucp_answers.specs.Writes as Message
 use Rattle.crc_gdl90_strength.specs.Premises.{PremisesMet}
 use Rattle.thm_ucp_examples.specs.LinePremises.{EndsInMet, SliceLineMet, WriterCallMet}
+use Rattle.thm_kind_examples.specs.Ucp.{UcpKindExamples}
+use Rattle.thm_kind_examples.specs.Mavlink.{MavlinkKindExamples}
+use Rattle.thm_c_examples.specs.Structs.{StructExamples}
 use Rattle.thm_ucp_writer.specs.Calls.{WriterLists}
 use Rattle.thm_ucp_receiver.specs.Line.{Observed, callOf, upTo, Line}
 use Rattle.thm_ucp_receiver.specs.Lines.{EveryLine}
-use Rattle.thm_ucp_receiver.specs.Slice.{LineOfSlices, SliceIsCall}
+use Rattle.thm_ucp_receiver.specs.Slice.{LineOfSlices, SliceFlagClears, SliceIsCall}
 use Rattle.output_writing.specs.declared.OstrogoszWritten.{OstrogoszWritten}
 use Rattle.c_ucp_frames.specs.Frames.{WritesFrameNumbers}
 use Rattle.c_ucp_receiver.specs.Numbers.{ReceivesNumbers}
 use Rattle.thm_c_ucp.specs.Receiver.{LinkedLines, LinkedAnswersByHistory, LinkedCountsByHistory, LinkedStoreByHistory, LinkedFlagClears, LinkedLaterOnly, LinkedPutOutIsFrame, LinkedFrameIsPutOut, LinkedReceiverLists}
-use Rattle.thm_c_ucp.specs.Slices.{LinkedSliceLines, LinkedSliceIsCall}
+use Rattle.thm_c_ucp.specs.Slices.{LinkedSliceLines, LinkedSliceTakesAll, LinkedSliceFlagClears, LinkedSliceIsCall}
 use Rattle.thm_c_ucp.specs.Writer.{LinkedWriter, LinkedWriterLists}
 use Rattle.thm_ucp_receiver.specs.Promises.{AnswersAs, AnswersByHistory, StretchIsAnswered, CountsByHistory, EveryOctetCounted, StoreClean, StoreByHistory, HuntingStoresNothing, FlagClears, LaterOnly, PutOutIsFrame, FrameIsPutOut, EndsIn, carrying}
 
@@ -118,7 +121,8 @@ pub record Demand1 : Type 0 where
       ↔ (((number ≡ because.field) × (messageFits m payload ≡ false))
       ⊎ ((number ≡ because.outputLength) × (messageFits m payload ≡ true) × (length output < length (messageBody m payload))))
   pub mavlinkReaderRefuses :
-      (input : List ℕ) (number : ℕ) → readDue input ≡ MavlinkReads.refused number → (20 ≤ number) × (number ≤ 25)
+      (input : List ℕ) (r : MavlinkRead) (number : ℕ) → MavlinkReads.mavlinkAnswer r ≡ readDue input
+      → MavlinkReads.mavlinkAnswer r ≡ MavlinkReads.refused number → (20 ≤ number) × (number ≤ 25)
   pub mavlinkReaderRefuses20 :
       (input : List ℕ) (r : MavlinkRead) → MavlinkReads.mavlinkAnswer r ≡ readDue input
       → (MavlinkReads.mavlinkAnswer r ≡ MavlinkReads.refused because.mavlinkShort) ↔ MavlinkShort input
@@ -156,6 +160,7 @@ pub record Demand1 : Type 0 where
       → receiver-answers.receiverAnswer (given .answer) ≡ nothing → outputThen ≡ output
   -- "At every flag, line counts excepted, the store is all zero, the rest of the receiver's record is one fixed value"
   pub flagClears : FlagClears
+  pub sliceFlagClears : SliceFlagClears
   -- document 01 on the store: before the first flag nothing, then the open stretch unstuffed as far as its first fault, and zero behind
   pub storeByHistory : StoreByHistory
   pub huntingStoresNothing : HuntingStoresNothing
@@ -179,6 +184,7 @@ pub record Demand1 : Type 0 where
       → (given .refusal ≡ 0 → ⊥)
       → ((given .refusal ≡ because.bodyLength) ⊎ (given .refusal ≡ because.outputLength)) × (given .length ≡ 0) × (after ≡ output)
   pub linkedFlagClears : LinkedFlagClears
+  pub linkedSliceFlagClears : LinkedSliceFlagClears
   pub linkedStoreByHistory : LinkedStoreByHistory
   pub linkedLaterOnly : LinkedLaterOnly
 
@@ -199,7 +205,7 @@ pub record Demand2 : Type 0 where
       → (writerAnswer r ≡ wrote (length (frame body)))
       × (after ≡ frame body ++ drop (length (frame body)) output)
       × (length (frame body) ≤ longestFrame)
-  -- every call of the receiver answers as the rules say of the history, and a stretch with an octet in it is answered
+  -- every call of the receiver answers as the rules say of the history, and a flag that closes a stretch with an octet in it is answered
   pub answersByHistory : AnswersByHistory
   pub stretchIsAnswered : StretchIsAnswered
   -- "each frame delivered writes back to the same bytes", and each frame written is delivered
@@ -209,7 +215,8 @@ pub record Demand2 : Type 0 where
   -- "Every byte received on the UCP line is counted once, under the class its history gives"
   pub countsByHistory : CountsByHistory
   pub everyOctetCounted : EveryOctetCounted
-  -- a line that is taken in slices is such a line of calls by the octet, with the same answers, outputs and records
+  -- a line that is taken in slices is such a line of calls by the octet, with the same answers, outputs and records; a slice is taken
+  -- up to the first octet that brings an answer, or whole
   pub slicesAreCalls : LineOfSlices
   pub sliceEndsAsCall : SliceIsCall
   -- of the linked calls: their numbers are those of the answer and of the counts that the history gives
@@ -217,6 +224,7 @@ pub record Demand2 : Type 0 where
   pub linkedDeliveredIsFrame : LinkedPutOutIsFrame
   pub linkedFrameIsDelivered : LinkedFrameIsPutOut
   pub linkedCountsByHistory : LinkedCountsByHistory
+  pub linkedSliceTakesAll : LinkedSliceTakesAll
   pub linkedSliceEndsAsCall : LinkedSliceIsCall
   -- "Each written message reads back equal", and each accepted one writes back to the same octets, on both lines; a message sent on
   -- the UCP line is delivered, and means the same
@@ -263,10 +271,15 @@ pub record Demand3 : Type 0 where
   pub linkedWriter : LinkedWriterLists
 
 -- What these demands suppose is met by some calls, and not by all: bodies at each edge of demand 3, a line that ends in a frame, a
--- line in slices of which one is answered, calls of the writer of which one is accepted; and every list of octets is a line.
+-- line in slices of which one is answered, calls of the writer of which one is accepted; and every list of octets is a line. Each kind
+-- of message has values that fit and values that do not, and octets that carry them; and each C struct has its fields, by name, at
+-- their offsets.
 pub record PremisesTied : Type 0 where
   pub bodies : PremisesMet
   pub lines : EveryLine
   pub endsIn : EndsInMet
   pub sliceLine : SliceLineMet
   pub writerCalls : WriterCallMet
+  pub ucpKinds : UcpKindExamples
+  pub mavlinkKinds : MavlinkKindExamples
+  pub structs : StructExamples

@@ -108,7 +108,7 @@ history [] = refl
 history (c ∷ cs) = ap (λ (h : List Call). linkedCallOf c ∷ h) (history cs)
 
 -- the numbers of an answer that says this
-abbrev kindTold : ReceiverAnswer → ℕ
+abbrev pub kindTold : ReceiverAnswer → ℕ
 kindTold nothing = 0
 kindTold (body octets) = 1
 kindTold (refusal number) = 2
@@ -118,7 +118,7 @@ valueTold nothing = 0
 valueTold (body octets) = octets
 valueTold (refusal number) = number
 
-told : (a : Answer) → (answerKind a ≡ kindTold (receiverAnswer a)) × (answerValue a ≡ valueTold (receiverAnswer a))
+pub told : (a : Answer) → (answerKind a ≡ kindTold (receiverAnswer a)) × (answerValue a ≡ valueTold (receiverAnswer a))
 told Nothing = (refl, refl)
 told (Delivered octets) = (refl, refl)
 told (Refused number) = (refl, refl)
@@ -191,18 +191,24 @@ seen-all [] = refl
 seen-all (c ∷ cs) = λ i. seen-told c i ∷ seen-all cs i
 
 -- the calls behind a flag, as they are seen
-seen-behind : (before : List LinkedCall) (f : LinkedCall) (os : List LinkedCall) → LinkedLine (before ++ f ∷ os)
-    → map linkedSeen os ≡ map seenTold (map seen (map observedIn os))
-seen-behind before f os l =
-    let runs = subst (LinkedRuns (l .store) (l .line)) (sym (append-assoc before (f ∷ []) os)) (l .runs) in
-    ap (map linkedSeen) (sym (own-all (before ++ (f ∷ [])) os (l .store) (l .line) runs)) ∙ seen-all os
+seen-behind : (store line : List ℕ) (before : List LinkedCall) (f : LinkedCall) (os : List LinkedCall)
+    → LinkedRuns store line (before ++ f ∷ os) → map linkedSeen os ≡ map seenTold (map seen (map observedIn os))
+seen-behind store line before f os r =
+    let runs = subst (LinkedRuns store line) (sym (append-assoc before (f ∷ []) os)) r in
+    ap (map linkedSeen) (sym (own-all (before ++ (f ∷ [])) os store line runs)) ∙ seen-all os
+
+split-runs : (store line : List ℕ) (before after : List LinkedCall) (c : LinkedCall) → LinkedRuns store line (before ++ c ∷ after)
+    → Runs (recordIn line) store (map observedIn before ++ observedIn c ∷ map observedIn after)
+split-runs store line before after c r =
+    subst (Runs (recordIn line) store) (map-append observedIn before (c ∷ after)) (runs-in store line (before ++ c ∷ after) r)
 
 pub linked-later-only : LinkedLaterOnly
-linked-later-only before other f g os ps e k l m same =
+linked-later-only store line another itsLine before other f g os ps e k l m same =
     let all =
-    later-only (map observedIn before) (map observedIn other) (observedIn f) (observedIn g) (map observedIn os) (map observedIn ps) e k
-    (split-line before os f l) (split-line other ps g m) (history os ∙ same ∙ sym (history ps)) in
-    seen-behind before f os l ∙ ap (map seenTold) all ∙ sym (seen-behind other g ps m)
+    later-only (recordIn line) (recordIn itsLine) store another (map observedIn before) (map observedIn other) (observedIn f) (observedIn g)
+    (map observedIn os) (map observedIn ps) e k (split-runs store line before os f l) (split-runs another itsLine other ps g m)
+    (history os ∙ same ∙ sym (history ps)) in
+    seen-behind store line before f os l ∙ ap (map seenTold) all ∙ sym (seen-behind another itsLine other g ps m)
 
 -- ---- a body and its frame
 

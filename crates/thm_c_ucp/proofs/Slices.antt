@@ -3,23 +3,24 @@ use mathlib.Core.Path.{_≡_, refl, sym, ap, ap₂, subst, _∙_}
 use mathlib.Core.List.{List, [], _∷_, _++_, map, map-append}
 use Prim.Native.Nat.{ℕ, zero, suc, _<_}
 use native.Mathlib.Omega.{arith}
-use lib.ListN.{length}
+use lib.ListN.{length, getD}
 use Rattle.crc_polynomial.specs.Polynomial.{Octets}
 use Rattle.ucp_frame.specs.Stretch.{Verdict, silent, refused, delivered}
 use Rattle.ucp_receiver.specs.declared.Counts.{Counts}
 use Rattle.ucp_receiver.specs.declared.Received.{Received}
 use Rattle.ucp_receiver.specs.declared.Record.{Record}
-use Rattle.ucp_receiver.specs.Answers.{answerFor, outputAtFlag}
+use Rattle.ucp_receiver.specs.declared.Rest.{Rest}
+use Rattle.ucp_receiver.specs.Answers.{nothing, receiverAnswer, answerFor, outputAtFlag}
 use Rattle.ucp_receiver.specs.Octet.{State, stateAfter, verdictDue, countsAfter, freshRecord, noOctets, Receives}
 use Rattle.ucp_receiver.specs.Slice.{SliceRun, sliceRun, endAt, Takes}
-use Rattle.c_ucp_receiver.specs.Numbers.{recordIn, recordNumbers, answerIn, answerKind, answerValue, OwnNumbers}
+use Rattle.c_ucp_receiver.specs.Numbers.{phaseNumber, recordIn, recordNumbers, answerIn, answerKind, answerValue, OwnNumbers}
 use Rattle.c_ucp_receiver.proofs.Numbers.{record-back, takes}
 use Rattle.thm_ucp_receiver.specs.Line.{Observed}
-use Rattle.thm_ucp_receiver.specs.Slice.{ObservedSlice, SlicesRun, SliceLine, gathered, sliceOctets, roomsOf, EndsAsSlice}
-use Rattle.thm_ucp_receiver.proofs.Slice.{slice-is-call}
+use Rattle.thm_ucp_receiver.specs.Slice.{ObservedSlice, SlicesRun, SliceLine, gathered, sliceOctets, roomsOf, AllSilent, EndsAsSlice}
+use Rattle.thm_ucp_receiver.proofs.Slice.{slice-is-octets, silence-due, slice-flag-clears, slice-is-call}
 use Rattle.thm_c_ucp.specs.Receiver.{LinkedCall, LinkedLine, inNumbers}
-use Rattle.thm_c_ucp.specs.Slices.{LinkedSlice, LinkedTake, byOctet, bySlice, LinkedTakes, LinkedSliceLine, sliceInNumbers, asSlice, LinkedSliceLines, linkedTaken, linkedRooms, LinkedSliceIsCall}
-use Rattle.thm_c_ucp.proofs.Receiver.{linked-lines, answer-numbers}
+use Rattle.thm_c_ucp.specs.Slices.{LinkedSlice, LinkedTake, byOctet, bySlice, LinkedTakes, LinkedSliceLine, sliceInNumbers, asSlice, LinkedSliceLines, LinkedSliceTakesAll, LinkedSliceFlagClears, linkedTaken, linkedRooms, AllLinkedSilent, LinkedSliceIsCall}
+use Rattle.thm_c_ucp.proofs.Receiver.{linked-lines, kindTold, told, answer-numbers}
 
 -- ---- an octet is a slice of one
 
@@ -140,6 +141,30 @@ linked-slice-lines =
           };
     }
 
+-- ---- one call
+
+pub linked-slice-takes-all : LinkedSliceTakesAll
+linked-slice-takes-all store line octets output kind value taken storeAfter lineAfter outputThen t e =
+    t .took .taken ∙ slice-is-octets s (recordIn line .counts) octets (length output) .all (silence-due (run .verdict) (sym (t .took .answers) ∙ nothing-told))
+  where
+    s : State
+    s = record { rest = recordIn line .rest; store = store }
+
+    run : SliceRun
+    run = sliceRun s (recordIn line .counts) octets (length output)
+
+    nothing-told : receiverAnswer (answerIn kind value) ≡ nothing
+    nothing-told = ap (λ (n : ℕ). receiverAnswer (answerIn n value)) e
+
+pub linked-slice-flag-clears : LinkedSliceFlagClears
+linked-slice-flag-clears store line octets output kind value taken storeAfter lineAfter outputThen earlier t e =
+    let k = slice-flag-clears (recordIn line) store octets output _ storeAfter outputThen earlier (t .took) e in
+    let own = t .written .line in (
+      k .0,
+      ap (λ (l : List ℕ). getD l 0 0) own ∙ ap (λ (s : Rest). phaseNumber (s .phase)) (k .1),
+      ap (λ (l : List ℕ). getD l 1 0) own ∙ ap (λ (s : Rest). s .stored) (k .1),
+    )
+
 -- ---- a call that took an octet
 
 own-slice : (before after : List LinkedTake) (t : LinkedTake) (store line : List ℕ) → LinkedTakes store line (before ++ t ∷ after)
@@ -158,20 +183,29 @@ map-numbers : (f : LinkedCall → ℕ) (os : List Observed) → map f (map inNum
 map-numbers f [] = refl
 map-numbers f (o ∷ os) = ap (λ (l : List ℕ). f (inNumbers o) ∷ l) (map-numbers f os)
 
+silent-numbers : (os : List Observed) → AllSilent os → AllLinkedSilent (map inNumbers os)
+silent-numbers [] a = tt
+silent-numbers (o ∷ os) a = (told (o .given .answer) .0 ∙ ap kindTold (a .0), silent-numbers os (a .1))
+
 pub linked-slice-is-call : LinkedSliceIsCall
 linked-slice-is-call before after t l some =
     record {
       earlier = map inNumbers (e .earlier);
+      quiet = map inNumbers (e .quiet);
       last = inNumbers (e .last);
-      line = subst LinkedLine parts (linked-lines .ofLine (e .earlier ++ e .last ∷ []) (e .line));
-      octets =
-          gather (λ (c : LinkedCall). c .octet) ∙ e .octets
-          ∙ ap (λ (h : List ℕ). h ++ linkedTaken t) (gathered-in sliceOctets linkedTaken (λ u. refl) before);
-      rooms =
-          gather (λ (c : LinkedCall). length (c .output)) ∙ e .rooms
-          ∙ ap (λ (h : List ℕ). h ++ linkedRooms t) (gathered-in roomsOf linkedRooms (λ u. refl) before);
-      kind = told .0 ∙ sym (own .kind);
-      value = told .1 ∙ sym (own .value);
+      line = subst LinkedLine whole (linked-lines .ofLine ((e .earlier ++ e .quiet) ++ e .last ∷ []) (e .line));
+      octetsBefore =
+          map-numbers (λ (c : LinkedCall). c .octet) (e .earlier) ∙ e .octetsBefore
+          ∙ gathered-in sliceOctets linkedTaken (λ u. refl) before;
+      octets = gather (λ (c : LinkedCall). c .octet) ∙ e .octets;
+      roomsBefore =
+          map-numbers (λ (c : LinkedCall). length (c .output)) (e .earlier) ∙ e .roomsBefore
+          ∙ gathered-in roomsOf linkedRooms (λ u. refl) before;
+      rooms = gather (λ (c : LinkedCall). length (c .output)) ∙ e .rooms;
+      silence = silent-numbers (e .quiet) (e .silence);
+      output = e .output;
+      kind = same .0 ∙ sym (own .kind);
+      value = same .1 ∙ sym (own .value);
       storeAfter = e .storeAfter;
       lineAfter = ap recordNumbers (e .receiver) ∙ sym (own .line);
       outputThen = e .outputThen;
@@ -185,13 +219,16 @@ linked-slice-is-call before after t l some =
     own : OwnNumbers (asSlice t .lineAfter) (asSlice t .kind) (asSlice t .value)
     own = own-slice before after t (l .store) (l .line) (l .takes)
 
-    told : (answerKind (e .last .given .answer) ≡ answerKind (takeIn t .given .answer))
+    same : (answerKind (e .last .given .answer) ≡ answerKind (takeIn t .given .answer))
         × (answerValue (e .last .given .answer) ≡ answerValue (takeIn t .given .answer))
-    told = answer-numbers (e .last .given .answer) (takeIn t .given .answer) (e .answer)
+    same = answer-numbers (e .last .given .answer) (takeIn t .given .answer) (e .answer)
 
-    parts : map inNumbers (e .earlier ++ e .last ∷ []) ≡ map inNumbers (e .earlier) ++ inNumbers (e .last) ∷ []
-    parts = map-append inNumbers (e .earlier) (e .last ∷ [])
+    whole : map inNumbers ((e .earlier ++ e .quiet) ++ e .last ∷ [])
+        ≡ (map inNumbers (e .earlier) ++ map inNumbers (e .quiet)) ++ inNumbers (e .last) ∷ []
+    whole =
+        map-append inNumbers (e .earlier ++ e .quiet) (e .last ∷ [])
+        ∙ ap (λ (l : List LinkedCall). l ++ inNumbers (e .last) ∷ []) (map-append inNumbers (e .earlier) (e .quiet))
 
     gather : (f : LinkedCall → ℕ)
-        → map f (map inNumbers (e .earlier) ++ inNumbers (e .last) ∷ []) ≡ map (λ (o : Observed). f (inNumbers o)) (e .earlier ++ e .last ∷ [])
-    gather f = ap (map f) (sym parts) ∙ map-numbers f (e .earlier ++ e .last ∷ [])
+        → map f (map inNumbers (e .quiet) ++ inNumbers (e .last) ∷ []) ≡ map (λ (o : Observed). f (inNumbers o)) (e .quiet ++ e .last ∷ [])
+    gather f = ap (map f) (sym (map-append inNumbers (e .quiet) (e .last ∷ []))) ∙ map-numbers f (e .quiet ++ e .last ∷ [])

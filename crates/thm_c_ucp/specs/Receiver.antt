@@ -129,11 +129,11 @@ abbrev pub linkedSeen : LinkedCall → LinkedSeen
 linkedSeen c =
     record { kind = c .kind; value = c .value; octets = putOut (receiverAnswer (answerIn (c .kind) (c .value))) (c .outputThen) }
 
--- two lines that each come to a flag: where the same octets with the same rooms follow, the same is seen
+-- calls from any two stores and lines that each come to a flag: where the same octets with the same rooms follow, the same is seen
 abbrev pub LinkedLaterOnly : Type 0
 LinkedLaterOnly =
-    (before other : List LinkedCall) (f g : LinkedCall) (os ps : List LinkedCall)
-    → f .octet ≡ flag → g .octet ≡ flag → LinkedLine (before ++ f ∷ os) → LinkedLine (other ++ g ∷ ps)
+    (store line another itsLine : List ℕ) (before other : List LinkedCall) (f g : LinkedCall) (os ps : List LinkedCall)
+    → f .octet ≡ flag → g .octet ≡ flag → LinkedRuns store line (before ++ f ∷ os) → LinkedRuns another itsLine (other ++ g ∷ ps)
     → map linkedCallOf os ≡ map linkedCallOf ps → map linkedSeen os ≡ map linkedSeen ps
 
 -- what is put out is a body whose frame the line ends in, and a line that ends in a frame has its body as the answer, or 6

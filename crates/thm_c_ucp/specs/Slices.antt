@@ -3,8 +3,10 @@
 use mathlib.Core.Path.{_≡_}
 use mathlib.Core.List.{List, [], _∷_, _++_, map}
 use Prim.Native.Nat.{ℕ, _≤_}
-use lib.ListN.{length, take, replicate}
+use lib.ListN.{length, take, getD, replicate}
 use Rattle.crc_polynomial.specs.Polynomial.{Octets}
+use Rattle.ucp_frame.specs.Frame.{flag}
+use Rattle.ucp_receiver.specs.Octet.{noOctets}
 use Rattle.c_ucp_receiver.specs.Numbers.{recordNumbers, answerKind, answerValue, TakesNumbers, StartsNumbers}
 use Rattle.thm_ucp_receiver.specs.Slice.{ObservedSlice, SliceLine, gathered}
 use Rattle.thm_c_ucp.specs.Receiver.{LinkedCall, MeetsLinked, LinkedLine}
@@ -82,6 +84,21 @@ pub record LinkedSliceLines : Type 0 where
   pub isLine : (calls : List LinkedTake) → LinkedSliceLine calls → IsSliceLine calls
   pub ofLine : (slices : List ObservedSlice) → SliceLine slices → LinkedSliceLine (map (λ (s : ObservedSlice). bySlice (sliceInNumbers s)) slices)
 
+-- ---- one call, from any store and line
+
+-- octets are taken up to the first that brings an answer, or all of them
+abbrev pub LinkedSliceTakesAll : Type 0
+LinkedSliceTakesAll =
+    (store line octets output : List ℕ) (kind value taken : ℕ) (storeAfter lineAfter outputThen : List ℕ)
+    → TakesNumbers store line octets output kind value taken storeAfter lineAfter outputThen → kind ≡ 0 → taken ≡ length octets
+
+-- where the octets taken end in a flag, whatever the answer, the store is zero, the phase 1 and nothing is stored
+abbrev pub LinkedSliceFlagClears : Type 0
+LinkedSliceFlagClears =
+    (store line octets output : List ℕ) (kind value taken : ℕ) (storeAfter lineAfter outputThen earlier : List ℕ)
+    → TakesNumbers store line octets output kind value taken storeAfter lineAfter outputThen → take taken octets ≡ earlier ++ flag ∷ []
+    → (storeAfter ≡ noOctets) × (getD lineAfter 0 0 ≡ 1) × (getD lineAfter 1 0 ≡ 0)
+
 -- ---- and so a linked line by the octet
 
 -- the octets that a call took, and the rooms lent to a call for each of them
@@ -91,13 +108,24 @@ linkedTaken t = take (asSlice t .taken) (asSlice t .octets)
 abbrev pub linkedRooms : LinkedTake → List ℕ
 linkedRooms t = replicate (asSlice t .taken) (length (asSlice t .output))
 
--- a linked line by the octet that ends in a call which gives back what this call does
+-- none of these calls has an answer
+abbrev pub AllLinkedSilent : List LinkedCall → Type 0
+AllLinkedSilent [] = Unit
+AllLinkedSilent (c ∷ cs) = (c .kind ≡ 0) × AllLinkedSilent cs
+
+-- a linked line by the octet, first for the calls before, then for this one, silent up to a last call that is lent the same output
+-- and gives back what this call does
 pub record EndsAsLinked (before : List LinkedTake) (t : LinkedTake) : Type 0 where
   pub earlier : List LinkedCall
+  pub quiet : List LinkedCall
   pub last : LinkedCall
-  pub line : LinkedLine (earlier ++ last ∷ [])
-  pub octets : map (λ (c : LinkedCall). c .octet) (earlier ++ last ∷ []) ≡ gathered linkedTaken before ++ linkedTaken t
-  pub rooms : map (λ (c : LinkedCall). length (c .output)) (earlier ++ last ∷ []) ≡ gathered linkedRooms before ++ linkedRooms t
+  pub line : LinkedLine ((earlier ++ quiet) ++ last ∷ [])
+  pub octetsBefore : map (λ (c : LinkedCall). c .octet) earlier ≡ gathered linkedTaken before
+  pub octets : map (λ (c : LinkedCall). c .octet) (quiet ++ last ∷ []) ≡ linkedTaken t
+  pub roomsBefore : map (λ (c : LinkedCall). length (c .output)) earlier ≡ gathered linkedRooms before
+  pub rooms : map (λ (c : LinkedCall). length (c .output)) (quiet ++ last ∷ []) ≡ linkedRooms t
+  pub silence : AllLinkedSilent quiet
+  pub output : last .output ≡ asSlice t .output
   pub kind : last .kind ≡ asSlice t .kind
   pub value : last .value ≡ asSlice t .value
   pub storeAfter : last .storeAfter ≡ asSlice t .storeAfter

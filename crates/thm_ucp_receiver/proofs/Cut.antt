@@ -12,7 +12,7 @@ use Rattle.ucp_frame.specs.Stretch.{Verdict, silent, refused, delivered, verdic
 use Rattle.ucp_frame.proofs.Stuffing.{FlagFree, flag-free-cons}
 use Rattle.ucp_history.specs.History.{Call, Segment, Cut, cutAtFlags, closingVerdict, ifDelivered, ifRefused, overClosed, sinceLast, account}
 use Rattle.thm_ucp_receiver.specs.Promises.{sum}
-use Rattle.thm_ucp_receiver.proofs.Stretch.{stretch-is-answered}
+use Rattle.thm_ucp_receiver.proofs.Stretch.{verdict-answers}
 
 abbrev pub segment : ℕ → List ℕ → Segment
 segment room octets = record { room = room; octets = octets }
@@ -181,7 +181,7 @@ by-answer : (raw : List ℕ) (room : ℕ)
     → ifDelivered (verdict raw room) (length raw) + ifRefused (verdict raw room) (length raw) ≡ length raw
 unfolding verdict
 by-answer [] room = omega arith
-by-answer (x ∷ xs) room = go (verdict (x ∷ xs) room) (stretch-is-answered x xs room)
+by-answer (x ∷ xs) room = go (verdict (x ∷ xs) room) (verdict-answers x xs room)
   where
     go : (v : Verdict) → (v ≡ silent → ⊥) → ifDelivered v (suc (length xs)) + ifRefused v (suc (length xs)) ≡ suc (length xs)
     go silent n = absurd (n refl)

@@ -21,7 +21,7 @@ use Rattle.ucp_receiver.specs.declared.Record.{Record}
 use Rattle.ucp_receiver.specs.Answers.{body, answerFor, outputAtFlag}
 use Rattle.ucp_receiver.specs.Octet.{noOctets, freshRecord}
 use Rattle.thm_ucp_receiver.specs.Line.{Observed, callOf, Runs}
-use Rattle.thm_ucp_receiver.specs.Promises.{AnswersAs, EndsIn, BodyLength, DeliveredIsFrame, FrameIsDelivered, frameAnswer, PutOutIsFrame, FrameIsPutOut, carrying, WrongCheckRefused}
+use Rattle.thm_ucp_receiver.specs.Promises.{AnswersAs, EndsIn, BodyLength, HistoryDeliversFrame, HistoryFrameDelivered, frameAnswer, PutOutIsFrame, FrameIsPutOut, carrying, WrongCheckRefused}
 use Rattle.thm_ucp_receiver.proofs.Stretch.{delivered-answers, carried, is-frame}
 use Rattle.thm_ucp_receiver.proofs.Cut.{octetsOf, segment, closing-last, cut-last, LastFlag, none, at, last-flag}
 use Rattle.thm_ucp_receiver.proofs.Promises.{answers}
@@ -47,9 +47,9 @@ octets-after earlier raw line p o i =
     ap (λ (l : List ℕ). getD l (length earlier + suc i) 0) p ∙ getD-append-add earlier (flag ∷ raw) (suc i) 0 in
     omega (arith, o (length earlier + suc i))
 
-pub delivered-is-frame : DeliveredIsFrame
+pub history-delivers-frame : HistoryDeliversFrame
 unfolding answer closingVerdict
-delivered-is-frame before c b o = by-octet (eqb (c .octet) flag) refl
+history-delivers-frame before c b o = by-octet (eqb (c .octet) flag) refl
   where
     by-last : c .octet ≡ flag → LastFlag before → answer before c ≡ delivered b
         → EndsIn (frame b) (before ++ (c ∷ [])) × BodyLength b
@@ -94,7 +94,7 @@ put-out-is-frame before after o octets l k = go (answer calls (callOf o)) refl (
     go (delivered b) e t p =
         let n : octets ≡ length b = cc in
         let w : take octets (o .outputThen) ≡ b = ap₂ take n p ∙ take-append-seam b (drop (length b) (o .output)) in
-        rw w (delivered-is-frame calls (callOf o) b (line-octets before (o ∷ after) freshRecord noOctets l) e)
+        rw w (history-delivers-frame calls (callOf o) b (line-octets before (o ∷ after) freshRecord noOctets l) e)
 
 -- ---- the frame at the end of a line
 
@@ -109,13 +109,13 @@ last-answer before c a b k ends =
     head-eq-of-cons-eq (append-cancel-left (octetsOf before) _ _ (e ∙ ap (λ (l : List ℕ). l ++ (flag ∷ [])) (sym p))) in
     closes before c (ends .earlier) raw p (stuffed-flag-free _) x ∙ carried a b (c .room) k
 
-pub frame-is-delivered : FrameIsDelivered
+pub history-frame-delivered : HistoryFrameDelivered
 unfolding frame
-frame-is-delivered before c b k ends = last-answer before c b b k ends ∙ rw (eq-eqb (frameCheck b) (frameCheck b) refl)
+history-frame-delivered before c b k ends = last-answer before c b b k ends ∙ rw (eq-eqb (frameCheck b) (frameCheck b) refl)
 
 pub frame-is-put-out : FrameIsPutOut
 frame-is-put-out before after o b l k ends =
-    rw (← (frame-is-delivered (map callOf before) (callOf o) b k ends)) (answers before after o l)
+    rw (← (history-frame-delivered (map callOf before) (callOf o) b k ends)) (answers before after o l)
 
 pub wrong-check-refused : WrongCheckRefused
 wrong-check-refused a b k n before o l ends =

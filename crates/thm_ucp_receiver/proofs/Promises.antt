@@ -2,20 +2,23 @@
 -- counts. Assumes nothing.
 use mathlib.Core.Path.{_≡_, refl, sym, _∙_, ap, ap₂, subst}
 use mathlib.Core.List.{List, [], _∷_, _++_, map, append-nil, append-assoc, nil≢cons, cons≢nil, head-eq-of-cons-eq, tail-eq-of-cons-eq}
-use Prim.Native.Nat.{ℕ, _+_, _-_, _%_, _^_}
+use Prim.Native.Nat.{ℕ, _+_, _-_, _%_, _^_, _≤_}
+use native.Mathlib.Omega.{arith}
 use native.Mathlib.Nat.{add-mod, add-mod-mod, mod-mod}
 use lib.ListN.{length, take, drop, replicate}
 use lib.Seq.{take-append-seam}
 use borrow.Author.Tests.{eq-eqb}
 use Rattle.ucp_frame.specs.Frame.{flag}
-use Rattle.ucp_frame.specs.Stretch.{unstuffed, Verdict, silent, refused, delivered, storeOctets}
-use Rattle.ucp_history.specs.History.{Call, Segment, cutAtFlags, answer, overClosed, sinceLast, Account, account}
+use Rattle.ucp_frame.specs.Stretch.{unstuffed, Verdict, silent, refused, delivered, storeOctets, verdict}
+use Rattle.ucp_history.specs.History.{Call, Segment, cutAtFlags, closingVerdict, answer, overClosed, sinceLast, Account, account}
 use Rattle.ucp_receiver.specs.declared.Counts.{Counts}
 use Rattle.ucp_receiver.specs.declared.Record.{Record}
-use Rattle.ucp_receiver.specs.Answers.{ReceiverAnswer, answerFor, outputAtFlag}
+use Rattle.ucp_receiver.specs.Answers.{ReceiverAnswer, nothing, answerFor, outputAtFlag}
 use Rattle.ucp_receiver.specs.Octet.{State, afterFlag, stateAfter, verdictDue, countsAfter}
 use Rattle.thm_ucp_receiver.specs.Line.{Observed, callOf, upTo, Meets, Runs, Line}
-use Rattle.thm_ucp_receiver.specs.Promises.{AnswersByHistory, CountsByHistory, EveryOctetCounted, StoreClean, openStretch, StoreByHistory, HuntingStoresNothing, FlagClears, putOut, Seen, seen, LaterOnly}
+use Rattle.thm_ucp_receiver.specs.Promises.{AnswersByHistory, StretchIsAnswered, CountsByHistory, EveryOctetCounted, StoreClean, openStretch, StoreByHistory, HuntingStoresNothing, FlagClears, putOut, Seen, seen, LaterOnly}
+use Rattle.thm_ucp_receiver.proofs.Stretch.{verdict-answers}
+use Rattle.thm_ucp_receiver.proofs.Slice.{silence-due}
 use Rattle.thm_ucp_receiver.proofs.Cut.{account-sum}
 use Rattle.thm_ucp_receiver.proofs.Record.{Stands, stands-fresh, stands-next, stands-answer, stands-clean, stands-holds}
 use Rattle.thm_ucp_receiver.proofs.Counts.{counted, stands-counts}
@@ -64,6 +67,26 @@ answers before after o l =
       tells = k .runs .1 .answers ∙ ap answerFor due;
       puts = k .runs .1 .puts ∙ ap (λ (v : Verdict). outputAtFlag v (o .output)) due;
     }
+
+-- the open stretch of some flags, closed with this room
+closing-answers : (flags : List Segment) (room : ℕ) → 1 ≤ length (openStretch flags) → closingVerdict flags room ≡ silent → ⊥
+unfolding openStretch closingVerdict
+closing-answers [] room some = absurd (omega (arith, some))
+closing-answers (s ∷ []) room some = go (s .octets) some
+  where
+    go : (octets : List ℕ) → 1 ≤ length octets → verdict octets room ≡ silent → ⊥
+    go [] some = absurd (omega (arith, some))
+    go (x ∷ xs) some = verdict-answers x xs room
+closing-answers (s ∷ t ∷ ss) room some = closing-answers (t ∷ ss) room some
+
+pub stretch-is-answered : StretchIsAnswered
+unfolding answer
+stretch-is-answered before after o l e some quiet =
+    closing-answers (cutAtFlags (map callOf before) .flags) (length (o .output)) some
+    (sym due ∙ silence-due (answer (map callOf before) (callOf o)) (sym (answers before after o l .tells) ∙ quiet))
+  where
+    due : answer (map callOf before) (callOf o) ≡ closingVerdict (cutAtFlags (map callOf before) .flags) (length (o .output))
+    due = rw (eq-eqb (o .octet) flag e)
 
 after-call : (before after : List Observed) (o : Observed) → Line (before ++ o ∷ after)
     → At (upTo before o) (o .given .receiver) (o .storeAfter)
@@ -166,10 +189,20 @@ flag-leads : (s : State) (x : ℕ) → x ≡ flag → stateAfter s x ≡ afterFl
 unfolding stateAfter
 flag-leads s x e = rw (eq-eqb x flag e)
 
+-- the rest of a run, from the record that its first part leads to
+record From (os : List Observed) : Type 0 where
+  receiver : Record
+  store : List ℕ
+  runs : Runs receiver store os
+
+behind : (receiver : Record) (store : List ℕ) (before os : List Observed) → Runs receiver store (before ++ os) → From os
+behind receiver store [] os r = record { receiver = receiver; store = store; runs = r }
+behind receiver store (o ∷ before) os r = behind (o .given .receiver) (o .storeAfter) before os (r .2)
+
 pub later-only : LaterOnly
-later-only before other f g os ps e n l m k =
-    let a = arrive before (f ∷ os) l in
-    let b = arrive other (g ∷ ps) m in
+later-only receiver another store itsStore before other f g os ps e n l m k =
+    let a = behind receiver store before (f ∷ os) l in
+    let b = behind another itsStore other (g ∷ ps) m in
     same-seen os ps _ _ (f .given .receiver .counts) (g .given .receiver .counts)
     (a .runs .1 .state ∙ flag-leads _ (f .octet) e ∙ sym (b .runs .1 .state ∙ flag-leads _ (g .octet) n))
     (a .runs .2) (b .runs .2) k

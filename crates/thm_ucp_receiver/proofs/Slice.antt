@@ -6,16 +6,17 @@ use native.Mathlib.Omega.{arith}
 use native.Mathlib.Numerals.{add-one}
 use lib.ListN.{length, take, getD, length-replicate}
 use Rattle.crc_polynomial.specs.Polynomial.{Octets}
+use Rattle.ucp_frame.specs.Frame.{flag}
 use Rattle.ucp_frame.specs.Stretch.{Verdict, silent, refused, delivered}
 use Rattle.ucp_receiver.specs.declared.Counts.{Counts}
 use Rattle.ucp_receiver.specs.declared.Record.{Record}
 use Rattle.ucp_receiver.specs.declared.Answer.{Answer}
 use Rattle.ucp_receiver.specs.declared.Answer.the-variants.{Nothing, Delivered, Refused}
 use Rattle.ucp_receiver.specs.Answers.{ReceiverAnswer, nothing, refusal, body, receiverAnswer, answerFor, outputAtFlag}
-use Rattle.ucp_receiver.specs.Octet.{State, noOctets, freshRecord, stateAfter, verdictDue, countsAfter}
+use Rattle.ucp_receiver.specs.Octet.{State, noOctets, freshRecord, afterFlag, stateAfter, verdictDue, countsAfter}
 use Rattle.ucp_receiver.specs.Slice.{SliceRun, later, endAt, sliceRun}
 use Rattle.thm_ucp_receiver.specs.Line.{Observed, Meets, Runs, Line}
-use Rattle.thm_ucp_receiver.specs.Slice.{answersOver, lastOf, TakenAs, SliceIsOctets, ObservedSlice, roomsOf, Held, recordAfter, outputLast, Lent, AnswersLast, CallsOf, SliceRuns, SlicesRun, CallsUpTo, LineOfSlices, SliceIsCall}
+use Rattle.thm_ucp_receiver.specs.Slice.{stateOver, answersOver, lastOf, TakenAs, SliceIsOctets, ObservedSlice, roomsOf, Held, recordAfter, outputLast, Lent, AnswersLast, CallsOf, SliceRuns, SliceFlagClears, SlicesRun, CallsUpTo, LineOfSlices, AllSilent, SliceIsCall}
 use Rattle.thm_ucp_receiver.proofs.Stretch.{refused-answers, delivered-answers}
 
 last-silent : (vs : List Verdict) → lastOf (silent ∷ vs) ≡ lastOf vs
@@ -79,6 +80,29 @@ slice-is-octets s c [] room =
 slice-is-octets s c (x ∷ xs) room =
     by-answer s c x xs room _ (slice-is-octets (stateAfter s x) (countsAfter c s x room) xs room) (verdictDue s x room) refl
 
+-- ---- a flag taken last
+
+state-append : (s : State) (xs : List ℕ) (x : ℕ) → stateOver s (xs ++ x ∷ []) ≡ stateAfter (stateOver s xs) x
+state-append s [] x = refl
+state-append s (y ∷ ys) x = state-append (stateAfter s y) ys x
+
+flag-leads : (s : State) → stateAfter s flag ≡ afterFlag
+unfolding stateAfter
+flag-leads s = refl
+
+pub slice-flag-clears : SliceFlagClears
+slice-flag-clears receiver store line output given storeAfter outputThen earlier t e =
+    (ap (λ (u : State). u .store) left, ap (λ (u : State). u .rest) left)
+  where
+    s : State
+    s = record { rest = receiver .rest; store = store }
+
+    left : _≡_ {A = State} (record { rest = given .receiver .rest; store = storeAfter }) afterFlag
+    left =
+        t .state ∙ slice-is-octets s (receiver .counts) line (length output) .state
+        ∙ ap (λ (n : ℕ). stateOver s (take n line)) (sym (t .taken)) ∙ ap (stateOver s) e
+        ∙ state-append s earlier flag ∙ flag-leads (stateOver s earlier)
+
 -- ---- the calls by the octet
 
 -- the answer that says this
@@ -127,6 +151,12 @@ calledWith xs output r =
 meets : (s : State) (c : Counts) (x : ℕ) (output : List ℕ) → Meets (recordOf s c) (s .store) (called s c x output)
 meets s c x output = record { state = refl; account = refl; answers = tells _; puts = refl }
 
+-- an answer that says nothing is due to silence
+pub silence-due : (v : Verdict) → answerFor v ≡ nothing → v ≡ silent
+silence-due silent e = refl
+silence-due (refused number) e = absurd (let z : _≡_ {A = ℕ} 0 1 = cc in omega arith)
+silence-due (delivered octets) e = absurd (let z : _≡_ {A = ℕ} 0 1 = cc in omega arith)
+
 -- a silent call before others
 silent-first : (t : ReceiverAnswer) (o : Observed) (os : List Observed) → receiverAnswer (o .given .answer) ≡ nothing → AnswersLast t os
     → AnswersLast t (o ∷ os)
@@ -151,13 +181,15 @@ module _ (s : State) (c : Counts) (x : ℕ) (xs : List ℕ) (output : List ℕ) 
         leaves = k .leaves;
         puts = ap (λ (l : List ℕ). outputLast l (k .calls)) same ∙ k .puts;
         answers = silent-first _ first (k .calls) (tells _ ∙ ap answerFor e) (k .answers);
+        all = λ n. ap suc (k .all n);
       })
     where
       same : first .outputThen ≡ output
       same = ap (λ (v : Verdict). outputAtFlag v output) e
 
-  call-only : CallsOf (recordOf s c) (s .store) (calledWith (x ∷ xs) output (stopped s c x xs (length output)))
-  call-only =
+  call-only : (verdictDue s x (length output) ≡ silent → ⊥)
+      → CallsOf (recordOf s c) (s .store) (calledWith (x ∷ xs) output (stopped s c x xs (length output)))
+  call-only n =
       record {
         calls = first ∷ [];
         runs = (small, meets s c x output, tt);
@@ -167,6 +199,7 @@ module _ (s : State) (c : Counts) (x : ℕ) (xs : List ℕ) (output : List ℕ) 
         leaves = refl;
         puts = refl;
         answers = refl;
+        all = λ e. absurd (n (silence-due _ (sym (tells _) ∙ e)));
       }
 
   calls-by-answer : (r : SliceRun)
@@ -174,14 +207,24 @@ module _ (s : State) (c : Counts) (x : ℕ) (xs : List ℕ) (output : List ℕ) 
       → (v : Verdict) → verdictDue s x (length output) ≡ v
       → CallsOf (recordOf s c) (s .store) (calledWith (x ∷ xs) output (endAt v (stopped s c x xs (length output)) (later r)))
   calls-by-answer r k silent e = call-then r e k
-  calls-by-answer r k (refused number) e = call-only
-  calls-by-answer r k (delivered octets) e = call-only
+  calls-by-answer r k (refused number) e = call-only (λ n. refused-answers number (sym e ∙ n))
+  calls-by-answer r k (delivered octets) e = call-only (λ n. delivered-answers octets (sym e ∙ n))
 
 calls-of-run : (s : State) (c : Counts) (xs output : List ℕ) → Octets xs
     → CallsOf (recordOf s c) (s .store) (calledWith xs output (sliceRun s c xs (length output)))
 unfolding sliceRun
 calls-of-run s c [] output small =
-    record { calls = []; runs = tt; octets = refl; rooms = refl; lent = tt; leaves = refl; puts = refl; answers = refl }
+    record {
+      calls = [];
+      runs = tt;
+      octets = refl;
+      rooms = refl;
+      lent = tt;
+      leaves = refl;
+      puts = refl;
+      answers = refl;
+      all = λ n. refl;
+    }
 calls-of-run s c (x ∷ xs) output small =
     calls-by-answer s c x xs output (small 0) _
     (calls-of-run (stateAfter s x) (countsAfter c s x (length output)) xs output (λ i. small (suc i))) (verdictDue s x (length output)) refl
@@ -257,23 +300,34 @@ line-of-slices = calls-up-to freshRecord noOctets
 
 -- the last of some calls
 record Last (t : ReceiverAnswer) (held : Held) (output : List ℕ) (os : List Observed) : Type 0 where
-  earlier : List Observed
+  quiet : List Observed
   last : Observed
-  parts : os ≡ earlier ++ last ∷ []
+  parts : os ≡ quiet ++ last ∷ []
+  silence : AllSilent quiet
+  lent : last .output ≡ output
   answer : receiverAnswer (last .given .answer) ≡ t
   leaves : recordAfter held os ≡ record { receiver = last .given .receiver; store = last .storeAfter }
   puts : outputLast output os ≡ last .outputThen
 
+-- a call without an answer leaves the output
+left-alone : (receiver : Record) (store : List ℕ) (o : Observed) → Meets receiver store o → receiverAnswer (o .given .answer) ≡ nothing
+    → o .outputThen ≡ o .output
+left-alone receiver store o m e =
+    let v : Verdict = verdictDue (record { rest = receiver .rest; store = store }) (o .octet) (length (o .output)) in
+    m .puts ∙ ap (λ (w : Verdict). outputAtFlag w (o .output)) (silence-due v (sym (m .answers) ∙ e))
+
 last-call : (t : ReceiverAnswer) (held : Held) (output : List ℕ) (o : Observed) (os : List Observed) → AnswersLast t (o ∷ os)
-    → Last t held output (o ∷ os)
-last-call t held output o [] a =
-    record { earlier = []; last = o; parts = refl; answer = a; leaves = refl; puts = refl }
-last-call t held output o (p ∷ os) a =
-    let k = last-call t held output p os (a .1) in
+    → RunsFrom held (o ∷ os) → Lent output (o ∷ os) → Last t held output (o ∷ os)
+last-call t held output o [] a r n =
+    record { quiet = []; last = o; parts = refl; silence = tt; lent = n .0; answer = a; leaves = refl; puts = refl }
+last-call t held output o (p ∷ os) a r n =
+    let k = last-call t (record { receiver = o .given .receiver; store = o .storeAfter }) (o .outputThen) p os (a .1) (r .2) (n .1) in
     record {
-      earlier = o ∷ k .earlier;
+      quiet = o ∷ k .quiet;
       last = k .last;
       parts = ap (λ (l : List Observed). o ∷ l) (k .parts);
+      silence = (a .0, k .silence);
+      lent = k .lent ∙ left-alone (held .receiver) (held .store) o (r .1) (a .0) ∙ n .0;
       answer = k .answer;
       leaves = k .leaves;
       puts = k .puts;
@@ -282,23 +336,29 @@ last-call t held output o (p ∷ os) a =
 -- the calls of a slice that took an octet are not none
 last-of : (met : Held) (s : ObservedSlice) (k : CallsOf (met .receiver) (met .store) s) → 1 ≤ s .given .taken
     → Last (receiverAnswer (s .given .answer)) met (s .output) (k .calls)
-last-of met s k some = go (k .calls) (k .rooms) (k .answers)
+last-of met s k some = go (k .calls) (k .rooms) (k .answers) (k .runs) (k .lent)
   where
     t : ReceiverAnswer
     t = receiverAnswer (s .given .answer)
 
-    go : (os : List Observed) → map (λ (o : Observed). length (o .output)) os ≡ roomsOf s → AnswersLast t os → Last t met (s .output) os
-    go [] e a = absurd (omega (arith, length-replicate (s .given .taken) (length (s .output)), ap length e))
-    go (o ∷ os) e a = last-call t met (s .output) o os a
+    go : (os : List Observed) → map (λ (o : Observed). length (o .output)) os ≡ roomsOf s → AnswersLast t os → RunsFrom met os
+        → Lent (s .output) os → Last t met (s .output) os
+    go [] e a r n = absurd (omega (arith, length-replicate (s .given .taken) (length (s .output)), ap length e))
+    go (o ∷ os) e a r n = last-call t met (s .output) o os a r n
 
 pub slice-is-call : SliceIsCall
 slice-is-call before after s r some =
     record {
-      earlier = u .earlier ++ k .earlier;
+      earlier = u .earlier;
+      quiet = k .quiet;
       last = k .last;
       line = subst Line whole (u .runs);
-      octets = rw (← whole) (gather _ (u .earlier) (u .own .calls) (u .octets) (u .own .octets));
-      rooms = rw (← whole) (gather _ (u .earlier) (u .own .calls) (u .rooms) (u .own .rooms));
+      octetsBefore = u .octets;
+      octets = ap (map (λ (o : Observed). o .octet)) (sym (k .parts)) ∙ u .own .octets;
+      roomsBefore = u .rooms;
+      rooms = ap (map (λ (o : Observed). length (o .output))) (sym (k .parts)) ∙ u .own .rooms;
+      silence = k .silence;
+      output = k .lent;
       answer = k .answer;
       receiver = ap (λ (h : Held). h .receiver) left;
       storeAfter = ap (λ (h : Held). h .store) left;
@@ -311,10 +371,10 @@ slice-is-call before after s r some =
     k : Last (receiverAnswer (s .given .answer)) (u .met) (s .output) (u .own .calls)
     k = last-of (u .met) s (u .own) some
 
-    whole : u .earlier ++ u .own .calls ≡ (u .earlier ++ k .earlier) ++ k .last ∷ []
+    whole : u .earlier ++ u .own .calls ≡ (u .earlier ++ k .quiet) ++ k .last ∷ []
     whole =
         ap (λ (l : List Observed). u .earlier ++ l) (k .parts)
-        ∙ sym (append-assoc (u .earlier) (k .earlier) (k .last ∷ []))
+        ∙ sym (append-assoc (u .earlier) (k .quiet) (k .last ∷ []))
 
     left : _≡_ {A = Held} (record { receiver = k .last .given .receiver; store = k .last .storeAfter })
         (record { receiver = s .given .receiver; store = s .storeAfter })

@@ -16,7 +16,7 @@ use Rattle.ucp_frame.specs.Frame.{flag, stuffed, frame}
 use Rattle.ucp_frame.specs.Stretch.{Ending, whole, escapeLast, badEscape, Unstuffed, unstuffed, Verdict, silent, refused, delivered, storeOctets, withoutCheck, checkSent, atFlag, byEnding, judged, verdict}
 use Rattle.ucp_frame.proofs.Stuffing.{FlagFree}
 use Rattle.ucp_frame.proofs.Unstuffing.{unstuffed-stuffed, stuffed-unstuffed, unstuffed-octets}
-use Rattle.thm_ucp_receiver.specs.Promises.{StretchIsAnswered, BodyLength, frameAnswer}
+use Rattle.thm_ucp_receiver.specs.Promises.{BodyLength, frameAnswer}
 
 -- ---- a stretch that holds an octet is answered
 
@@ -43,9 +43,9 @@ judged-answers u room = either-answers (ltb storeOctets (length (u .octets))) (r
         (either-answers (ltb room (length (withoutCheck (u .octets)))) (refused-answers 6) (delivered-answers (withoutCheck (u .octets))))
         (refused-answers 5))
 
-pub stretch-is-answered : StretchIsAnswered
+pub verdict-answers : (x : ℕ) (xs : List ℕ) (room : ℕ) → verdict (x ∷ xs) room ≡ silent → ⊥
 unfolding verdict
-stretch-is-answered x xs = judged-answers (unstuffed (x ∷ xs))
+verdict-answers x xs = judged-answers (unstuffed (x ∷ xs))
 
 -- ---- a body and two octets of a check
 

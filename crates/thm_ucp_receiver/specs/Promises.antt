@@ -10,14 +10,14 @@ use Rattle.crc_polynomial.specs.Polynomial.{Octets}
 use Rattle.crc_gdl90.specs.Check.{frameCheck, frameCheckOctets}
 use Rattle.refusals.specs.Numbers as because
 use Rattle.ucp_frame.specs.Frame.{flag, stuffed, frame, longestBody}
-use Rattle.ucp_frame.specs.Stretch.{unstuffed, Verdict, silent, refused, delivered, storeOctets, verdict}
+use Rattle.ucp_frame.specs.Stretch.{unstuffed, Verdict, silent, refused, delivered, storeOctets}
 use Rattle.ucp_history.specs.History.{Call, Segment, cutAtFlags, answer, Account, account}
 use Rattle.ucp_receiver.specs.declared.Counts.{Counts}
 use Rattle.ucp_receiver.specs.declared.Record.{Record}
 use Rattle.ucp_receiver.specs.declared.Received.{Received}
 use Rattle.ucp_receiver.specs.Answers.{ReceiverAnswer, nothing, refusal, body, receiverAnswer, answerFor, outputAtFlag}
 use Rattle.ucp_receiver.specs.Octet.{noOctets, flagRest, Receives}
-use Rattle.thm_ucp_receiver.specs.Line.{Observed, callOf, upTo, Line}
+use Rattle.thm_ucp_receiver.specs.Line.{Observed, callOf, upTo, Runs, Line}
 
 -- ---- the answers (document 01, "The receiver, byte by byte" and the table's rows 1 to 6)
 
@@ -31,9 +31,17 @@ AnswersByHistory =
     (before after : List Observed) (o : Observed) → Line (before ++ o ∷ after)
     → AnswersAs (answer (map callOf before) (callOf o)) o
 
--- a stretch with an octet in it is answered
+-- the octets since the last of these flags; before the first flag there are none
+unfoldable pub openStretch : List Segment → List ℕ
+openStretch [] = []
+openStretch (s ∷ []) = s .octets
+openStretch (s ∷ t ∷ ss) = openStretch (t ∷ ss)
+
+-- a flag that closes a stretch with an octet in it is answered
 abbrev pub StretchIsAnswered : Type 0
-StretchIsAnswered = (x : ℕ) (xs : List ℕ) (room : ℕ) → verdict (x ∷ xs) room ≡ silent → ⊥
+StretchIsAnswered =
+    (before after : List Observed) (o : Observed) → Line (before ++ o ∷ after) → o .octet ≡ flag
+    → 1 ≤ length (openStretch (cutAtFlags (map callOf before) .flags)) → receiverAnswer (o .given .answer) ≡ nothing → ⊥
 
 -- ---- the byte account (document 01, "The byte account")
 
@@ -70,12 +78,6 @@ abbrev pub StoreClean : Type 0
 StoreClean =
     (before after : List Observed) (o : Observed) → Line (before ++ o ∷ after)
     → CleanBeyond (o .given .receiver .rest .stored) (o .storeAfter)
-
--- the octets since the last of these flags; before the first flag there are none
-unfoldable pub openStretch : List Segment → List ℕ
-openStretch [] = []
-openStretch (s ∷ []) = s .octets
-openStretch (s ∷ t ∷ ss) = openStretch (t ∷ ss)
 
 -- what a history leaves in the store: the open stretch unstuffed, as far as its first fault, a bad escape or the 439th octet
 abbrev pub storedBy : List Call → List ℕ
@@ -120,11 +122,11 @@ pub record Seen : Type 0 where
 abbrev pub seen : Observed → Seen
 seen o = record { answer = receiverAnswer (o .given .answer); octets = putOut (receiverAnswer (o .given .answer)) (o .outputThen) }
 
--- where the same octets with the same rooms follow, the same is seen, whatever came before
+-- where the same octets with the same rooms follow, the same is seen, from any two records and whatever came before
 abbrev pub LaterOnly : Type 0
 LaterOnly =
-    (before other : List Observed) (f g : Observed) (os ps : List Observed)
-    → f .octet ≡ flag → g .octet ≡ flag → Line (before ++ f ∷ os) → Line (other ++ g ∷ ps)
+    (receiver another : Record) (store itsStore : List ℕ) (before other : List Observed) (f g : Observed) (os ps : List Observed)
+    → f .octet ≡ flag → g .octet ≡ flag → Runs receiver store (before ++ f ∷ os) → Runs another itsStore (other ++ g ∷ ps)
     → map callOf os ≡ map callOf ps → map seen os ≡ map seen ps
 
 -- ---- a body and its frame (the tender, demand 2)
@@ -139,8 +141,8 @@ pub record BodyLength (b : List ℕ) : Type 0 where
   pub most : length b ≤ longestBody
 
 -- where a body is delivered, the line from the flag before up to this one is its frame
-abbrev pub DeliveredIsFrame : Type 0
-DeliveredIsFrame =
+abbrev pub HistoryDeliversFrame : Type 0
+HistoryDeliversFrame =
     (before : List Call) (c : Call) (b : List ℕ) → Octets (map (λ (d : Call). d .octet) before) → answer before c ≡ delivered b
     → EndsIn (frame b) (before ++ (c ∷ [])) × BodyLength b
 
@@ -149,8 +151,8 @@ abbrev pub frameAnswer : List ℕ → ℕ → Verdict
 frameAnswer b room = cond (ltb room (length b)) (refused because.room) (delivered b)
 
 -- a line that ends in a frame has that as its last answer
-abbrev pub FrameIsDelivered : Type 0
-FrameIsDelivered =
+abbrev pub HistoryFrameDelivered : Type 0
+HistoryFrameDelivered =
     (before : List Call) (c : Call) (b : List ℕ) → BodyLength b → EndsIn (frame b) (before ++ (c ∷ []))
     → answer before c ≡ frameAnswer b (c .room)
 

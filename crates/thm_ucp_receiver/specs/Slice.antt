@@ -5,12 +5,13 @@ use mathlib.Core.List.{List, [], _∷_, _++_, map}
 use Prim.Native.Nat.{ℕ, suc, _<_, _≤_}
 use lib.ListN.{length, take, getD, replicate}
 use Rattle.crc_polynomial.specs.Polynomial.{Octets}
+use Rattle.ucp_frame.specs.Frame.{flag}
 use Rattle.ucp_frame.specs.Stretch.{Verdict, silent}
 use Rattle.ucp_receiver.specs.declared.Counts.{Counts}
 use Rattle.ucp_receiver.specs.declared.Record.{Record}
 use Rattle.ucp_receiver.specs.declared.Taken.{Taken}
 use Rattle.ucp_receiver.specs.Answers.{ReceiverAnswer, nothing, receiverAnswer}
-use Rattle.ucp_receiver.specs.Octet.{State, noOctets, freshRecord, stateAfter, verdictDue, countsAfter}
+use Rattle.ucp_receiver.specs.Octet.{State, noOctets, freshRecord, flagRest, stateAfter, verdictDue, countsAfter}
 use Rattle.ucp_receiver.specs.Slice.{SliceRun, sliceRun, Takes}
 use Rattle.thm_ucp_receiver.specs.Line.{Observed, Runs, Line}
 
@@ -93,7 +94,8 @@ AnswersLast t [] = nothing ≡ t
 AnswersLast t (o ∷ []) = receiverAnswer (o .given .answer) ≡ t
 AnswersLast t (o ∷ p ∷ os) = (receiverAnswer (o .given .answer) ≡ nothing) × AnswersLast t (p ∷ os)
 
--- calls by the octet, from the same record and with the same output, that come to what the call with the slice comes to
+-- calls by the octet, from the same record and with the same output, that come to what the call with the slice comes to; octets
+-- are taken up to the first that brings an answer, or all of them
 pub record CallsOf (receiver : Record) (store : List ℕ) (s : ObservedSlice) : Type 0 where
   pub calls : List Observed
   pub runs : Runs receiver store calls
@@ -105,9 +107,17 @@ pub record CallsOf (receiver : Record) (store : List ℕ) (s : ObservedSlice) : 
       ≡ record { receiver = s .given .receiver; store = s .storeAfter }
   pub puts : outputLast (s .output) calls ≡ s .outputThen
   pub answers : AnswersLast (receiverAnswer (s .given .answer)) calls
+  pub all : receiverAnswer (s .given .answer) ≡ nothing → s .given .taken ≡ length (s .line)
 
 abbrev pub SliceRuns : Type 0
 SliceRuns = (receiver : Record) (store : List ℕ) (s : ObservedSlice) → MeetsSlice receiver store s → CallsOf receiver store s
+
+-- where the octets taken end in a flag, from any record and whatever the answer, the store is zero and the rest is the one fixed value
+abbrev pub SliceFlagClears : Type 0
+SliceFlagClears =
+    (receiver : Record) (store line output : List ℕ) (given : Taken) (storeAfter outputThen earlier : List ℕ)
+    → Takes receiver store line output given storeAfter outputThen → take (given .taken) line ≡ earlier ++ flag ∷ []
+    → (storeAfter ≡ noOctets) × (given .receiver .rest ≡ flagRest)
 
 -- ---- a line driven by slices
 
@@ -141,13 +151,24 @@ LineOfSlices =
     (before after : List ObservedSlice) (s : ObservedSlice) → SliceLine (before ++ s ∷ after)
     → CallsUpTo freshRecord noOctets before s
 
--- a line of calls by the octet that ends in a call which gives back what this slice does
+-- none of these calls has an answer
+abbrev pub AllSilent : List Observed → Type 0
+AllSilent [] = Unit
+AllSilent (o ∷ os) = (receiverAnswer (o .given .answer) ≡ nothing) × AllSilent os
+
+-- a line of calls by the octet, first for the slices before, then for this one, silent up to a last call that is lent the same
+-- output and gives back what this slice does
 pub record EndsAsSlice (before : List ObservedSlice) (s : ObservedSlice) : Type 0 where
   pub earlier : List Observed
+  pub quiet : List Observed
   pub last : Observed
-  pub line : Line (earlier ++ last ∷ [])
-  pub octets : map (λ (o : Observed). o .octet) (earlier ++ last ∷ []) ≡ gathered sliceOctets before ++ sliceOctets s
-  pub rooms : map (λ (o : Observed). length (o .output)) (earlier ++ last ∷ []) ≡ gathered roomsOf before ++ roomsOf s
+  pub line : Line ((earlier ++ quiet) ++ last ∷ [])
+  pub octetsBefore : map (λ (o : Observed). o .octet) earlier ≡ gathered sliceOctets before
+  pub octets : map (λ (o : Observed). o .octet) (quiet ++ last ∷ []) ≡ sliceOctets s
+  pub roomsBefore : map (λ (o : Observed). length (o .output)) earlier ≡ gathered roomsOf before
+  pub rooms : map (λ (o : Observed). length (o .output)) (quiet ++ last ∷ []) ≡ roomsOf s
+  pub silence : AllSilent quiet
+  pub output : last .output ≡ s .output
   pub answer : receiverAnswer (last .given .answer) ≡ receiverAnswer (s .given .answer)
   pub receiver : last .given .receiver ≡ s .given .receiver
   pub storeAfter : last .storeAfter ≡ s .storeAfter
