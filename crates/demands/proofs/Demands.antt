@@ -22,8 +22,10 @@ use Rattle.ucp_receiver.specs.declared.Answer.the-variants.{Nothing}
 use Rattle.c_ucp_receiver.specs.Numbers.{restIn, answerIn, answerValue}
 use Rattle.thm_mavlink_messages.proofs.RoundTrips as mavlink-trips
 use Rattle.thm_c_messages.proofs.EachKind.{lent-round-trips, lent-sent-is-delivered}
+use Rattle.thm_c_messages.proofs.Refusals.{lent-refusals, id-refuses}
 use Rattle.thm_ucp_messages.proofs.Delivery.{sent-is-delivered, delivered-writes-back}
 use Rattle.thm_ucp_messages.proofs.ReadBack as message-read
+use Rattle.thm_ucp_messages.proofs.ReadTyped.{read-is-typed}
 use Rattle.thm_ucp_messages.proofs.WriteBack as message-write
 use Rattle.ucp_messages.specs.Messages.{messageFits, messageBody}
 use Rattle.ucp_messages.specs.Kinds.{kindIn}
@@ -144,6 +146,8 @@ demand1 =
                 (sym (m .received .answers) ∙ ap receiver-answers.receiverAnswer told),
           );
       linkedWriterRefuses = λ body output after given w some. written-refused (frameDue body output) body output after given refl w some;
+      linkedMessagesRefuse = lent-refusals;
+      linkedIdRefuses = id-refuses;
       linkedFlagClears = linked-flag-clears;
       linkedStoreByHistory = linked-store;
       linkedLaterOnly = linked-later-only;
@@ -174,11 +178,13 @@ demand2 =
       messageReadsBack = message-read.written-reads-back;
       messageWritesBack = message-write.accepted-writes-back;
       uplinkReadsBack = message-read.uplink-reads-back;
+      messageReadIsTyped = read-is-typed;
       lentMessagesReadAndWriteBack = lent-round-trips;
       lentMessageSentIsDelivered = lent-sent-is-delivered;
       sentIsDelivered = sent-is-delivered;
       mavlinkReadsBack = mavlink-trips.written-reads-back;
       mavlinkWritesBack = mavlink-trips.accepted-writes-back;
+      mavlinkReadIsTyped = mavlink-trips.read-is-typed;
     }
 
 receiver-lists : ReceiverLists

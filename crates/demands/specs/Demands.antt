@@ -31,8 +31,10 @@ use Rattle.mavlink_messages.specs.Refusals.{MavlinkShort, MavlinkWrongStart, Ma
 use Rattle.thm_mavlink_messages.specs.RoundTrips as mavlink-trips
 use Rattle.thm_c_messages.specs.RoundTrips.{LentRoundTrips}
 use Rattle.thm_c_messages.specs.Delivery.{LentSentIsDelivered}
+use Rattle.thm_c_messages.specs.Refusals.{LentRefusals, IdRefuses}
 use Rattle.thm_ucp_messages.specs.Delivery.{SentIsDelivered, DeliveredWritesBack}
 use Rattle.thm_ucp_messages.specs.RoundTrips as message-trips
+use Rattle.thm_ucp_messages.specs.Typed.{ReadIsTyped}
 use Rattle.ucp_receiver.specs.declared.Record.{Record}
 use Rattle.ucp_receiver.specs.declared.Received.{Received}
 use Rattle.ucp_receiver.specs.Answers as receiver-answers
@@ -177,6 +179,10 @@ pub record Demand1 : Type 0 where
       (body output after : List ℕ) (given : OstrogoszWritten) → WritesFrameNumbers body output given after
       → (given .refusal ≡ 0 → ⊥)
       → ((given .refusal ≡ because.bodyLength) ⊎ (given .refusal ≡ because.outputLength)) × (given .length ≡ 0) × (after ≡ output)
+  -- of the linked calls for one kind of message, readers, writers and sends: each refusal exactly when, in the order of tests, and what
+  -- was lent is left; and of the call that gives a body's ID
+  pub linkedMessagesRefuse : LentRefusals
+  pub linkedIdRefuses : IdRefuses
   pub linkedFlagClears : LinkedFlagClears
   pub linkedStoreByHistory : LinkedStoreByHistory
   pub linkedLaterOnly : LinkedLaterOnly
@@ -222,6 +228,8 @@ pub record Demand2 : Type 0 where
   pub messageReadsBack : message-trips.MessageReadsBack
   pub messageWritesBack : message-trips.MessageWritesBack
   pub uplinkReadsBack : message-trips.UplinkReadsBack
+  -- what a message has to be, to read back equal, is met by every one that is read: its numbers are those of its types
+  pub messageReadIsTyped : ReadIsTyped
   -- of the calls that C links for one kind, `ostrogosz_ucp_read_..`, `ostrogosz_ucp_write_..` and `ostrogosz_ucp_send_..`, by
   -- `ReadsInto`, `WritesStructBody` and `SendsStruct` (c_lent)
   pub lentMessagesReadAndWriteBack : LentRoundTrips
@@ -229,6 +237,7 @@ pub record Demand2 : Type 0 where
   pub sentIsDelivered : SentIsDelivered
   pub mavlinkReadsBack : mavlink-trips.MavlinkReadsBack
   pub mavlinkWritesBack : mavlink-trips.MavlinkWritesBack
+  pub mavlinkReadIsTyped : mavlink-trips.MavlinkReadIsTyped
 
 -- The receiver's part of demand 3, one claim about whole lists: from a fresh receiver every call answers as the rules say, and
 -- where the list ends in the frame carrying one of two such bodies with the other's check, the last call answers 5.
