@@ -49,6 +49,7 @@ use Rattle.ucp_messages.specs.Kinds.{kindIn}
 use Rattle.ucp_messages.specs.Messages as Reads
 use Rattle.ucp_messages.specs.Refusals.{UnknownId, WrongMessageLength, WrongFixedOctet, FieldOutsideRange}
 use Rattle.ucp_answers.specs.Writes as Message
+use Rattle.ucp_send.specs.Sends.{Sends}
 use Rattle.crc_gdl90_strength.specs.Premises.{PremisesMet}
 use Rattle.thm_ucp_examples.specs.LinePremises.{EndsInMet, SliceLineMet, WriterCallMet}
 use Rattle.thm_ucp_writer.specs.Calls.{WriterLists}
@@ -74,6 +75,12 @@ pub record TableNumbers : Type 0 where
   pub mavlink :
       (because.mavlinkShort ≡ 20) × (because.mavlinkStart ≡ 21) × (because.mavlinkUnknownId ≡ 22) × (because.mavlinkLength ≡ 23)
       × (because.mavlinkWrongCheck ≡ 24) × (because.mavlinkField ≡ 25)
+
+-- when the frame writer refuses a body: rows 7 and 8 of the table, in that order
+abbrev pub FrameWriterRefuses : List ℕ → List ℕ → ℕ → Type 0
+FrameWriterRefuses body output number =
+    ((number ≡ because.bodyLength) × ((length body ≡ 0) ⊎ (longestBody < length body)))
+    ⊎ ((number ≡ because.outputLength) × (1 ≤ length body) × (length body ≤ longestBody) × (length output < length (frame body)))
 
 -- Demand 1. Each clause stands below the tender's sentence, in its words. "Every call on every input returns, with no undefined
 -- step": see above. The calls that are linked are the others in C's numbers, so that what is said of lines and of the writer holds
@@ -119,6 +126,12 @@ pub record Demand1 : Type 0 where
       → (writerAnswer r ≡ refused number)
       ↔ (((number ≡ because.field) × (messageFits m payload ≡ false))
       ⊎ ((number ≡ because.outputLength) × (messageFits m payload ≡ true) × (length output < length (messageBody m payload))))
+  -- the message's body framed in one call: 13, then as the frame writer
+  pub messageSendRefuses :
+      (m : ucp.Message) (payload buffer after : List ℕ) (r : Written) (number : ℕ) → Sends m payload buffer r after
+      → (writerAnswer r ≡ refused number)
+      ↔ (((number ≡ because.field) × (messageFits m payload ≡ false))
+      ⊎ ((messageFits m payload ≡ true) × FrameWriterRefuses (messageBody m payload) buffer number))
   pub mavlinkReaderRefuses :
       (input : List ℕ) (number : ℕ) → readDue input ≡ MavlinkReads.refused number → (20 ≤ number) × (number ≤ 25)
   pub mavlinkReaderRefuses20 :
