@@ -1,9 +1,10 @@
 -- The demands, from what the crates below prove. Assumes nothing.
 use mathlib.Core.Path.{_≡_, refl, sym, ap, subst, _∙_}
+use mathlib.Core.Bool.{Bool, true, false}
 use mathlib.Core.List.{List}
 use Prim.Native.Nat.{ℕ, _≤_, _<_}
 use native.Mathlib.Omega.{arith}
-use mathlib.Core.Logic.{_↔_, _⊎_}
+use mathlib.Core.Logic.{_↔_, _⊎_, inl, inr}
 use lib.Bits.{bitXor}
 use lib.ListN.{length}
 use Rattle.crc_polynomial.specs.Polynomial.{bitsOfOctets, polynomial, quotient, timesGenerator, degree16}
@@ -17,6 +18,7 @@ use Rattle.output_writing.specs.declared.OstrogoszWritten.{OstrogoszWritten}
 use Rattle.output_writing.specs.Writing as writer
 use Rattle.output_writing.specs.Writing.{WriterAnswer, outputAfter, WritingNumbers}
 use Rattle.ucp_writer.specs.Room.{frameDue}
+use Rattle.ucp_writer.specs.Sends.{sendDue}
 use Rattle.refusals.specs.Numbers as because
 use Rattle.ucp_receiver.specs.declared.Answer.the-variants.{Nothing}
 use Rattle.c_ucp_receiver.specs.Numbers.{restIn, answerIn, answerValue}
@@ -25,14 +27,18 @@ use Rattle.thm_mavlink_messages.proofs.RoundTrips as mavlink-trips
 use Rattle.thm_c_mavlink.proofs.ReadBack.{lent-mavlink-reads-back}
 use Rattle.thm_c_mavlink.proofs.WriteBack.{lent-mavlink-writes-back}
 use Rattle.thm_c_messages.proofs.EachKind.{lent-round-trips, lent-sent-is-delivered}
+use Rattle.thm_c_messages.proofs.Refusals.{lent-refusals, id-refuses}
+use Rattle.thm_c_messages.proofs.Tests.{no}
 use Rattle.thm_ucp_messages.proofs.Delivery.{sent-is-delivered, delivered-writes-back}
 use Rattle.thm_ucp_messages.proofs.ReadBack as message-read
+use Rattle.thm_ucp_messages.proofs.ReadTyped.{read-is-typed}
 use Rattle.thm_ucp_messages.proofs.WriteBack as message-write
 use Rattle.ucp_messages.specs.Messages.{messageFits, messageBody}
 use Rattle.ucp_messages.specs.Kinds.{kindIn}
 use Rattle.demands.proofs.MessageRefusals.{tabled-message, message-refused, mavlink-refused}
 use Rattle.demands.proofs.ReaderRefusals as messages
 use Rattle.demands.proofs.MavlinkRefusals as mavlink
+use Rattle.demands.proofs.LinkedMavlink.{mavlink-reader-refuses, mavlink-writer-refuses}
 use Rattle.ucp_writer.proofs.room.Due.{refused-so, refused-7, refused-8, due-accepted}
 use Rattle.ucp_receiver.specs.Answers as receiver-answers
 use Rattle.ucp_receiver.specs.Answers.{nothing, refusal, answerFor}
@@ -52,7 +58,7 @@ use Rattle.thm_ucp_receiver.proofs.Frames.{put-out-is-frame, frame-is-put-out, 
 use Rattle.thm_c_ucp.proofs.Receiver.{linked-lines, linked-answers, linked-counts, linked-store, linked-flag-clears, linked-later-only, linked-put-out-is-frame, linked-frame-is-put-out, linked-receiver-lists}
 use Rattle.thm_c_ucp.proofs.Slices.{linked-slice-lines, linked-slice-takes-all, linked-slice-flag-clears, linked-slice-is-call}
 use Rattle.thm_c_ucp.proofs.Writer.{linked-writer, linked-writer-lists}
-use Rattle.demands.specs.Demands.{TableNumbers, Demand1, Demand2, Demand3, ReceiverLists, PremisesTied}
+use Rattle.demands.specs.Demands.{TableNumbers, FrameWriterRefuses, Demand1, Demand2, Demand3, ReceiverLists, PremisesTied}
 use Rattle.demands.proofs.Refusals.{Tabled, quiet, numbered, whole, tabled}
 
 -- an answer that is the one due is a refusal when that is
@@ -80,6 +86,37 @@ answer-nothing : (v : Verdict) (output : List ℕ) → answerFor v ≡ nothing �
 answer-nothing silent output e = refl
 answer-nothing (refused n) output e = let z : _≡_ {A = ℕ} 0 1 = cc in absurd (omega arith)
 answer-nothing (delivered octets) output e = let z : _≡_ {A = ℕ} 0 1 = cc in absurd (omega arith)
+
+-- ---- one call of the sender
+
+frame-refused : (body output : List ℕ) (number : ℕ) → (frameDue body output ≡ writer.refused number) ↔ FrameWriterRefuses body output number
+frame-refused body output number = ((λ e. go e (refused-so body output number (sym e))), back)
+  where
+    go : frameDue body output ≡ writer.refused number → (number ≡ 7) ⊎ (number ≡ 8) → FrameWriterRefuses body output number
+    go e (inl n) = inl (n, refused-7 body output .0 (e ∙ ap writer.refused n))
+    go e (inr n) = let c = refused-8 body output .0 (e ∙ ap writer.refused n) in inr (n, c .0, c .1, c .2)
+
+    back : FrameWriterRefuses body output number → frameDue body output ≡ writer.refused number
+    back (inl h) = refused-7 body output .1 (h .1) ∙ ap writer.refused (sym (h .0))
+    back (inr h) = refused-8 body output .1 (h .1, h .2, h .3) ∙ ap writer.refused (sym (h .0))
+
+abbrev SendRefused : Bool → List ℕ → List ℕ → ℕ → Type 0
+SendRefused fit body buffer number =
+    ((number ≡ because.field) × (fit ≡ false)) ⊎ ((fit ≡ true) × FrameWriterRefuses body buffer number)
+
+send-refused : (fit : Bool) (body buffer : List ℕ) (number : ℕ)
+    → (sendDue fit body buffer ≡ writer.refused number) ↔ SendRefused fit body buffer number
+unfolding sendDue
+send-refused true body buffer number = (λ e. inr (refl, frame-refused body buffer number .0 e), back)
+  where
+    back : SendRefused true body buffer number → frameDue body buffer ≡ writer.refused number
+    back (inl h) = no (sym (h .1))
+    back (inr h) = frame-refused body buffer number .1 (h .1)
+send-refused false body buffer number = ((λ e. inl (cc, refl)), back)
+  where
+    back : SendRefused false body buffer number → writer.refused 13 ≡ writer.refused number
+    back (inl h) = ap writer.refused (sym (h .0))
+    back (inr h) = no (h .0)
 
 -- ---- one call of the linked writer
 
@@ -115,6 +152,8 @@ demand1 =
       messageReaderRefuses13 = λ body r d. along d (messages.exactly-13 body);
       messageWriterRefuses = λ m payload output after r number w.
           along (w .answers) (message-refused (messageFits m payload) (messageBody m payload) output number);
+      messageSendRefuses = λ m payload buffer after r number w.
+          along (w .answers) (send-refused (messageFits m payload) (messageBody m payload) buffer number);
       mavlinkReaderRefuses = λ input r number d e. tabled-mavlink input number (sym d ∙ e);
       mavlinkReaderRefuses20 = λ input r d. along d (mavlink.exactly-20 input);
       mavlinkReaderRefuses21 = λ input r d. along d (mavlink.exactly-21 input);
@@ -150,6 +189,10 @@ demand1 =
                 (sym (m .received .answers) ∙ ap receiver-answers.receiverAnswer told),
           );
       linkedWriterRefuses = λ body output after given w some. written-refused (frameDue body output) body output after given refl w some;
+      linkedMessagesRefuse = lent-refusals;
+      linkedIdRefuses = id-refuses;
+      linkedMavlinkReadersRefuse = mavlink-reader-refuses;
+      linkedMavlinkWritersRefuse = mavlink-writer-refuses;
       linkedFlagClears = linked-flag-clears;
       linkedSliceFlagClears = linked-slice-flag-clears;
       linkedStoreByHistory = linked-store;
@@ -182,6 +225,7 @@ demand2 =
       messageReadsBack = message-read.written-reads-back;
       messageWritesBack = message-write.accepted-writes-back;
       uplinkReadsBack = message-read.uplink-reads-back;
+      messageReadIsTyped = read-is-typed;
       lentMessagesReadAndWriteBack = lent-round-trips;
       lentMessageSentIsDelivered = lent-sent-is-delivered;
       sentIsDelivered = sent-is-delivered;
@@ -189,6 +233,7 @@ demand2 =
       mavlinkWritesBack = mavlink-trips.accepted-writes-back;
       lentMavlinkReadsBack = lent-mavlink-reads-back;
       lentMavlinkWritesBack = lent-mavlink-writes-back;
+      mavlinkReadIsTyped = mavlink-trips.read-is-typed;
     }
 
 receiver-lists : ReceiverLists

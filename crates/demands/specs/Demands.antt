@@ -32,8 +32,10 @@ use Rattle.thm_mavlink_messages.specs.RoundTrips as mavlink-trips
 use Rattle.thm_c_mavlink.specs.RoundTrips.{LentMavlinkReadsBack, LentMavlinkWritesBack}
 use Rattle.thm_c_messages.specs.RoundTrips.{LentRoundTrips}
 use Rattle.thm_c_messages.specs.Delivery.{LentSentIsDelivered}
+use Rattle.thm_c_messages.specs.Refusals.{LentRefusals, IdRefuses}
 use Rattle.thm_ucp_messages.specs.Delivery.{SentIsDelivered, DeliveredWritesBack}
 use Rattle.thm_ucp_messages.specs.RoundTrips as message-trips
+use Rattle.thm_ucp_messages.specs.Typed.{ReadIsTyped}
 use Rattle.ucp_receiver.specs.declared.Record.{Record}
 use Rattle.ucp_receiver.specs.declared.Received.{Received}
 use Rattle.ucp_receiver.specs.Answers as receiver-answers
@@ -48,6 +50,7 @@ use Rattle.ucp_messages.specs.Kinds.{kindIn}
 use Rattle.ucp_messages.specs.Messages as Reads
 use Rattle.ucp_messages.specs.Refusals.{UnknownId, WrongMessageLength, WrongFixedOctet, FieldOutsideRange}
 use Rattle.ucp_answers.specs.Writes as Message
+use Rattle.ucp_send.specs.Sends.{Sends}
 use Rattle.crc_gdl90_strength.specs.Premises.{PremisesMet}
 use Rattle.thm_ucp_examples.specs.LinePremises.{EndsInMet, SliceLineMet, WriterCallMet}
 use Rattle.thm_kind_examples.specs.Ucp.{UcpKindExamples}
@@ -63,6 +66,7 @@ use Rattle.c_ucp_receiver.specs.Numbers.{ReceivesNumbers}
 use Rattle.thm_c_ucp.specs.Receiver.{LinkedLines, LinkedAnswersByHistory, LinkedCountsByHistory, LinkedStoreByHistory, LinkedFlagClears, LinkedLaterOnly, LinkedPutOutIsFrame, LinkedFrameIsPutOut, LinkedReceiverLists}
 use Rattle.thm_c_ucp.specs.Slices.{LinkedSliceLines, LinkedSliceTakesAll, LinkedSliceFlagClears, LinkedSliceIsCall}
 use Rattle.thm_c_ucp.specs.Writer.{LinkedWriter, LinkedWriterLists}
+use Rattle.demands.specs.LinkedMavlink.{MavlinkReaderRefuses, MavlinkWriterRefuses}
 use Rattle.thm_ucp_receiver.specs.Promises.{AnswersAs, AnswersByHistory, StretchIsAnswered, CountsByHistory, EveryOctetCounted, StoreClean, StoreByHistory, HuntingStoresNothing, FlagClears, LaterOnly, PutOutIsFrame, FrameIsPutOut, EndsIn, carrying}
 
 -- The numbers that stand behind the refusals' names are those of document 01's table.
@@ -75,6 +79,12 @@ pub record TableNumbers : Type 0 where
   pub mavlink :
       (because.mavlinkShort ≡ 20) × (because.mavlinkStart ≡ 21) × (because.mavlinkUnknownId ≡ 22) × (because.mavlinkLength ≡ 23)
       × (because.mavlinkWrongCheck ≡ 24) × (because.mavlinkField ≡ 25)
+
+-- when the frame writer refuses a body: rows 7 and 8 of the table, in that order
+abbrev pub FrameWriterRefuses : List ℕ → List ℕ → ℕ → Type 0
+FrameWriterRefuses body output number =
+    ((number ≡ because.bodyLength) × ((length body ≡ 0) ⊎ (longestBody < length body)))
+    ⊎ ((number ≡ because.outputLength) × (1 ≤ length body) × (length body ≤ longestBody) × (length output < length (frame body)))
 
 -- Demand 1. Each clause stands below the tender's sentence, in its words. "Every call on every input returns, with no undefined
 -- step": see above. The calls that are linked are the others in C's numbers, so that what is said of lines and of the writer holds
@@ -120,6 +130,12 @@ pub record Demand1 : Type 0 where
       → (writerAnswer r ≡ refused number)
       ↔ (((number ≡ because.field) × (messageFits m payload ≡ false))
       ⊎ ((number ≡ because.outputLength) × (messageFits m payload ≡ true) × (length output < length (messageBody m payload))))
+  -- the message's body framed in one call: 13, then as the frame writer
+  pub messageSendRefuses :
+      (m : ucp.Message) (payload buffer after : List ℕ) (r : Written) (number : ℕ) → Sends m payload buffer r after
+      → (writerAnswer r ≡ refused number)
+      ↔ (((number ≡ because.field) × (messageFits m payload ≡ false))
+      ⊎ ((messageFits m payload ≡ true) × FrameWriterRefuses (messageBody m payload) buffer number))
   pub mavlinkReaderRefuses :
       (input : List ℕ) (r : MavlinkRead) (number : ℕ) → MavlinkReads.mavlinkAnswer r ≡ readDue input
       → MavlinkReads.mavlinkAnswer r ≡ MavlinkReads.refused number → (20 ≤ number) × (number ≤ 25)
@@ -183,6 +199,13 @@ pub record Demand1 : Type 0 where
       (body output after : List ℕ) (given : OstrogoszWritten) → WritesFrameNumbers body output given after
       → (given .refusal ≡ 0 → ⊥)
       → ((given .refusal ≡ because.bodyLength) ⊎ (given .refusal ≡ because.outputLength)) × (given .length ≡ 0) × (after ≡ output)
+  -- of the linked calls for one kind of message, readers, writers and sends: each refusal exactly when, in the order of tests, and what
+  -- was lent is left; and of the call that gives a body's ID
+  pub linkedMessagesRefuse : LentRefusals
+  pub linkedIdRefuses : IdRefuses
+  -- and of those for one kind of MAVLink
+  pub linkedMavlinkReadersRefuse : MavlinkReaderRefuses
+  pub linkedMavlinkWritersRefuse : MavlinkWriterRefuses
   pub linkedFlagClears : LinkedFlagClears
   pub linkedSliceFlagClears : LinkedSliceFlagClears
   pub linkedStoreByHistory : LinkedStoreByHistory
@@ -231,6 +254,8 @@ pub record Demand2 : Type 0 where
   pub messageReadsBack : message-trips.MessageReadsBack
   pub messageWritesBack : message-trips.MessageWritesBack
   pub uplinkReadsBack : message-trips.UplinkReadsBack
+  -- what a message has to be, to read back equal, is met by every one that is read: its numbers are those of its types
+  pub messageReadIsTyped : ReadIsTyped
   -- of the calls that C links for one kind, `ostrogosz_ucp_read_..`, `ostrogosz_ucp_write_..` and `ostrogosz_ucp_send_..`, by
   -- `ReadsInto`, `WritesStructBody` and `SendsStruct` (c_lent)
   pub lentMessagesReadAndWriteBack : LentRoundTrips
@@ -242,6 +267,7 @@ pub record Demand2 : Type 0 where
   -- `WritesMavlinkForC` (c_mavlink)
   pub lentMavlinkReadsBack : LentMavlinkReadsBack
   pub lentMavlinkWritesBack : LentMavlinkWritesBack
+  pub mavlinkReadIsTyped : mavlink-trips.MavlinkReadIsTyped
 
 -- The receiver's part of demand 3, one claim about whole lists: from a fresh receiver every call answers as the rules say, and
 -- where the list ends in the frame carrying one of two such bodies with the other's check, the last call answers 5.

@@ -1,1 +1,2 @@
+pub mod LinkedMavlink
 pub mod Demands

@@ -1,3 +1,5 @@
 pub mod Accepted
 pub mod Structs
 pub mod EachKind
+pub mod Tests
+pub mod Refusals

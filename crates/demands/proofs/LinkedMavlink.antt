@@ -1,0 +1,111 @@
+-- Each call for C of one kind of MAVLink gives each refusal exactly when it is due: as the reader of every kind does, where the
+-- message ID is the kind's or is not there. Assumes nothing.
+use mathlib.Core.Path.{_≡_, refl, sym, ap, subst, _∙_}
+use mathlib.Core.Bool.{Bool, true, false}
+use mathlib.Core.List.{List}
+use mathlib.Core.Logic.{_⊎_, inl, inr, _↔_}
+use Prim.Native.Nat.{ℕ, _+_, _≤_, _<_}
+use native.Mathlib.Omega.{arith}
+use borrow.Author.Tests.{eqb-true, eqb-false, ltb-true, ltb-false}
+use lib.Dec.{eqb, ltb}
+use lib.ListN.{length, getD}
+use Rattle.mavlink_frame.specs.Frame.{start}
+use Rattle.mavlink_messages.specs.Messages.{MavlinkAnswer, refused, means, inRange, payloadOf, messageFrame, readDue}
+use Rattle.mavlink_messages.specs.Refusals.{HasHeader, kindNamed, OfKind, MavlinkShort, MavlinkWrongStart, MavlinkUnknownId, MavlinkWrongLength, MavlinkWrongCheck, MavlinkOutsideRange}
+use Rattle.c_mavlink.specs.Readers.{readAs, readNumber, headerLeft, messageLeft, ReadsMavlink}
+use Rattle.c_mavlink.proofs.OneKind.{one-kind}
+use Rattle.thm_c_messages.proofs.Refusals.{writer-refusals}
+use Rattle.demands.specs.LinkedMavlink.{HasMavlinkId, HasAnotherMavlinkId, MavlinkRefusals, MavlinkReaderRefuses, MavlinkWriterRefuses}
+use Rattle.demands.proofs.MessageRefusals.{tabled-mavlink}
+use Rattle.demands.proofs.MavlinkRefusals.{exactly-20, exactly-21, exactly-22, exactly-23, exactly-24, exactly-25}
+
+-- an answer's number, and that it is a refusal
+number-so : (a : MavlinkAnswer) (n : ℕ) → 0 < n → (readNumber a ≡ n) ↔ (a ≡ refused n)
+number-so (refused m) n some = (λ e. ap refused e, λ e. cc)
+number-so (means h used m f) n some = (λ e. absurd (omega arith), λ e. let z : _≡_ {A = ℕ} 0 1 = cc in absurd (omega arith))
+
+module _ (id : ℕ) (input : List ℕ) where
+  -- ---- read as the reader of every kind reads it
+  module _ (same : readAs id input ≡ readDue input) (own : HasMavlinkId id input) where
+    as-every : (n : ℕ) {Condition : Type 0} → 0 < n → (readDue input ≡ refused n) ↔ Condition → (readNumber (readAs id input) ≡ n) ↔ Condition
+    as-every n some so =
+        let a = number-so (readAs id input) n some in
+        (λ e. so .0 (sym same ∙ a .0 e), λ c. a .1 (same ∙ so .1 c))
+
+    with-id : (n : ℕ) {Condition : Type 0} → 0 < n → (readDue input ≡ refused n) ↔ Condition
+        → (readNumber (readAs id input) ≡ n) ↔ (HasMavlinkId id input × Condition)
+    with-id n some so = let a = as-every n some so in (λ e. (own, a .0 e), λ c. a .1 (c .1))
+
+    in-table : (a : MavlinkAnswer) → readDue input ≡ a → (readNumber a ≡ 0) ⊎ ((20 ≤ readNumber a) × (readNumber a ≤ 25))
+    in-table (refused n) e = inr (tabled-mavlink input n e)
+    in-table (means h used m f) e = inl refl
+
+    unknown-id : (MavlinkUnknownId input ⊎ HasAnotherMavlinkId id input) → MavlinkUnknownId input
+    unknown-id (inl u) = u
+    unknown-id (inr o) = absurd (o .1 (own (o .0)))
+
+    as-every-kind : MavlinkRefusals id input (readNumber (readAs id input))
+    as-every-kind =
+        let unknown = as-every 22 (omega arith) (exactly-22 input) in
+        record {
+          refuses20 = with-id 20 (omega arith) (exactly-20 input);
+          refuses21 = as-every 21 (omega arith) (exactly-21 input);
+          refuses22 = (λ e. inl (unknown .0 e), λ c. unknown .1 (unknown-id c));
+          refuses23 = with-id 23 (omega arith) (exactly-23 input);
+          refuses24 = with-id 24 (omega arith) (exactly-24 input);
+          refuses25 = with-id 25 (omega arith) (exactly-25 input);
+          no-other = in-table (readAs id input) (sym same);
+        }
+
+  -- ---- another kind's
+  module _ (there : HasHeader input) (differs : getD input 5 0 ≡ id → ⊥) where
+    not-own : {C : Type 0} → HasMavlinkId id input → C
+    not-own own = absurd (differs (own there))
+
+    as-another : MavlinkRefusals id input 22
+    as-another =
+        record {
+          refuses20 = (λ e. absurd (omega arith), λ c. not-own (c .0));
+          refuses21 = (λ e. absurd (omega arith), λ c. absurd (c .1 (there .0)));
+          refuses22 = (λ e. inr (there, differs), λ c. refl);
+          refuses23 = (λ e. absurd (omega arith), λ c. not-own (c .0));
+          refuses24 = (λ e. absurd (omega arith), λ c. not-own (c .0));
+          refuses25 = (λ e. absurd (omega arith), λ c. not-own (c .0));
+          no-other = inr (omega arith, omega arith);
+        }
+
+  due-refusals : MavlinkRefusals id input (readNumber (readAs id input))
+  due-refusals = go (eqb (getD input 0 0) start) refl (ltb (length input) 6) refl (eqb (getD input 5 0) id) refl
+    where
+      no-header : (HasHeader input → ⊥) → MavlinkRefusals id input (readNumber (readAs id input))
+      no-header none = as-every-kind (one-kind .no-header id input none) (λ h. absurd (none h))
+
+      go : (first : Bool) → eqb (getD input 0 0) start ≡ first → (short : Bool) → ltb (length input) 6 ≡ short
+          → (own : Bool) → eqb (getD input 5 0) id ≡ own → MavlinkRefusals id input (readNumber (readAs id input))
+      go false a short b own c = no-header (λ h. eqb-false _ _ a (h .0))
+      go true a true b own c = no-header (λ h. omega (arith, h .1, ltb-true (length input) 6 b))
+      go true a false b true c =
+          let is = eqb-true _ _ c in
+          as-every-kind (one-kind .own id input is) (λ h. is)
+      go true a false b false c =
+          let there : HasHeader input = (eqb-true _ _ a, ltb-false _ _ b) in
+          let differs = eqb-false _ _ c in
+          subst (λ (x : MavlinkAnswer). MavlinkRefusals id input (readNumber x)) (sym (one-kind .other id input there differs)) (as-another there differs)
+
+-- a refusal leaves both structs
+left : (due : MavlinkAnswer) (header message : List ℕ) → (readNumber due ≡ 0 → ⊥)
+    → (headerLeft header due ≡ header) × (messageLeft message due ≡ message)
+left (refused n) header message some = (refl, refl)
+left (means h used m f) header message some = absurd (some refl)
+
+pub mavlink-reader-refuses : MavlinkReaderRefuses
+mavlink-reader-refuses id input header message headerAfter messageAfter answer call = (
+  subst (λ (n : ℕ). MavlinkRefusals id input n) (sym (call .answers)) (due-refusals id input),
+  λ some.
+      let l = left (readAs id input) header message (λ z. some (call .answers ∙ z)) in
+      (call .leaves-header ∙ l .0, call .leaves-message ∙ l .1),
+)
+
+pub mavlink-writer-refuses : MavlinkWriterRefuses
+mavlink-writer-refuses message header output after given call =
+    writer-refusals 25 (omega arith) (inRange message) (length (payloadOf message) + 8) (messageFrame message header) output given after call

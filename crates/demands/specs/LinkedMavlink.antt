@@ -1,0 +1,49 @@
+-- When each call for C of one kind of MAVLink gives each refusal (document 01, the table's rows 8 and 20 to 25, and "MAVLink tests: no
+-- byte 20; 21; fewer than 6 bytes 20; 22; 23; fewer than length+8 bytes 20; 24; 25"), over what the calls ensure: as the reader of
+-- every kind, and 22 for another kind's message ID too. Assumes nothing.
+use mathlib.Core.Path.{_≡_}
+use mathlib.Core.List.{List}
+use mathlib.Core.Logic.{_⊎_, _↔_}
+use Prim.Native.Nat.{ℕ, _+_, _≤_}
+use lib.ListN.{length, getD}
+use Rattle.refusals.specs.Numbers as because
+use Rattle.output_writing.specs.declared.OstrogoszWritten.{OstrogoszWritten}
+use Rattle.mavlink_frame.specs.declared.Header.{Header}
+use Rattle.mavlink_messages.specs.declared.Message.{Message}
+use Rattle.mavlink_messages.specs.Messages.{inRange, payloadOf, messageFrame}
+use Rattle.mavlink_messages.specs.Refusals.{HasHeader, MavlinkShort, MavlinkWrongStart, MavlinkUnknownId, MavlinkWrongLength, MavlinkWrongCheck, MavlinkOutsideRange}
+use Rattle.c_mavlink.specs.Readers.{readAs, ReadsMavlink}
+use Rattle.c_mavlink.specs.Writers.{WritesMavlinkForC}
+use Rattle.thm_c_messages.specs.Refusals.{WriterRefusals}
+
+-- the message ID, where there is one, is the kind's; or there is one, and it is another's
+abbrev pub HasMavlinkId : ℕ → List ℕ → Type 0
+HasMavlinkId id input = HasHeader input → getD input 5 0 ≡ id
+
+abbrev pub HasAnotherMavlinkId : ℕ → List ℕ → Type 0
+HasAnotherMavlinkId id input = HasHeader input × (getD input 5 0 ≡ id → ⊥)
+
+-- the number that the reader of one kind answers to an input; 0 where it reads a message
+pub record MavlinkRefusals (id : ℕ) (input : List ℕ) (answer : ℕ) : Type 0 where
+  pub refuses20 : (answer ≡ because.mavlinkShort) ↔ (HasMavlinkId id input × MavlinkShort input)
+  pub refuses21 : (answer ≡ because.mavlinkStart) ↔ MavlinkWrongStart input
+  pub refuses22 : (answer ≡ because.mavlinkUnknownId) ↔ (MavlinkUnknownId input ⊎ HasAnotherMavlinkId id input)
+  pub refuses23 : (answer ≡ because.mavlinkLength) ↔ (HasMavlinkId id input × MavlinkWrongLength input)
+  pub refuses24 : (answer ≡ because.mavlinkWrongCheck) ↔ (HasMavlinkId id input × MavlinkWrongCheck input)
+  pub refuses25 : (answer ≡ because.mavlinkField) ↔ (HasMavlinkId id input × MavlinkOutsideRange input)
+  pub no-other : (answer ≡ 0) ⊎ ((20 ≤ answer) × (answer ≤ 25))
+
+-- of every call of a reader, by its kind's message ID; a refusal leaves both structs
+abbrev pub MavlinkReaderRefuses : Type 0
+MavlinkReaderRefuses =
+    (id : ℕ) (input header message headerAfter messageAfter : List ℕ) (answer : ℕ)
+    → ReadsMavlink (readAs id input) header message answer headerAfter messageAfter
+    → MavlinkRefusals id input answer
+    × ((answer ≡ 0 → ⊥) → (headerAfter ≡ header) × (messageAfter ≡ message))
+
+-- of every call of a writer: 25, then 8
+abbrev pub MavlinkWriterRefuses : Type 0
+MavlinkWriterRefuses =
+    (message : Message) (header : Header) (output after : List ℕ) (given : OstrogoszWritten)
+    → WritesMavlinkForC message header output given after
+    → WriterRefusals because.mavlinkField (inRange message) (length (payloadOf message) + 8) (messageFrame message header) output given after
