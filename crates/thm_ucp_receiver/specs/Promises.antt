@@ -10,7 +10,7 @@ use Rattle.crc_polynomial.specs.Polynomial.{Octets}
 use Rattle.crc_gdl90.specs.Check.{frameCheck, frameCheckOctets}
 use Rattle.refusals.specs.Numbers as because
 use Rattle.ucp_frame.specs.Frame.{flag, stuffed, frame, longestBody}
-use Rattle.ucp_frame.specs.Stretch.{unstuffed, Verdict, silent, refused, delivered, storeOctets}
+use Rattle.ucp_frame.specs.Stretch.{unstuffed, Verdict, refused, delivered, storeOctets}
 use Rattle.ucp_history.specs.History.{Call, Segment, cutAtFlags, answer, Account, account}
 use Rattle.ucp_receiver.specs.declared.Counts.{Counts}
 use Rattle.ucp_receiver.specs.declared.Record.{Record}
