@@ -1,11 +1,15 @@
--- The tender's demands 1 to 3, in one place. Each is a statement over what the running functions ensure of a call, or over the
--- definitions that their contracts cite, so it holds of what runs: `WritesFrame` of `ucp_writer::write_frame`, `Receives` of
--- `ucp_receiver::octet::receive` and `Takes` of `receive_slice`; of the messages `Reads`, `WritesBody` and `Sends` (ucp_messages,
--- ucp_answers, ucp_send); of MAVLink `readDue` and `writeDue` (mavlink_messages). Of what C and Rust link: the clauses named
--- `linked..` are over the contracts of `ostrogosz_ucp_start`, `ostrogosz_ucp_receive`, `ostrogosz_ucp_receive_slice` and
--- `ostrogosz_ucp_write_frame`, so that what is said of lines and of the frame writer holds of these calls. That every call on every
--- input returns, with no undefined step, is what proving a Rattle function means; no call for C or Rust, and none that is named
--- here, asks anything of its caller. Proved in proofs/Demands.antt. Assumes nothing.
+-- The tender's demands 1 to 3, in one place. Each is a statement over what functions ensure of a call, or over the definitions that
+-- their contracts cite. Of what C and Rust link, the clauses named `linked..` and `lent..` are over the contracts of
+-- `ostrogosz_ucp_start`, `ostrogosz_ucp_receive`, `ostrogosz_ucp_receive_slice` and `ostrogosz_ucp_write_frame`; of
+-- `ostrogosz_ucp_read_id` and, for every kind, `ostrogosz_ucp_read_..`, `ostrogosz_ucp_write_..`, `ostrogosz_ucp_send_..`; of
+-- `ostrogosz_mavlink_read_..` and `ostrogosz_mavlink_write_..` for every kind. The other clauses are over public functions of the Rattle
+-- crates, of which the programs call some: `WritesFrame` of `ucp_writer::write_frame`, `Receives` of `ucp_receiver::octet::receive` and
+-- `Takes` of `receive_slice`; `Reads`, `WritesBody` and `Sends` of messages (ucp_messages, ucp_answers, ucp_send); `readDue` and
+-- `writeDue` of MAVLink (mavlink_messages). No clause speaks of `ostrogosz_ucp_frame_check`, the meanings in feet and degrees,
+-- `ostrogosz_mavlink_read_id`, `ostrogosz_mavlink_count_failures` and the interface's number: the tender says nothing of them besides
+-- that they return, and their contracts fix their answers. That every call on every input returns, with no undefined step, is what
+-- proving a Rattle function means; no call for C or Rust, and none that is named here, asks anything of its caller. Proved in
+-- proofs/Demands.antt. Assumes nothing.
 use mathlib.Core.Path.{_≡_}
 use mathlib.Core.Bool.{true, false}
 use mathlib.Core.List.{List, [], _∷_, _++_, map}
@@ -90,9 +94,9 @@ FrameWriterRefuses body output number =
 -- step": see above. The calls that are linked are the others in C's numbers, so that what is said of lines and of the writer holds
 -- of them.
 pub record Demand1 : Type 0 where
-  -- "Bad input gets a numbered refusal under the conditions in document 01, and no others": the numbers; the frame writer; then the
-  -- readers and writers of messages, whose conditions are spelled in their rooms' specs/Refusals.antt; then the receiver, whose
-  -- conditions are `answersByHistory` of demand 2
+  -- "Bad input gets a numbered refusal under the conditions in document 01, or in a later change that adds to them, and no others": the
+  -- numbers; the frame writer; then the readers and writers of messages, whose conditions are spelled in their rooms'
+  -- specs/Refusals.antt; then the receiver, whose conditions are `answersByHistory` of demand 2
   pub numbers : TableNumbers
   pub writerRefuses7 :
       (body output after : List ℕ) (r : Written) → WritesFrame body output r after
@@ -104,7 +108,7 @@ pub record Demand1 : Type 0 where
   pub writerRefuses :
       (body output after : List ℕ) (r : Written) (number : ℕ) → WritesFrame body output r after → writerAnswer r ≡ refused number
       → ((number ≡ because.bodyLength) ⊎ (number ≡ because.outputLength)) × (after ≡ output)
-  -- "A refusal changes no byte of the lent output", whichever writer gives it
+  -- "A refusal changes no byte of the lent output": of writers, whatever they write; of the others each clause says it beside
   pub refusalWritesNothing :
       (due : WriterAnswer) (octets output after : List ℕ) (r : Written) (number : ℕ) → Writing due octets output r after
       → writerAnswer r ≡ refused number → after ≡ output
