@@ -173,9 +173,11 @@ int main(int argc, char **argv)
 {
     static char lister[] = "target/bin/line_lister",
                 explainer[] = "target/bin/line_explainer",
-                mavlink[] = "target/bin/mavlink_explainer", cat[] = "/bin/cat";
+                mavlink[] = "target/bin/mavlink_explainer", dd[] = "/bin/dd",
+                quietly[] = "status=none";
     char *const lists[] = {lister, NULL}, *const explains[] = {explainer, NULL};
-    char *const of_mavlink[] = {mavlink, NULL}, *const copies[] = {cat, NULL};
+    char *const of_mavlink[] = {mavlink, NULL};
+    char *const copies[] = {dd, quietly, NULL};
     if (argc > 1) {
         try_program(argv + 1, put_ucp, 1);
         return finish();

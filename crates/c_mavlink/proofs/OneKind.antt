@@ -1,5 +1,5 @@
 -- The readers of one kind and the reader of every kind. Assumes nothing.
-use mathlib.Core.Path.{_≡_, refl, sym, ap, ap₂, _∙_}
+use mathlib.Core.Path.{_≡_, refl, sym, ap, _∙_}
 use mathlib.Core.Bool.{Bool, true, false, cond, not, _&&_}
 use mathlib.Core.List.{List}
 use Prim.Native.Nat.{ℕ, _+_, _-_}
@@ -12,7 +12,7 @@ use Rattle.mavlink_frame.specs.declared.Header.{Header}
 use Rattle.mavlink_frame.specs.Frame.{start}
 use Rattle.mavlink_frame.specs.Reader as found-as
 use Rattle.mavlink_frame.specs.Reader.{FrameAnswer, payloadAt, found}
-use Rattle.mavlink_frame.proofs.reader.Accepted.{Accepted, accepted}
+use Rattle.mavlink_frame.proofs.reader.Accepted.{accepted}
 use Rattle.mavlink_messages.specs.declared.Message.{Message}
 use Rattle.mavlink_messages.specs.declared.Message.the-variants.{DataStream, Static, Dynamic, Status, Traffic}
 use Rattle.mavlink_messages.specs.DataStream66.{dataStreamFormat}

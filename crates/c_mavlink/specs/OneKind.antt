@@ -1,7 +1,7 @@
 -- How the readers of one kind stand to the reader of every kind, which the explainer and the demands speak of. Assumes nothing.
 use mathlib.Core.Path.{_≡_}
 use mathlib.Core.List.{List}
-use Prim.Native.Nat.{ℕ, _+_}
+use Prim.Native.Nat.{ℕ}
 use lib.ListN.{getD}
 use Rattle.refusals.specs.Numbers as because
 use Rattle.mavlink_frame.specs.declared.Header.{Header}

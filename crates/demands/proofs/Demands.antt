@@ -22,7 +22,10 @@ use Rattle.ucp_writer.specs.Sends.{sendDue}
 use Rattle.refusals.specs.Numbers as because
 use Rattle.ucp_receiver.specs.declared.Answer.the-variants.{Nothing}
 use Rattle.c_ucp_receiver.specs.Numbers.{restIn, answerIn, answerValue}
+use Rattle.thm_mavlink_messages.proofs.Tabled.{tabled-mavlink}
 use Rattle.thm_mavlink_messages.proofs.RoundTrips as mavlink-trips
+use Rattle.thm_c_mavlink.proofs.ReadBack.{lent-mavlink-reads-back}
+use Rattle.thm_c_mavlink.proofs.WriteBack.{lent-mavlink-writes-back}
 use Rattle.thm_c_messages.proofs.EachKind.{lent-round-trips, lent-sent-is-delivered}
 use Rattle.thm_c_messages.proofs.Refusals.{lent-refusals, id-refuses}
 use Rattle.thm_c_messages.proofs.Tests.{no}
@@ -32,7 +35,7 @@ use Rattle.thm_ucp_messages.proofs.ReadTyped.{read-is-typed}
 use Rattle.thm_ucp_messages.proofs.WriteBack as message-write
 use Rattle.ucp_messages.specs.Messages.{messageFits, messageBody}
 use Rattle.ucp_messages.specs.Kinds.{kindIn}
-use Rattle.demands.proofs.MessageRefusals.{tabled-message, message-refused, mavlink-refused, tabled-mavlink}
+use Rattle.demands.proofs.MessageRefusals.{tabled-message, message-refused, mavlink-refused}
 use Rattle.demands.proofs.ReaderRefusals as messages
 use Rattle.demands.proofs.MavlinkRefusals as mavlink
 use Rattle.demands.proofs.LinkedMavlink.{mavlink-reader-refuses, mavlink-writer-refuses}
@@ -224,6 +227,8 @@ demand2 =
       mavlinkReadsBack = mavlink-trips.written-reads-back;
       mavlinkWritesBack = mavlink-trips.accepted-writes-back;
       mavlinkReadIsTyped = mavlink-trips.read-is-typed;
+      lentMavlinkReadsBack = lent-mavlink-reads-back;
+      lentMavlinkWritesBack = lent-mavlink-writes-back;
     }
 
 receiver-lists : ReceiverLists

@@ -11,12 +11,12 @@ use lib.Dec.{eqb, ltb}
 use lib.ListN.{length, getD}
 use Rattle.mavlink_frame.specs.Frame.{start}
 use Rattle.mavlink_messages.specs.Messages.{MavlinkAnswer, refused, means, inRange, payloadOf, messageFrame, readDue}
-use Rattle.mavlink_messages.specs.Refusals.{HasHeader, kindNamed, OfKind, MavlinkShort, MavlinkWrongStart, MavlinkUnknownId, MavlinkWrongLength, MavlinkWrongCheck, MavlinkOutsideRange}
-use Rattle.c_mavlink.specs.Readers.{readAs, readNumber, headerLeft, messageLeft, ReadsMavlink}
+use Rattle.mavlink_messages.specs.Refusals.{HasHeader, MavlinkUnknownId}
+use Rattle.thm_mavlink_messages.proofs.Tabled.{tabled-mavlink}
+use Rattle.c_mavlink.specs.Readers.{readAs, readNumber, headerLeft, messageLeft}
 use Rattle.c_mavlink.proofs.OneKind.{one-kind}
 use Rattle.thm_c_messages.proofs.Refusals.{writer-refusals}
 use Rattle.demands.specs.LinkedMavlink.{HasMavlinkId, HasAnotherMavlinkId, MavlinkRefusals, MavlinkReaderRefuses, MavlinkWriterRefuses}
-use Rattle.demands.proofs.MessageRefusals.{tabled-mavlink}
 use Rattle.demands.proofs.MavlinkRefusals.{exactly-20, exactly-21, exactly-22, exactly-23, exactly-24, exactly-25}
 
 -- an answer's number, and that it is a refusal

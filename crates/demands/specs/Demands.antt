@@ -3,9 +3,10 @@
 -- `ucp_receiver::octet::receive` and `Takes` of `receive_slice`; of the messages `Reads`, `WritesBody` and `Sends` (ucp_messages,
 -- ucp_answers, ucp_send); of MAVLink `readDue` and `writeDue` (mavlink_messages). Of what C and Rust link: the clauses named
 -- `linked..` are over the contracts of `ostrogosz_ucp_start`, `ostrogosz_ucp_receive`, `ostrogosz_ucp_receive_slice` and
--- `ostrogosz_ucp_write_frame`, so that what is said of lines and of the frame writer holds of these calls. That every call on every
--- input returns, with no undefined step, is what proving a Rattle function means; no call for C or Rust, and none that is named
--- here, asks anything of its caller. Proved in proofs/Demands.antt. Assumes nothing.
+-- `ostrogosz_ucp_write_frame`, so that what is said of lines and of the frame writer holds of these calls; and over those of the
+-- calls for one kind of message and for a body's ID (c_lent, c_ucp_uplink, c_ucp_ids, c_mavlink). That every call on every input
+-- returns, with no undefined step, is what proving a Rattle function means; no call for C or Rust, and none that is named here, asks
+-- anything of its caller. Proved in proofs/Demands.antt. Assumes nothing.
 use mathlib.Core.Path.{_≡_}
 use mathlib.Core.Bool.{true, false}
 use mathlib.Core.List.{List, [], _∷_, _++_, map}
@@ -29,6 +30,7 @@ use Rattle.mavlink_messages.specs.Messages as MavlinkReads
 use Rattle.mavlink_messages.specs.Messages.{readDue, writeDue, messageFrame, inRange, payloadOf}
 use Rattle.mavlink_messages.specs.Refusals.{MavlinkShort, MavlinkWrongStart, MavlinkUnknownId, MavlinkWrongLength, MavlinkWrongCheck, MavlinkOutsideRange}
 use Rattle.thm_mavlink_messages.specs.RoundTrips as mavlink-trips
+use Rattle.thm_c_mavlink.specs.RoundTrips.{LentMavlinkReadsBack, LentMavlinkWritesBack}
 use Rattle.thm_c_messages.specs.RoundTrips.{LentRoundTrips}
 use Rattle.thm_c_messages.specs.Delivery.{LentSentIsDelivered}
 use Rattle.thm_c_messages.specs.Refusals.{LentRefusals, IdRefuses}
@@ -255,6 +257,10 @@ pub record Demand2 : Type 0 where
   pub mavlinkReadsBack : mavlink-trips.MavlinkReadsBack
   pub mavlinkWritesBack : mavlink-trips.MavlinkWritesBack
   pub mavlinkReadIsTyped : mavlink-trips.MavlinkReadIsTyped
+  -- of the calls that C links for one kind, `ostrogosz_mavlink_read_..` and `ostrogosz_mavlink_write_..`, by `ReadsMavlink` and
+  -- `WritesMavlinkForC` (c_mavlink)
+  pub lentMavlinkReadsBack : LentMavlinkReadsBack
+  pub lentMavlinkWritesBack : LentMavlinkWritesBack
 
 -- The receiver's part of demand 3, one claim about whole lists: from a fresh receiver every call answers as the rules say, and
 -- where the list ends in the frame carrying one of two such bodies with the other's check, the last call answers 5.

@@ -14,11 +14,8 @@ use Rattle.output_writing.specs.declared.OstrogoszWritten.{OstrogoszWritten}
 use Rattle.output_writing.specs.Writing.{WriterAnswer, refused, wrote, outputAfter, writtenNumbers, WritingNumbers}
 use Rattle.ucp_answers.specs.Writes.{bodyDue}
 use Rattle.ucp_frame.specs.Frame.{frame}
-use Rattle.ucp_frame.specs.Stretch.{delivered}
 use Rattle.ucp_writer.specs.Sends.{sendDue}
 use Rattle.ucp_writer.proofs.room.Due.{refused-so}
-use Rattle.thm_ucp_receiver.specs.Line.{Observed}
-use Rattle.thm_ucp_receiver.specs.Promises.{AnswersAs}
 use Rattle.c_lent.specs.Reads.{hasId, refusalAs, FillsStruct}
 
 -- ---- a writer's call
@@ -72,10 +69,6 @@ module _ (fits : Bool) (body buffer : List ℕ) (w : OstrogoszWritten) where
   sent-accepted call none =
       let e = sent-as (sendDue fits body buffer) refl (call .answers) none in
       (e, call .leaves ∙ ap (outputAfter (frame body) buffer) e)
-
--- the octets that a call delivered
-pub put-out : (body : List ℕ) (o : Observed) → AnswersAs (delivered body) o → take (length body) (o .outputThen) ≡ body
-put-out body o a = ap (take (length body)) (a .puts) ∙ take-append-seam body (drop (length body) (o .output))
 
 -- ---- a reader's call
 -- no refusal is due, and then the struct is filled

@@ -35,10 +35,10 @@ use Rattle.c_ucp_control.proofs.Agree.{control-struct-right}
 use Rattle.c_ucp_initialization.specs.Struct.{initializationStruct}
 use Rattle.c_ucp_initialization.proofs.Agree.{initialization-struct-right}
 use Rattle.c_ucp_uplink.specs.Uplink.{ReadsUplink}
-use Rattle.thm_ucp_messages.proofs.Delivery.{sent-body}
+use Rattle.thm_ucp_messages.proofs.Delivery.{sent-body, put-out}
 use Rattle.thm_c_messages.specs.RoundTrips.{UplinkRoundTrips, LentRoundTrips}
 use Rattle.thm_c_messages.specs.Delivery.{UplinkSentIsDelivered, LentSentIsDelivered}
-use Rattle.thm_c_messages.proofs.Accepted.{accepted, writes, sent-accepted, put-out, fills, of-kind, kind-of}
+use Rattle.thm_c_messages.proofs.Accepted.{accepted, writes, sent-accepted, fills, of-kind, kind-of}
 use Rattle.thm_c_messages.proofs.Structs.{SameValues, struct-round-trips, struct-sent-is-delivered}
 
 -- ---- what a writer tested, one by one

@@ -13,10 +13,10 @@ use Rattle.ucp_answers.proofs.RoundTrips.{none-due, body-accepted, accepted-wri
 use Rattle.c_lent.specs.Structs.{Struct, RightStruct, structColumns, structRowOf, structSize, stored, held, TypedIn}
 use Rattle.c_lent.proofs.Structs.{held-stored, held-typed}
 use Rattle.c_lent.specs.Reads.{ReadsInto}
-use Rattle.thm_ucp_messages.proofs.Delivery.{sent-body}
+use Rattle.thm_ucp_messages.proofs.Delivery.{sent-body, put-out}
 use Rattle.thm_c_messages.specs.RoundTrips.{StructReadsBack, StructWritesBack, StructRoundTrips}
 use Rattle.thm_c_messages.specs.Delivery.{StructSentIsDelivered}
-use Rattle.thm_c_messages.proofs.Accepted.{accepted, writes, sent-accepted, put-out, fills, of-kind, kind-of}
+use Rattle.thm_c_messages.proofs.Accepted.{accepted, writes, sent-accepted, fills, of-kind, kind-of}
 use borrow.Author.Tests.{eqb-true}
 
 -- a kind's format and its struct are right, and of the same values

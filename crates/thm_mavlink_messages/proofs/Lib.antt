@@ -1,3 +1,4 @@
 pub mod Examples
 pub mod Frames
 pub mod RoundTrips
+pub mod Tabled

@@ -18,7 +18,8 @@ use Rattle.mavlink_frame.specs.declared.Header.{Header}
 use Rattle.mavlink_frame.specs.Frame as kinds-as
 use Rattle.mavlink_frame.specs.Reader as found-as
 use Rattle.mavlink_frame.specs.Frame.{kind, mavlinkKind, mavlinkFrame}
-use Rattle.mavlink_frame.specs.Reader.{FrameAnswer, payloadAt, found}
+use Rattle.mavlink_frame.specs.Reader.{FrameAnswer, headerAt, payloadAt, found}
+use Rattle.mavlink_messages.specs.Refusals.{HasHeader}
 use Rattle.mavlink_frame.specs.Writer.{roomFor, frameBy}
 use Rattle.mavlink_frame.proofs.reader.Accepted.{Accepted, accepted}
 use Rattle.mavlink_messages.specs.Failures.{FailureAnswer}
@@ -236,3 +237,14 @@ read-is-typed s h used m f o e = go (found s) refl e
     go : (l : FrameAnswer) → found s ≡ l → readBy l s ≡ read-as.means h used m f → MavlinkTyped m
     go (found-as.refused number) q d = let z : _≡_ {A = ℕ} 0 1 = cc in absurd (omega arith)
     go (found-as.frame id h₀ used₀) q d = is-carried s h used m f o id h₀ used₀ (accepted s id h₀ used₀ q) d .typed
+
+-- ---- its header is that of the frame, which is there
+pub header-read : (s : List ℕ) (h : Header) (used : ℕ) (m : Message) (f : FailureAnswer) → Octets s → readDue s ≡ read-as.means h used m f
+    → (h ≡ headerAt s) × HasHeader s
+header-read s h used m f o e = go (found s) refl e
+  where
+    go : (l : FrameAnswer) → found s ≡ l → readBy l s ≡ read-as.means h used m f → (h ≡ headerAt s) × HasHeader s
+    go (found-as.refused number) q d = let z : _≡_ {A = ℕ} 0 1 = cc in absurd (omega arith)
+    go (found-as.frame id h₀ used₀) q d =
+        let a = accepted s id h₀ used₀ q in
+        (sym (is-carried s h used m f o id h₀ used₀ a d .header) ∙ a .header, (a .starts, omega (arith, a .ends, a .room)))

@@ -6,7 +6,7 @@ use Prim.Native.Nat.{ℕ, _≤_}
 use native.Mathlib.Omega.{arith}
 use borrow.Author.Tests.{le-ltb}
 use lib.ListN.{length, take, drop}
-use lib.Seq.{take-at}
+use lib.Seq.{take-at, take-append-seam}
 use Rattle.ucp_frame.specs.Frame.{frame, longestBody}
 use Rattle.ucp_frame.specs.Stretch.{delivered}
 use Rattle.ucp_writer.specs.Room.{frameDue}
@@ -15,7 +15,7 @@ use Rattle.thm_ucp_messages.proofs.ReadBack.{body-means}
 use Rattle.thm_ucp_receiver.specs.Line.{Observed, upTo, Line}
 use Rattle.thm_ucp_receiver.specs.Promises.{AnswersAs, EndsIn, frameAnswer}
 use Rattle.thm_ucp_receiver.proofs.Frames.{frame-is-put-out, put-out-is-frame}
-use Rattle.ucp_messages.specs.Messages.{messageFits, messageBody}
+use Rattle.ucp_messages.specs.Messages.{messageDue, messageFits, messageBody}
 use Rattle.ucp_writer.specs.Sends.{sendDue}
 use Rattle.output_writing.specs.Writing.{wrote, outputAfter}
 use Rattle.thm_ucp_messages.specs.Delivery.{SentIsDelivered, DeliveredWritesBack}
@@ -42,10 +42,14 @@ sent-body fits body buffer {after} {octets} e leaves before later o line ends ro
     (rw (← whole) ends) in
     (p .0, rw (le-ltb (length (o .output)) (length body) (omega (arith, a .most, room))) at heard)
 
+-- the octets that a call delivered
+pub put-out : (body : List ℕ) (o : Observed) → AnswersAs (delivered body) o → take (length body) (o .outputThen) ≡ body
+put-out body o a = ap (take (length body)) (a .puts) ∙ take-append-seam body (drop (length body) (o .output))
+
 pub sent-is-delivered : SentIsDelivered
 sent-is-delivered m payload buffer after r octets t s e before later o line ends room =
     let d = sent-body (messageFits m payload) (messageBody m payload) buffer (sym (s .answers) ∙ e) (s .leaves ∙ ap (outputAfter (frame (messageBody m payload)) buffer) e) before later o line ends room in
-    (d .1, body-means m payload t (d .0))
+    (d .1, λ given reading. reading ∙ ap messageDue (put-out (messageBody m payload) o (d .1)) ∙ body-means m payload t (d .0))
 
 pub delivered-writes-back : DeliveredWritesBack
 delivered-writes-back before after o octets line e output then w call =

@@ -2,8 +2,10 @@
 //! Rust: `cargo run --release -p bench`. Prints one table; a ratio says how many
 //! times as fast ours is, by the best of many turns on the same input.
 
-#![forbid(unsafe_code)]
+#![deny(unsafe_code)]
 
+mod best;
+mod best_rows;
 mod check;
 mod lister;
 mod lister_rows;
@@ -29,5 +31,7 @@ fn main() -> std::io::Result<()> {
     receiver_rows::print();
     messages_rows::print();
     mavlink_rows::print();
-    lister_rows::print()
+    lister_rows::print()?;
+    best_rows::print();
+    Ok(())
 }

@@ -1,5 +1,5 @@
 -- `c_mavlink::dynamic::ostrogosz_mavlink_read_dynamic` meets its contract, test by test. Assumes nothing.
-use mathlib.Core.Path.{_≡_, refl, _∙_}
+use mathlib.Core.Path.{refl, _∙_}
 use Prim.Native.Nat.{_≤_}
 use native.Mathlib.Omega.{arith}
 use denote.Ref.{now}

@@ -1,5 +1,4 @@
 -- `c_mavlink::frames::is_other` meets its contract. Assumes nothing.
-use mathlib.Core.Path.{refl}
 use borrow.Author.Tests.{lt-leb, le-leb}
 use borrow.Author.Needs.{needs}
 use Rattle.c_mavlink.proofs.frames.is_other.Statement.{statement}

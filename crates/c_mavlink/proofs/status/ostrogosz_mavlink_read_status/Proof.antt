@@ -1,5 +1,5 @@
 -- `c_mavlink::status::ostrogosz_mavlink_read_status` meets its contract, test by test. Assumes nothing.
-use mathlib.Core.Path.{_≡_, refl}
+use mathlib.Core.Path.{refl}
 use Prim.Native.Nat.{_≤_}
 use native.Mathlib.Omega.{arith}
 use denote.Ref.{now}

@@ -1,10 +1,9 @@
 -- `mavlink_frame::writer::fill` meets its contract: the payload is put, and then what is around it. Assumes nothing.
-use mathlib.Core.Path.{_≡_, sym, ap, ap₂, _∙_}
+use mathlib.Core.Path.{sym, ap₂, _∙_}
 use mathlib.Core.List.{List, _++_}
 use Prim.Native.Nat.{ℕ, _+_}
-use native.Mathlib.Omega.{arith}
 use denote.Ref.{now}
-use lib.ListN.{length, drop}
+use lib.ListN.{drop}
 use Rattle.mavlink_frame.specs.Frame.{mavlinkFrame}
 use Rattle.mavlink_frame.specs.Reader.{payloadAt}
 use Rattle.mavlink_frame.proofs.writer.Put.{payload-pasted, behind-pasted}
