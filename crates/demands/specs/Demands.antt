@@ -64,7 +64,7 @@ use Rattle.c_ucp_receiver.specs.Numbers.{ReceivesNumbers}
 use Rattle.thm_c_ucp.specs.Receiver.{LinkedLines, LinkedAnswersByHistory, LinkedCountsByHistory, LinkedStoreByHistory, LinkedFlagClears, LinkedLaterOnly, LinkedPutOutIsFrame, LinkedFrameIsPutOut, LinkedReceiverLists}
 use Rattle.thm_c_ucp.specs.Slices.{LinkedSliceLines, LinkedSliceIsCall}
 use Rattle.thm_c_ucp.specs.Writer.{LinkedWriter, LinkedWriterLists}
-use Rattle.demands.specs.LinkedMavlink.{MavlinkReaderRefuses, MavlinkWriterRefuses}
+use Rattle.demands.specs.LinkedMavlink.{MavlinkReaderRefuses, MavlinkWriterRefuses, MavlinkIdRefuses}
 use Rattle.thm_ucp_receiver.specs.Promises.{AnswersAs, AnswersByHistory, StretchIsAnswered, CountsByHistory, EveryOctetCounted, StoreClean, StoreByHistory, HuntingStoresNothing, FlagClears, LaterOnly, PutOutIsFrame, FrameIsPutOut, EndsIn, carrying}
 
 -- The numbers that stand behind the refusals' names are those of document 01's table.
@@ -202,6 +202,7 @@ pub record Demand1 : Type 0 where
   -- and of those for one kind of MAVLink
   pub linkedMavlinkReadersRefuse : MavlinkReaderRefuses
   pub linkedMavlinkWritersRefuse : MavlinkWriterRefuses
+  pub linkedMavlinkIdRefuses : MavlinkIdRefuses
   pub linkedFlagClears : LinkedFlagClears
   pub linkedStoreByHistory : LinkedStoreByHistory
   pub linkedLaterOnly : LinkedLaterOnly
