@@ -38,7 +38,7 @@ use Rattle.ucp_messages.specs.Kinds.{kindIn}
 use Rattle.demands.proofs.MessageRefusals.{tabled-message, message-refused, mavlink-refused}
 use Rattle.demands.proofs.ReaderRefusals as messages
 use Rattle.demands.proofs.MavlinkRefusals as mavlink
-use Rattle.demands.proofs.LinkedMavlink.{mavlink-reader-refuses, mavlink-writer-refuses}
+use Rattle.demands.proofs.LinkedMavlink.{mavlink-reader-refuses, mavlink-writer-refuses, mavlink-id-refuses}
 use Rattle.ucp_writer.proofs.room.Due.{refused-so, refused-7, refused-8, due-accepted}
 use Rattle.ucp_receiver.specs.Answers as receiver-answers
 use Rattle.ucp_receiver.specs.Answers.{nothing, refusal, answerFor}
@@ -193,6 +193,7 @@ demand1 =
       linkedIdRefuses = id-refuses;
       linkedMavlinkReadersRefuse = mavlink-reader-refuses;
       linkedMavlinkWritersRefuse = mavlink-writer-refuses;
+      linkedMavlinkIdRefuses = mavlink-id-refuses;
       linkedFlagClears = linked-flag-clears;
       linkedSliceFlagClears = linked-slice-flag-clears;
       linkedStoreByHistory = linked-store;

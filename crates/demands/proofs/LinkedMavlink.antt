@@ -1,23 +1,27 @@
 -- Each call for C of one kind of MAVLink gives each refusal exactly when it is due: as the reader of every kind does, where the
 -- message ID is the kind's or is not there. Assumes nothing.
 use mathlib.Core.Path.{_≡_, refl, sym, ap, subst, _∙_}
-use mathlib.Core.Bool.{Bool, true, false}
+use mathlib.Core.Bool.{Bool, true, false, cond}
 use mathlib.Core.List.{List}
 use mathlib.Core.Logic.{_⊎_, inl, inr, _↔_}
-use Prim.Native.Nat.{ℕ, _+_, _≤_, _<_}
+use Prim.Native.Nat.{ℕ, zero, suc, _+_, _≤_, _<_}
 use native.Mathlib.Omega.{arith}
-use borrow.Author.Tests.{eqb-true, eqb-false, ltb-true, ltb-false}
+use borrow.Author.Tests.{eqb-true, eqb-false, ne-eqb, ltb-true, ltb-false}
 use lib.Dec.{eqb, ltb}
 use lib.ListN.{length, getD}
 use Rattle.mavlink_frame.specs.Frame.{start}
-use Rattle.mavlink_messages.specs.Messages.{MavlinkAnswer, refused, means, inRange, payloadOf, messageFrame, readDue}
-use Rattle.mavlink_messages.specs.Refusals.{HasHeader, kindNamed, OfKind, MavlinkShort, MavlinkWrongStart, MavlinkUnknownId, MavlinkWrongLength, MavlinkWrongCheck, MavlinkOutsideRange}
-use Rattle.c_mavlink.specs.Readers.{readAs, readNumber, headerLeft, messageLeft, ReadsMavlink}
+use Rattle.mavlink_frame.specs.Reader as found-as
+use Rattle.mavlink_frame.specs.Reader.{FrameAnswer, found}
+use Rattle.mavlink_messages.specs.Messages.{MavlinkAnswer, refused, means, inRange, payloadOf, messageFrame, readBy, readDue}
+use Rattle.mavlink_messages.specs.Refusals.{HasHeader, MavlinkUnknownId}
+use Rattle.thm_mavlink_messages.proofs.Tabled.{tabled-mavlink}
+use Rattle.c_mavlink.specs.Readers.{readAs, readNumber, headerLeft, messageLeft}
+use Rattle.c_mavlink.specs.declared.OstrogoszMavlinkId.{OstrogoszMavlinkId}
+use Rattle.c_mavlink.specs.Ids.{refusalBeforeCheck, idNumbers}
 use Rattle.c_mavlink.proofs.OneKind.{one-kind}
 use Rattle.thm_c_messages.proofs.Refusals.{writer-refusals}
-use Rattle.demands.specs.LinkedMavlink.{HasMavlinkId, HasAnotherMavlinkId, MavlinkRefusals, MavlinkReaderRefuses, MavlinkWriterRefuses}
-use Rattle.demands.proofs.MessageRefusals.{tabled-mavlink}
-use Rattle.demands.proofs.MavlinkRefusals.{exactly-20, exactly-21, exactly-22, exactly-23, exactly-24, exactly-25}
+use Rattle.demands.specs.LinkedMavlink.{HasMavlinkId, HasAnotherMavlinkId, MavlinkRefusals, MavlinkReaderRefuses, MavlinkWriterRefuses, MavlinkIdRefuses}
+use Rattle.demands.proofs.MavlinkRefusals.{frame-never-25, found-then-25, exactly-20, exactly-21, exactly-22, exactly-23, exactly-24, exactly-25}
 
 -- an answer's number, and that it is a refusal
 number-so : (a : MavlinkAnswer) (n : ℕ) → 0 < n → (readNumber a ≡ n) ↔ (a ≡ refused n)
@@ -109,3 +113,52 @@ mavlink-reader-refuses id input header message headerAfter messageAfter answer c
 pub mavlink-writer-refuses : MavlinkWriterRefuses
 mavlink-writer-refuses message header output after given call =
     writer-refusals 25 (omega arith) (inRange message) (length (payloadOf message) + 8) (messageFrame message header) output given after call
+
+-- ---- the call for the message ID
+numbered : (n : ℕ) (input : List ℕ) → idNumbers n input .refusal ≡ n
+numbered zero input = refl
+numbered (suc n) input = refl
+
+module _ (input : List ℕ) where
+  -- before the check is looked at, as the reader of every kind
+  before-check : (l : FrameAnswer) → found input ≡ l → (n : ℕ) → 20 ≤ n → n ≤ 23 → (refusalBeforeCheck l ≡ n) ↔ (readDue input ≡ refused n)
+  before-check (found-as.refused m) e n least most =
+      (λ h. d ∙ ap refused (go (eqb m 24) refl h), λ h. let same : m ≡ n = cc in rw (ne-eqb m 24 (λ z. omega (arith, z, same))) same)
+    where
+      d : readDue input ≡ refused m
+      d = ap (λ f. readBy f input) e
+
+      go : (wrong : Bool) → eqb m 24 ≡ wrong → cond wrong 0 m ≡ n → m ≡ n
+      go true w h = absurd (omega arith)
+      go false w h = h
+  before-check (found-as.frame id h used) e n least most =
+      (λ z. absurd (omega arith), λ r. let m = found-then-25 input id h used n e r in absurd (omega (arith, m)))
+
+  to-23 : (l : FrameAnswer) → found input ≡ l → (refusalBeforeCheck l ≡ 0) ⊎ ((20 ≤ refusalBeforeCheck l) × (refusalBeforeCheck l ≤ 23))
+  to-23 (found-as.refused m) e = go (eqb m 24) refl
+    where
+      t : (20 ≤ m) × (m ≤ 25)
+      t = tabled-mavlink input m (ap (λ f. readBy f input) e)
+
+      never : m ≡ 25 → ⊥
+      never z = frame-never-25 input (e ∙ ap found-as.refused z)
+
+      go : (wrong : Bool) → eqb m 24 ≡ wrong → (cond wrong 0 m ≡ 0) ⊎ ((20 ≤ cond wrong 0 m) × (cond wrong 0 m ≤ 23))
+      go true w = inl refl
+      go false w = inr (t .0, omega (arith, t .1, never, eqb-false m 24 w))
+  to-23 (found-as.frame id h used) e = inl refl
+
+pub mavlink-id-refuses : MavlinkIdRefuses
+mavlink-id-refuses input given e =
+    let r : given .refusal ≡ refusalBeforeCheck (found input) = ap (λ (o : OstrogoszMavlinkId). o .refusal) e ∙ numbered _ input in
+    let b = before-check input (found input) refl in
+    rw r (
+      chained (b 20 (omega arith) (omega arith)) (exactly-20 input),
+      chained (b 21 (omega arith) (omega arith)) (exactly-21 input),
+      chained (b 22 (omega arith) (omega arith)) (exactly-22 input),
+      chained (b 23 (omega arith) (omega arith)) (exactly-23 input),
+      to-23 input (found input) refl,
+    )
+  where
+    chained : {A B C : Type 0} → A ↔ B → B ↔ C → A ↔ C
+    chained p q = (λ a. q .0 (p .0 a), λ c. p .1 (q .1 c))

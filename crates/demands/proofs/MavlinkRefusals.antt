@@ -14,6 +14,7 @@ use Rattle.mavlink_frame.specs.declared.Header.{Header}
 use Rattle.mavlink_frame.specs.Reader as found-as
 use Rattle.mavlink_frame.specs.Frame.{start, KindAnswer, known, unknown, mavlinkKind}
 use Rattle.mavlink_frame.specs.Reader.{headerAt, payloadAt, checkAt, checkDue, foundOf, foundBy, found}
+use Rattle.mavlink_frame.proofs.reader.Accepted.{accepted}
 use Rattle.mavlink_messages.specs.declared.Message.{Message}
 use Rattle.mavlink_messages.specs.declared.Message.the-variants as kinds
 use Rattle.mavlink_messages.specs.Messages as read-as
@@ -214,6 +215,25 @@ short s (inl z) = rw (eq-eqb (length s) 0 z)
 short s (inr (inl c)) =
     rw (ne-eqb (length s) 0 (λ e. omega (arith, c .0)), eq-eqb (getD s 0 0) start (c .1), lt-ltb (length s) 6 (c .2))
 short s (inr (inr c)) = read s (c .0) (by-20 (kindNamed s) s (c .1))
+
+-- ---- what the frame alone refuses with: not with 25; and a frame that is found is refused with nothing else
+module _ (s : List ℕ) where
+  never-25 : (l : KindAnswer) → OfKind (λ k. HasFrame s k × HasRightCheck s k × OutsideRange s k) l → foundBy l s ≡ found-as.refused 25 → ⊥
+  never-25 (known k) c e = let f = of-frame k s (c .0) (c .1) in let z : _≡_ {A = ℕ} 0 1 = cc in omega arith
+  never-25 unknown c e = c
+
+  pub frame-never-25 : found s ≡ found-as.refused 25 → ⊥
+  frame-never-25 e =
+      let c = due s 25 (ap (λ f. readBy f s) e) .5 refl in
+      never-25 (kindNamed s) (c .1) (sym (headed s (c .0)) ∙ e)
+
+  pub found-then-25 : (id : ℕ) (h : Header) (used n : ℕ) → found s ≡ found-as.frame id h used → readDue s ≡ read-as.refused n → n ≡ 25
+  found-then-25 id h used n e r =
+      let a = accepted s id h used e in
+      let p : List ℕ = payloadAt (used - 8) s in
+      let t : Tabled (known (a .kind)) = subst Tabled (a .known) (tabled id) in
+      let d : payloadRead id h used p ≡ read-as.refused n = sym (ap (λ f. readBy f s) e) ∙ r in
+      t h used p n .0 (subst (λ (i : ℕ). payloadRead i h used p ≡ read-as.refused n) (sym (a .named)) d) .0
 
 module _ (s : List ℕ) where
   pub exactly-20 : (readDue s ≡ read-as.refused 20) ↔ MavlinkShort s

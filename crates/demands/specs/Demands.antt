@@ -2,11 +2,11 @@
 -- their contracts cite. Of what C and Rust link, the clauses named `linked..` and `lent..` are over the contracts of
 -- `ostrogosz_ucp_start`, `ostrogosz_ucp_receive`, `ostrogosz_ucp_receive_slice` and `ostrogosz_ucp_write_frame`; of
 -- `ostrogosz_ucp_read_id` and, for every kind, `ostrogosz_ucp_read_..`, `ostrogosz_ucp_write_..`, `ostrogosz_ucp_send_..`; of
--- `ostrogosz_mavlink_read_..` and `ostrogosz_mavlink_write_..` for every kind. The other clauses are over public functions of the Rattle
+-- `ostrogosz_mavlink_read_id`, `ostrogosz_mavlink_read_..` and `ostrogosz_mavlink_write_..` for every kind. The other clauses are over public functions of the Rattle
 -- crates, of which the programs call some: `WritesFrame` of `ucp_writer::write_frame`, `Receives` of `ucp_receiver::octet::receive` and
 -- `Takes` of `receive_slice`; `Reads`, `WritesBody` and `Sends` of messages (ucp_messages, ucp_answers, ucp_send); `readDue` and
 -- `writeDue` of MAVLink (mavlink_messages). No clause speaks of `ostrogosz_ucp_frame_check`, the meanings in feet and degrees,
--- `ostrogosz_mavlink_read_id`, `ostrogosz_mavlink_count_failures` and the interface's number: the tender says nothing of them besides
+-- `ostrogosz_mavlink_count_failures` and the interface's number: the tender says nothing of them besides
 -- that they return, and their contracts fix their answers. That every call on every input returns, with no undefined step, is what
 -- proving a Rattle function means; no call for C or Rust, and none that is named here, asks anything of its caller. Proved in
 -- proofs/Demands.antt. Assumes nothing.
@@ -70,7 +70,7 @@ use Rattle.c_ucp_receiver.specs.Numbers.{ReceivesNumbers}
 use Rattle.thm_c_ucp.specs.Receiver.{LinkedLines, LinkedAnswersByHistory, LinkedCountsByHistory, LinkedStoreByHistory, LinkedFlagClears, LinkedLaterOnly, LinkedPutOutIsFrame, LinkedFrameIsPutOut, LinkedReceiverLists}
 use Rattle.thm_c_ucp.specs.Slices.{LinkedSliceLines, LinkedSliceTakesAll, LinkedSliceFlagClears, LinkedSliceIsCall}
 use Rattle.thm_c_ucp.specs.Writer.{LinkedWriter, LinkedWriterLists}
-use Rattle.demands.specs.LinkedMavlink.{MavlinkReaderRefuses, MavlinkWriterRefuses}
+use Rattle.demands.specs.LinkedMavlink.{MavlinkReaderRefuses, MavlinkWriterRefuses, MavlinkIdRefuses}
 use Rattle.thm_ucp_receiver.specs.Promises.{AnswersAs, AnswersByHistory, StretchIsAnswered, CountsByHistory, EveryOctetCounted, StoreClean, StoreByHistory, HuntingStoresNothing, FlagClears, LaterOnly, PutOutIsFrame, FrameIsPutOut, EndsIn, carrying}
 
 -- The numbers that stand behind the refusals' names are those of document 01's table.
@@ -210,6 +210,7 @@ pub record Demand1 : Type 0 where
   -- and of those for one kind of MAVLink
   pub linkedMavlinkReadersRefuse : MavlinkReaderRefuses
   pub linkedMavlinkWritersRefuse : MavlinkWriterRefuses
+  pub linkedMavlinkIdRefuses : MavlinkIdRefuses
   pub linkedFlagClears : LinkedFlagClears
   pub linkedSliceFlagClears : LinkedSliceFlagClears
   pub linkedStoreByHistory : LinkedStoreByHistory

@@ -14,6 +14,8 @@ use Rattle.mavlink_messages.specs.Messages.{inRange, payloadOf, messageFrame}
 use Rattle.mavlink_messages.specs.Refusals.{HasHeader, MavlinkShort, MavlinkWrongStart, MavlinkUnknownId, MavlinkWrongLength, MavlinkWrongCheck, MavlinkOutsideRange}
 use Rattle.c_mavlink.specs.Readers.{readAs, ReadsMavlink}
 use Rattle.c_mavlink.specs.Writers.{WritesMavlinkForC}
+use Rattle.c_mavlink.specs.declared.OstrogoszMavlinkId.{OstrogoszMavlinkId}
+use Rattle.c_mavlink.specs.Ids.{mavlinkIdDue}
 use Rattle.thm_c_messages.specs.Refusals.{WriterRefusals}
 
 -- the message ID, where there is one, is the kind's; or there is one, and it is another's
@@ -47,3 +49,13 @@ MavlinkWriterRefuses =
     (message : Message) (header : Header) (output after : List ℕ) (given : OstrogoszWritten)
     → WritesMavlinkForC message header output given after
     → WriterRefusals because.mavlinkField (inRange message) (length (payloadOf message) + 8) (messageFrame message header) output given after
+
+-- of every call for the message ID: the same tests up to the frame's length, of any kind's ID
+abbrev pub MavlinkIdRefuses : Type 0
+MavlinkIdRefuses =
+    (input : List ℕ) (given : OstrogoszMavlinkId) → given ≡ mavlinkIdDue input
+    → ((given .refusal ≡ because.mavlinkShort) ↔ MavlinkShort input)
+    × ((given .refusal ≡ because.mavlinkStart) ↔ MavlinkWrongStart input)
+    × ((given .refusal ≡ because.mavlinkUnknownId) ↔ MavlinkUnknownId input)
+    × ((given .refusal ≡ because.mavlinkLength) ↔ MavlinkWrongLength input)
+    × ((given .refusal ≡ 0) ⊎ ((20 ≤ given .refusal) × (given .refusal ≤ 23)))

@@ -17,7 +17,7 @@ use Rattle.ucp_answers.specs.Writes.{bodyDue}
 use Rattle.ucp_frame.specs.Frame.{frame, longestBody}
 use Rattle.ucp_writer.specs.Room.{frameDue}
 use Rattle.ucp_writer.specs.Sends.{sendDue}
-use Rattle.ucp_writer.proofs.room.Due.{Accepted, accepted-so, refused-so, refused-7, refused-8}
+use Rattle.ucp_writer.proofs.room.Due.{accepted-so, refused-so, refused-7, refused-8}
 use Rattle.ucp_messages.specs.Heartbeat0.{heartbeatFormat}
 use Rattle.ucp_messages.specs.Uplink7.{uplinkFits, uplinkBody}
 use Rattle.ucp_messages.specs.Report10.{reportFormat}
