@@ -2,10 +2,10 @@
  * Ostrogosz: what all calls share.
  *
  * The calls allocate nothing and keep nothing: what they are given and what
- * they answer lies in memory that the caller lends, and no octet of it in any
- * other. So threads may call them at once as long as no octet that one of them
- * writes is lent to another. Of the C library they call memcpy and memset at
- * most.
+ * they answer lies in memory that the caller lends, and no identity or address
+ * is left in any other, as a test of the built archive looks for. So threads
+ * may call them at once as long as no octet that one of them writes is lent to
+ * another. Of the C library they call memcpy and memset at most.
  *
  * Every call answers on every input. A refusal is a number of the table in
  * document 01 and never a length, and leaves the lent output, or struct, as it

@@ -21,8 +21,10 @@ Zeroed before after = after ≡ replicate (length before) 0
 abbrev pub WrittenIfEmpty : ℕ → Bool → Type 0
 WrittenIfEmpty octets written = octets ≡ 0 → written ≡ true
 
--- what the answers of the C library's `write` come to, of which each is one that its contract allows: all of so many octets are
--- written once none is left; a call that took none ends it; one that took some leaves the others to the next
+-- there are answers that the contract of the C library's `write` allows, and that come to this: all of so many octets are written
+-- once none is left; a call that took none ends it; one that took some leaves the others to the next. A contract can't see the
+-- answers of a call inside, so these need not be those that `write` gave: where there is an octet to write, either outcome has such
+-- answers, and this says no more than `WrittenIfEmpty`
 pub data WritesOut : ℕ → Bool → Type 0 where
   none-left : WritesOut 0 true
   took-none : {n : ℕ} (answer : ℤ) → 0 < n → Moved n answer → clamped answer n ≡ 0 → WritesOut n false
@@ -40,7 +42,8 @@ abbrev pub WritesFirst : ℕ → Output → Type 0
 WritesFirst octets (Wrote n) = n ≡ octets
 WritesFirst octets WriteFailed = 0 < octets
 
--- whether closing succeeded: what the C library's `close` answered, which its contract allows, is 0 or -1
+-- there is an answer that the contract of the C library's `close` allows, 0 where closing succeeded and else -1. As above it need
+-- not be the one that was given: either answer of ours has one, and a function that closes nothing would meet this
 pub record ClosesOutput (closed : Bool) : Type 0 where
   pub status : ℤ
   pub allowed : Status status

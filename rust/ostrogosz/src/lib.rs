@@ -20,8 +20,8 @@
 //!
 //! A refusal writes nothing. Success writes exactly the answer at the start of
 //! the output; the octets behind it keep what they held. A lent output is its
-//! caller's to clear. The calls on a kind's own struct leave no octet of a message
-//! in any other memory; those that give or take a message by value may.
+//! caller's to clear. The calls on a kind's own struct leave no identity or
+//! address in any other memory; those that give or take a message by value may.
 //!
 //! Structs hold the machine's numbers. On the line messages 10, 11, 20 and the
 //! counts of 0 have the high octet first; 45, 117, the time stamp of 0, all of

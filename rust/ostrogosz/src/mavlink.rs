@@ -14,8 +14,8 @@
 //! | [`Traffic`] | 246 | 46 |
 //!
 //! Two ways to read and write. Each kind has calls on its own struct, as
-//! [`Static::read_from`]: the message lies in the caller's struct alone, and no
-//! octet of it anywhere else. [`read_frame`] and [`write_frame`] choose by the
+//! [`Static::read_from`]: the message lies in the caller's struct, and no
+//! identity or address of it is left anywhere else. [`read_frame`] and [`write_frame`] choose by the
 //! ID and give and take a [`Message`] by value, which the compiler may copy:
 //! where identities are private, use the first.
 

@@ -17,8 +17,8 @@
 //! | [`Initialization`] | 117 | 19 | source document 000 |
 //!
 //! Two ways to read and write. Each kind has calls on its own struct, as
-//! [`Control::read_from`]: the message lies in the caller's struct alone, and
-//! no octet of it anywhere else. [`read_message`], [`write_message`] and
+//! [`Control::read_from`]: the message lies in the caller's struct, and no
+//! identity or address of it is left anywhere else. [`read_message`], [`write_message`] and
 //! [`send_message`] choose by the ID and give and take a [`Message`] by value,
 //! which the compiler may copy: where identities are private, use the first.
 
