@@ -182,8 +182,8 @@ fn put_frame(message: &[u8], buffer: &mut [u8]) -> usize
     let state = state(message);
     let first = message[8];
     buffer[0] = 0x7E;
-    let next = ucp_writer::put_pair(buffer, 1, 45, 1);
-    let at = ucp_writer::put_pair(buffer, next, state, first);
+    let next = ucp_stuffing::put_pair(buffer, 1, 45, 1);
+    let at = ucp_stuffing::put_pair(buffer, next, state, first);
     let check = crc_gdl90::next_check_pair(crc_gdl90::next_check_pair(0, 45, 1), state, first);
     ucp_writer::fill_words(&message[9..23], buffer, 0, check, at)
 }

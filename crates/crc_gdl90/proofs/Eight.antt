@@ -4,11 +4,11 @@ use mathlib.Core.Bool.{Bool}
 use mathlib.Core.List.{List, [], _∷_, _++_, append-assoc}
 use Prim.Native.Nat.{ℕ, zero, suc, _+_, _/_, _%_, _^_, _<_}
 use native.Mathlib.Omega.{arith}
-use lib.ListN.{take, drop, take-append-drop}
-use lib.Seq.{drop-drop}
+use lib.ListN.{take, drop}
 use lib.Bits.{bitXor}
 use lib.Pow.{shr-shr}
 use Rattle.field_words.proofs.Pairs.{double, two-of}
+use Rattle.field_words.proofs.Parts.{part}
 use Rattle.field_words.specs.Words.{octetsDown}
 use Rattle.crc_polynomial.specs.Polynomial.{bitsOf, bitsOfOctets, divided}
 use Rattle.crc_polynomial.proofs.Laws.{divided-append}
@@ -50,9 +50,6 @@ bits-append (x ∷ xs) ys =
     ap (λ (bs : List Bool). bitsOf 8 x ++ bs) (bits-append xs ys) ∙ sym (append-assoc (bitsOf 8 x) (bitsOfOctets xs) (bitsOfOctets ys))
 
 -- k octets from i on, and then the others
-pub part : (k : ℕ) (body : List ℕ) (i : ℕ) {first : List ℕ} → first ≡ take k (drop i body) → drop i body ≡ first ++ drop (i + k) body
-part k body i e = sym (take-append-drop k (drop i body)) ∙ ap₂ (λ (xs ys : List ℕ). xs ++ ys) (sym e) (drop-drop k i body)
-
 pub part-first : (k check : ℕ) (body : List ℕ) (i : ℕ) (first : List ℕ) → first ≡ take k (drop i body)
     → divided check (bitsOfOctets (drop i body)) ≡ divided (divided check (bitsOfOctets first)) (bitsOfOctets (drop (i + k) body))
 part-first k check body i first e =

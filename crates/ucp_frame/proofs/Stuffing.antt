@@ -6,7 +6,7 @@ use Prim.Native.Nat.{ℕ, zero, suc, _*_, _≤_}
 use native.Mathlib.Omega.{arith}
 use lib.Bits.{bitXor}
 use lib.Dec.{eqb}
-use lib.ListN.{length, getD, length-append}
+use lib.ListN.{length, getD, drop, length-append}
 use borrow.Author.Tests.{eqb-true, eqb-false, ne-eqb}
 use Rattle.ucp_frame.specs.Frame.{flag, escape, escaped, stuffed}
 
@@ -81,6 +81,16 @@ unfolding stuffed
 stuffed-length-least [] = omega arith
 stuffed-length-least (x ∷ xs) =
     simp length-append (omega (arith, escaped-length x, stuffed-length-least xs))
+
+-- octets that stuffing leaves as they are: the first is neither flag nor escape, and so on behind it
+pub plain-first : (x : ℕ) (xs : List ℕ) → stuffed (x ∷ xs) ≡ x ∷ xs → (x ≡ flag → ⊥) × (x ≡ escape → ⊥) × (stuffed xs ≡ xs)
+unfolding stuffed
+plain-first x xs = go (escaped x) (way x)
+  where
+    go : (l : List ℕ) → Escaped x l → l ++ stuffed xs ≡ x ∷ xs → (x ≡ flag → ⊥) × (x ≡ escape → ⊥) × (stuffed xs ≡ xs)
+    go _ (a-flag q) e = absurd (omega (arith, ap length e, stuffed-length-least xs))
+    go _ (an-escape q) e = absurd (omega (arith, ap length e, stuffed-length-least xs))
+    go _ (itself h k) e = (h, k, ap (drop 1) e)
 
 -- ---- no flag
 

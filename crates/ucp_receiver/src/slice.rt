@@ -31,6 +31,24 @@ fn most_plain(stored: usize, line: &[u8], from: usize) -> usize
     if room < left { room } else { left }
 }
 
+// The first of these octets, eight at a time, up to eight of which one may be a flag or an escape: how many.
+fn put_words(store: &mut Store, stored: usize, line: &[u8], from: usize, most: usize) -> usize
+    requires { ⌜ (stored + most ≤ storeOctets) × (from + most ≤ length (now line)) ⌝ }
+    ensures { λ r. ⌜ (r ≤ most) × PutsPlain (now (store .entry)) stored (now (line .entry)) from r (now (store .exit)) ⌝ }
+{
+    let mut n = 0;
+    while most - n > 7 {
+        let word = field_words::little_64(line, from + n);
+        if ucp_stuffing::plain::is_plain(word) {
+            field_words::put_64(store, stored + n, word);
+            n += 8;
+        } else {
+            return n;
+        }
+    }
+    n
+}
+
 // Octets that are neither flag nor escape are stored as they are, up to the first other one: how many. Apart from the step
 // of `receive`, so that its loop is short.
 fn put_plain(store: &mut Store, stored: usize, line: &[u8], from: usize) -> usize
@@ -38,7 +56,7 @@ fn put_plain(store: &mut Store, stored: usize, line: &[u8], from: usize) -> usiz
     ensures { λ r. ⌜ PutsPlain (now (store .entry)) stored (now (line .entry)) from r (now (store .exit)) ⌝ }
 {
     let most = most_plain(stored, line, from);
-    let mut n = 0;
+    let mut n = put_words(store, stored, line, from, most);
     while n < most {
         let octet = line[from + n];
         if octet == 0x7D {

@@ -9,10 +9,9 @@ use lib.ListN.{length, getD, take, drop, drop-of-length-le}
 use lib.Seq.{sets, sets-eq, drop-cons}
 use Rattle.crc_polynomial.specs.Polynomial.{bitsOfOctets, bitsOf, divided}
 use Rattle.crc_polynomial.proofs.Laws.{divided-append}
-use lib.Pow.{shr-shr}
-use Rattle.field_words.specs.Words.{octetsUp}
 use Rattle.crc_gdl90.specs.Check.{frameCheck}
-use Rattle.crc_gdl90.proofs.Eight.{part, part-first}
+use Rattle.field_words.proofs.Parts.{part}
+use Rattle.crc_gdl90.proofs.Eight.{part-first}
 use Rattle.ucp_frame.specs.Frame.{flag, escaped, stuffed, frame}
 use Rattle.ucp_frame.proofs.Stuffing.{stuffed-append}
 use Rattle.ucp_writer.specs.Steps.{frameEnd, frameRest}
@@ -92,34 +91,3 @@ module _ {output : List ℕ} {at end : ℕ} {final : List ℕ} (check : ℕ) (bo
 pub frame-put : (body output : List ℕ) → length (frame body) ≤ length output
     → sets output 0 (frame body) ≡ frame body ++ drop (length (frame body)) output
 frame-put body output h = sets-eq (frame body) output 0 (omega arith) ∙ rw zero-add
-
--- ---- the octets of a number, four and four
-pub number-halves : (word : ℕ) → stuffed (octetsUp 8 word) ≡ stuffed (octetsUp 4 word) ++ stuffed (octetsUp 4 (word / 4294967296))
-unfolding octetsUp
-number-halves word =
-    let upper : word / 256 / 256 / 256 / 256 ≡ word / 4294967296 =
-    ap (λ (n : ℕ). n / 256 / 256) (shr-shr word 8 8) ∙ ap (λ (n : ℕ). n / 256) (shr-shr word 16 8) ∙ shr-shr word 24 8 in
-    stuffed-append (octetsUp 4 word) (octetsUp 4 (word / 256 / 256 / 256 / 256))
-    ∙ ap (λ (n : ℕ). stuffed (octetsUp 4 word) ++ stuffed (octetsUp 4 n)) upper
-
--- ---- the octets of a number, one by one
-pub number-first : (left word : ℕ) → 0 < left
-    → stuffed (octetsUp left word) ≡ escaped (word % 256) ++ stuffed (octetsUp (left - 1) (word / 256))
-unfolding stuffed octetsUp
-number-first zero word h = absurd (omega arith)
-number-first (suc n) word h =
-    let e : suc n - 1 ≡ n = omega arith in
-    ap (λ (k : ℕ). escaped (word % 256) ++ stuffed (octetsUp k (word / 256))) (sym e)
-
-module _ {output : List ℕ} {at end : ℕ} {final : List ℕ} (left word : ℕ)
-    (t : ToPut output at (stuffed (octetsUp left word)) end final) where
-  pub number-octet : 0 < left
-      → ToPut output at (escaped (word % 256) ++ stuffed (octetsUp (left - 1) (word / 256))) end final
-  number-octet h = rw (number-first left word h) at t
-
-  pub number-none : left ≤ 0 → (at ≡ end) × (output ≡ final)
-  unfolding stuffed octetsUp
-  number-none h =
-      let z : left ≡ 0 = omega arith in
-      let n : ToPut output at [] end final = rw z at t in
-      (sym (add-zero at) ∙ n .ends, n .gives)

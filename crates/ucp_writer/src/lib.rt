@@ -1,7 +1,6 @@
 // The frame writer: one call makes a frame of a body.
 mod in_place;
-mod plain;
-pub mod room;
+mod room;
 
 use output_writing::Written;
 use ucp_frame::FrameBuffer;
@@ -9,8 +8,7 @@ ghost use mathlib.Core.Path.{_≡_};
 ghost use mathlib.Core.List.{_++_};
 ghost use Prim.Native.Nat.{_+_, _-_, _%_, _<_, _≤_};
 ghost use lib.ListN.{length, take, drop};
-ghost use Rattle.field_words.specs.Words.{octetsUp};
-ghost use Rattle.ucp_frame.specs.Frame.{escaped, stuffed, frame};
+ghost use Rattle.ucp_frame.specs.Frame.{stuffed, frame};
 ghost use Rattle.ucp_writer.specs.Steps.{frameEnd, frameRest};
 ghost use Rattle.output_writing.specs.Puts.{Puts};
 ghost use Rattle.ucp_writer.specs.Writes.{WritesFrame, FramesInPlace};
@@ -55,9 +53,9 @@ fn put_head(body: &[u8], output: &mut [u8], octets: usize) -> usize
         return 1;
     }
     if octets == 1 {
-        return put(output, 1, body[0]);
+        return ucp_stuffing::put(output, 1, body[0]);
     }
-    put_pair(output, 1, body[0], body[1])
+    ucp_stuffing::put_pair(output, 1, body[0], body[1])
 }
 
 // Puts what is left of a frame at a place of output: the octets of body from start on, an even number of them, and the end.
@@ -72,40 +70,10 @@ pub fn fill_words(body: &[u8], output: &mut [u8], start: usize, check: u16, at: 
     while body.len() - i > 7 {
         let word = field_words::little_64(body, i);
         check = crc_gdl90::next_check_eight(check, field_words::turned(word));
-        at = put_eight(output, at, word);
+        at = ucp_stuffing::put_eight(output, at, word);
         i += 8;
     }
     fill_pairs(body, output, i, check, at)
-}
-
-// Puts eight octets, stuffed, at a place of output, and gives the next place: at once where none needs an escape.
-fn put_eight(output: &mut [u8], at: usize, word: u64) -> usize
-    requires { ⌜ at + length (stuffed (octetsUp 8 word)) ≤ length (now output) ⌝ }
-    ensures { λ r. ⌜ Puts (now (output .entry)) at (stuffed (octetsUp 8 word)) r (now (output .exit)) ⌝ }
-{
-    if plain::is_plain(word) {
-        field_words::put_64(output, at, word);
-        at + 8
-    } else {
-        let next = put_octets(output, at, word);
-        put_octets(output, next, word >> 32)
-    }
-}
-
-// Puts the four lowest octets of a number, stuffed, at a place of output, and gives the next place.
-fn put_octets(output: &mut [u8], at: usize, word: u64) -> usize
-    requires { ⌜ at + length (stuffed (octetsUp 4 word)) ≤ length (now output) ⌝ }
-    ensures { λ r. ⌜ Puts (now (output .entry)) at (stuffed (octetsUp 4 word)) r (now (output .exit)) ⌝ }
-{
-    let mut at = at;
-    let mut word = word;
-    let mut left: usize = 4;
-    while left > 0 {
-        at = put(output, at, (word % 256) as u8);
-        word = word / 256;
-        left -= 1;
-    }
-    at
 }
 
 // The same, two octets at a time.
@@ -120,7 +88,7 @@ fn fill_pairs(body: &[u8], output: &mut [u8], start: usize, check: u16, at: usiz
         let first = body[i];
         let second = body[i + 1];
         check = crc_gdl90::next_check_pair(check, first, second);
-        at = put_pair(output, at, first, second);
+        at = ucp_stuffing::put_pair(output, at, first, second);
         i += 2;
     }
     close(output, at, check)
@@ -131,32 +99,8 @@ fn close(output: &mut [u8], at: usize, check: u16) -> usize
     requires { ⌜ at + length (frameEnd check) ≤ length (now output) ⌝ }
     ensures { λ r. ⌜ Puts (now (output .entry)) at (frameEnd check) r (now (output .exit)) ⌝ }
 {
-    let next = put(output, at, (check % 256) as u8);
-    let last = put(output, next, (check / 256) as u8);
+    let next = ucp_stuffing::put(output, at, (check % 256) as u8);
+    let last = ucp_stuffing::put(output, next, (check / 256) as u8);
     output[last] = 0x7E;
     last + 1
-}
-
-// Puts two octets, stuffed, at a place of output, and gives the next place.
-pub fn put_pair(output: &mut [u8], at: usize, first: u8, second: u8) -> usize
-    requires { ⌜ at + length (escaped first ++ escaped second) ≤ length (now output) ⌝ }
-    ensures { λ r. ⌜ Puts (now (output .entry)) at (escaped first ++ escaped second) r (now (output .exit)) ⌝ }
-{
-    let next = put(output, at, first);
-    put(output, next, second)
-}
-
-// Puts the octet, stuffed, at a place of output, and gives the next place.
-fn put(output: &mut [u8], at: usize, octet: u8) -> usize
-    requires { ⌜ at + length (escaped octet) ≤ length (now output) ⌝ }
-    ensures { λ r. ⌜ Puts (now (output .entry)) at (escaped octet) r (now (output .exit)) ⌝ }
-{
-    if room::is_escaped(octet) {
-        output[at] = 0x7D;
-        output[at + 1] = octet ^ 0x20;
-        at + 2
-    } else {
-        output[at] = octet;
-        at + 1
-    }
 }

@@ -25,20 +25,22 @@ use Rattle.ucp_receiver.specs.Steps.{reading, laterBy, Ignores, isAnswer
 abbrev takenBy : SliceRun → ℕ → SliceRun
 takenBy r n = record { state = r .state; counts = r .counts; taken = n; verdict = r .verdict }
 
-laterBy-laterBy : (m n : ℕ) (r : SliceRun) → laterBy m (laterBy n r) ≡ laterBy (m + n) r
+pub laterBy-laterBy : (m n : ℕ) (r : SliceRun) → laterBy m (laterBy n r) ≡ laterBy (m + n) r
 laterBy-laterBy m n r =
     let e : r .taken + n + m ≡ r .taken + (m + n) = omega arith in
     ap (takenBy r) e
+
+pub none-later : (r : SliceRun) → r ≡ laterBy 0 r
+none-later r = ap (takenBy r) (sym (add-zero (r .taken)))
 
 -- no octet is taken
 pub none-taken : (s : State) (line : List ℕ) (at : ℕ) (counts : Counts) (room : ℕ)
     → sliceRun s counts (drop at line) room ≡ laterBy 0 (sliceRun s counts (drop (at + 0) line) room)
 none-taken s line at counts room =
-    let r = sliceRun s counts (drop at line) room in
-    rw (add-zero at) (ap (takenBy r) (sym (add-zero (r .taken))))
+    rw (add-zero at) (none-later (sliceRun s counts (drop at line) room))
 
 -- an octet other than the flag
-other-first : (s s′ : State) (c : Counts) (x : ℕ) (xs : List ℕ) (room : ℕ) → (x ≡ flag → ⊥) → advancedIn (s .rest .phase) x s ≡ s′
+pub other-first : (s s′ : State) (c : Counts) (x : ℕ) (xs : List ℕ) (room : ℕ) → (x ≡ flag → ⊥) → advancedIn (s .rest .phase) x s ≡ s′
     → sliceRun s c (x ∷ xs) room ≡ later (sliceRun s′ (countedOctet (s .rest .phase) c) xs room)
 unfolding sliceRun stateAfter verdictDue countsAfter
 other-first s s′ c x xs room f e =

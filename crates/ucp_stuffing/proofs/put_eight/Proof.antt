@@ -1,4 +1,4 @@
--- `ucp_writer::put_eight` meets its contract: where the word is plain, stuffing leaves it as it is. Assumes nothing.
+-- `ucp_stuffing::put_eight` meets its contract: where the word is plain, stuffing leaves it as it is. Assumes nothing.
 use mathlib.Core.Path.{_≡_, refl, sym, ap, _∙_}
 use mathlib.Core.List.{List, _++_}
 use Prim.Native.Nat.{ℕ, _+_, _/_, _≤_}
@@ -10,9 +10,9 @@ use lib.Seq.{sets, length-sets}
 use Rattle.field_words.specs.Words.{octetsUp}
 use Rattle.ucp_frame.specs.Frame.{stuffed}
 use Rattle.output_writing.proofs.ToPut.{ToPut, all-to-put, first-room, first-put, last-room, last-put}
-use Rattle.ucp_writer.proofs.Rest.{number-halves}
-use Rattle.ucp_writer.proofs.put_eight.Statement.{statement}
-use Rattle.ucp_writer.proofs.put_eight.Tie as tie
+use Rattle.ucp_stuffing.proofs.Numbers.{number-halves}
+use Rattle.ucp_stuffing.proofs.put_eight.Statement.{statement}
+use Rattle.ucp_stuffing.proofs.put_eight.Tie as tie
 
 plain : (c : tie.Then1)
     → stuffed (octetsUp 8 (c .before .before .before .args .word)) ≡ octetsUp 8 (c .before .before .before .args .word)

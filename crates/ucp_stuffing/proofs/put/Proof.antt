@@ -1,4 +1,4 @@
--- `ucp_writer::put` meets its contract: an octet takes two places or one. Assumes nothing.
+-- `ucp_stuffing::put` meets its contract: an octet takes two places or one. Assumes nothing.
 use mathlib.Core.Path.{_≡_, refl, sym, ap, _∙_}
 use mathlib.Core.List.{[], _∷_}
 use native.Mathlib.Numerals.{add-one}
@@ -8,8 +8,8 @@ use lib.Bits.{bitXor}
 use lib.ListN.{length, length-set}
 use Rattle.ucp_frame.specs.Frame.{escape, escaped}
 use Rattle.ucp_frame.proofs.Stuffing.{escaped-two, escaped-one}
-use Rattle.ucp_writer.proofs.put.Statement.{statement}
-use Rattle.ucp_writer.proofs.put.Tie as tie
+use Rattle.ucp_stuffing.proofs.put.Statement.{statement}
+use Rattle.ucp_stuffing.proofs.put.Tie as tie
 
 two : (c : tie.Then1)
     → escaped (c .before .before .before .args .octet) ≡ escape ∷ bitXor (c .before .before .before .args .octet) 0x20 ∷ []

@@ -1,4 +1,4 @@
--- `ucp_writer::put_pair` meets its contract: the one octet is put, and then the other. Assumes nothing.
+-- `ucp_stuffing::put_pair` meets its contract: the one octet is put, and then the other. Assumes nothing.
 use mathlib.Core.Path.{refl, _∙_}
 use mathlib.Core.List.{List, _++_}
 use Prim.Native.Nat.{ℕ, _+_}
@@ -7,8 +7,8 @@ use lib.ListN.{length}
 use lib.Seq.{sets}
 use Rattle.ucp_frame.specs.Frame.{escaped}
 use Rattle.output_writing.proofs.ToPut.{ToPut, all-to-put, first-room, first-put, last-room, last-put}
-use Rattle.ucp_writer.proofs.put_pair.Statement.{statement}
-use Rattle.ucp_writer.proofs.put_pair.Tie as tie
+use Rattle.ucp_stuffing.proofs.put_pair.Statement.{statement}
+use Rattle.ucp_stuffing.proofs.put_pair.Tie as tie
 
 abbrev both : tie.Start → List ℕ
 both c = escaped (c .args .first) ++ escaped (c .args .second)

@@ -1,4 +1,4 @@
--- `ucp_writer::put_octets` meets its contract. The loop's invariant: the octets that are left, put at the present place of the
+-- `ucp_stuffing::put_octets` meets its contract. The loop's invariant: the octets that are left, put at the present place of the
 -- present output, give the output with all of them. Assumes nothing.
 use mathlib.Core.Path.{refl, sym, ap, _∙_}
 use Prim.Native.Nat.{_+_, _-_, _/_, _%_}
@@ -10,9 +10,9 @@ use lib.Seq.{sets, length-sets}
 use Rattle.field_words.specs.Words.{octetsUp}
 use Rattle.ucp_frame.specs.Frame.{escaped, stuffed}
 use Rattle.output_writing.proofs.ToPut.{ToPut, all-to-put, first-room, first-put}
-use Rattle.ucp_writer.proofs.Rest.{number-octet, number-none}
-use Rattle.ucp_writer.proofs.put_octets.Statement.{statement}
-use Rattle.ucp_writer.proofs.put_octets.Tie as tie
+use Rattle.ucp_stuffing.proofs.Numbers.{number-octet, number-none}
+use Rattle.ucp_stuffing.proofs.put_octets.Statement.{statement}
+use Rattle.ucp_stuffing.proofs.put_octets.Tie as tie
 
 abbrev Inv-loop : tie.InvT-loop
 Inv-loop output₀ at word at₀ word₀ left₀ output at' word' left =
