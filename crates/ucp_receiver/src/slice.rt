@@ -39,7 +39,7 @@ fn put_words(store: &mut Store, stored: usize, line: &[u8], from: usize, most: u
     let mut n = 0;
     while most - n > 7 {
         let word = field_words::little_64(line, from + n);
-        if ucp_stuffing::plain::is_plain(word) {
+        if ucp_stuffing::is_plain(word) {
             field_words::put_64(store, stored + n, word);
             n += 8;
         } else {

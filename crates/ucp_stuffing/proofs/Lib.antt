@@ -1,1 +1,3 @@
+mod Plain
+mod Lengths
 mod Numbers

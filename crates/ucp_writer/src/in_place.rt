@@ -20,7 +20,7 @@ pub fn frame_front(buffer: &mut [u8], octets: usize) -> usize
     if ucp_frame::LONGEST_BODY < octets {
         return 0;
     }
-    let end = 1 + ucp_stuffing::length::stuffed_length(&buffer[..octets]);
+    let end = 1 + ucp_stuffing::stuffed_length(&buffer[..octets]);
     let check = crc_gdl90::frame_check_by_shifts(&buffer[..octets]);
     move_words(buffer, octets, end);
     buffer[0] = 0x7E;
@@ -48,7 +48,7 @@ fn move_word(buffer: &mut [u8], from: usize, end: usize) -> usize
     ensures { λ r. ⌜ ToMove (now (buffer .exit)) from r (sets (now (buffer .entry)) 1 (stuffed (take (from + 8) (now (buffer .entry))))) ⌝ }
 {
     let word = field_words::little_64(buffer, from);
-    if ucp_stuffing::plain::is_plain(word) {
+    if ucp_stuffing::is_plain(word) {
         let at = end - 8;
         field_words::put_64(buffer, at, word);
         return at;
@@ -66,7 +66,7 @@ fn move_octets(buffer: &mut [u8], from: usize, octets: usize, end: usize) -> usi
     while left > from {
         left -= 1;
         let octet = buffer[left];
-        end -= ucp_stuffing::length::escaped_length(octet);
+        end -= ucp_stuffing::escaped_length(octet);
         ucp_stuffing::put(buffer, end, octet);
     }
     end

@@ -34,7 +34,7 @@ fn frame_length(body: &[u8]) -> usize
 {
     let check = crc_gdl90::frame_check(body);
     let around = 2
-        + ucp_stuffing::length::escaped_length((check % 256) as u8)
-        + ucp_stuffing::length::escaped_length((check / 256) as u8);
-    around + ucp_stuffing::length::stuffed_length(body)
+        + ucp_stuffing::escaped_length((check % 256) as u8)
+        + ucp_stuffing::escaped_length((check / 256) as u8);
+    around + ucp_stuffing::stuffed_length(body)
 }

@@ -1,7 +1,7 @@
--- `ucp_stuffing::length::is_escaped` meets its contract. Assumes nothing.
+-- `ucp_stuffing::is_escaped` meets its contract. Assumes nothing.
 use borrow.Author.Tests.{eq-eqb, ne-eqb}
-use Rattle.ucp_stuffing.proofs.length.is_escaped.Statement.{statement}
-use Rattle.ucp_stuffing.proofs.length.is_escaped.Tie as tie
+use Rattle.ucp_stuffing.proofs.is_escaped.Statement.{statement}
+use Rattle.ucp_stuffing.proofs.is_escaped.Tie as tie
 
 returns : tie.Need-returns
 returns c = rw (eq-eqb _ _ (c .if1 .taken))

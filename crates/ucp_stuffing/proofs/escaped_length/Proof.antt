@@ -1,10 +1,10 @@
--- `ucp_stuffing::length::escaped_length` meets its contract. Assumes nothing.
+-- `ucp_stuffing::escaped_length` meets its contract. Assumes nothing.
 use mathlib.Core.Path.{sym, ap, _∙_}
 use borrow.Author.Needs.{needs}
 use lib.ListN.{length}
 use Rattle.ucp_frame.proofs.Stuffing.{escaped-two, escaped-one}
-use Rattle.ucp_stuffing.proofs.length.escaped_length.Statement.{statement}
-use Rattle.ucp_stuffing.proofs.length.escaped_length.Tie as tie
+use Rattle.ucp_stuffing.proofs.escaped_length.Statement.{statement}
+use Rattle.ucp_stuffing.proofs.escaped_length.Tie as tie
 
 returns : tie.Need-returns
 returns c = sym (ap length (escaped-two _ (sym (c .before .is-escaped .ensures) ∙ c .if1 .taken)))

@@ -1,4 +1,4 @@
--- `ucp_stuffing::length::tail_length` meets its contract. The loop's invariant: the count and the octets left, stuffed, make up the
+-- `ucp_stuffing::tail_length` meets its contract. The loop's invariant: the count and the octets left, stuffed, make up the
 -- whole. Assumes nothing.
 use mathlib.Core.Path.{_≡_}
 use mathlib.Core.List.{List}
@@ -9,9 +9,9 @@ use denote.Ref.{now}
 use lib.ListN.{length, drop, drop-of-length-le, length-drop}
 use Rattle.ucp_frame.specs.Frame.{stuffed}
 use Rattle.ucp_frame.proofs.Stuffing.{stuffed-length-most}
-use Rattle.ucp_stuffing.proofs.length.Laws.{stuffed-length}
-use Rattle.ucp_stuffing.proofs.length.tail_length.Statement.{statement}
-use Rattle.ucp_stuffing.proofs.length.tail_length.Tie as tie
+use Rattle.ucp_stuffing.proofs.Lengths.{stuffed-length}
+use Rattle.ucp_stuffing.proofs.tail_length.Statement.{statement}
+use Rattle.ucp_stuffing.proofs.tail_length.Tie as tie
 
 abbrev Inv-loop : tie.InvT-loop
 Inv-loop body start count₀ i₀ count i = (i ≤ length body) × (count + length (stuffed (drop i body)) ≡ length (stuffed (drop start body)))

@@ -1,4 +1,4 @@
--- `ucp_stuffing::length::word_length_counted` meets its contract. The loop's invariant: the count and the octets left, stuffed, make up
+-- `ucp_stuffing::word_length_counted` meets its contract. The loop's invariant: the count and the octets left, stuffed, make up
 -- the whole. Assumes nothing.
 use mathlib.Core.Path.{_≡_, ap, _∙_}
 use Prim.Native.Nat.{ℕ, zero, _+_, _-_, _/_, _%_, _≤_}
@@ -9,8 +9,8 @@ use Rattle.field_words.specs.Words.{octetsUp}
 use Rattle.ucp_frame.specs.Frame.{escaped, stuffed}
 use Rattle.ucp_frame.proofs.Stuffing.{stuffed-length-most}
 use Rattle.ucp_stuffing.proofs.Numbers.{number-first}
-use Rattle.ucp_stuffing.proofs.length.word_length_counted.Statement.{statement}
-use Rattle.ucp_stuffing.proofs.length.word_length_counted.Tie as tie
+use Rattle.ucp_stuffing.proofs.word_length_counted.Statement.{statement}
+use Rattle.ucp_stuffing.proofs.word_length_counted.Tie as tie
 
 abbrev Inv-loop : tie.InvT-loop
 Inv-loop word count₀ word₀ left₀ count word' left = count + length (stuffed (octetsUp left word')) ≡ length (stuffed (octetsUp 8 word))

@@ -1,10 +1,10 @@
--- `ucp_stuffing::length::word_length` meets its contract: where the word is plain, stuffing leaves it as it is. Assumes nothing.
+-- `ucp_stuffing::word_length` meets its contract: where the word is plain, stuffing leaves it as it is. Assumes nothing.
 use mathlib.Core.Path.{sym, ap}
 use borrow.Author.Needs.{needs}
 use lib.ListN.{length}
 use Rattle.field_words.specs.Words.{octetsUp}
-use Rattle.ucp_stuffing.proofs.length.word_length.Statement.{statement}
-use Rattle.ucp_stuffing.proofs.length.word_length.Tie as tie
+use Rattle.ucp_stuffing.proofs.word_length.Statement.{statement}
+use Rattle.ucp_stuffing.proofs.word_length.Tie as tie
 
 returns : tie.Need-returns
 unfolding octetsUp

@@ -1,4 +1,4 @@
--- `ucp_stuffing::length::stuffed_length` meets its contract. The loop's invariant: the count and the octets left, stuffed, make up the
+-- `ucp_stuffing::stuffed_length` meets its contract. The loop's invariant: the count and the octets left, stuffed, make up the
 -- whole. Assumes nothing.
 use mathlib.Core.Path.{_≡_}
 use Prim.Native.Nat.{ℕ, _+_, _-_, _≤_}
@@ -9,9 +9,9 @@ use lib.ListN.{length, drop}
 use Rattle.field_words.specs.Words.{octetsUp}
 use Rattle.ucp_frame.specs.Frame.{stuffed}
 use Rattle.ucp_frame.proofs.Stuffing.{stuffed-length-most}
-use Rattle.ucp_stuffing.proofs.length.Laws.{part-length}
-use Rattle.ucp_stuffing.proofs.length.stuffed_length.Statement.{statement}
-use Rattle.ucp_stuffing.proofs.length.stuffed_length.Tie as tie
+use Rattle.ucp_stuffing.proofs.Lengths.{part-length}
+use Rattle.ucp_stuffing.proofs.stuffed_length.Statement.{statement}
+use Rattle.ucp_stuffing.proofs.stuffed_length.Tie as tie
 
 abbrev Inv-loop : tie.InvT-loop
 Inv-loop body count₀ i₀ count i = (i ≤ length body) × (count + length (stuffed (drop i body)) ≡ length (stuffed body))
