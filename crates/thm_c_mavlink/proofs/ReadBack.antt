@@ -22,7 +22,7 @@ use Rattle.mavlink_messages.specs.Ranges.{staticFits}
 use Rattle.mavlink_messages.specs.Messages as read-as
 use Rattle.mavlink_messages.specs.Messages.{MavlinkAnswer, idOf, inRange, payloadOf, failuresOf, writeDue, messageFrame}
 use Rattle.c_lent.specs.Structs.{Struct, RightStruct, structColumns, structRowOf, structSize, stored, held, TypedIn}
-use Rattle.c_lent.proofs.Structs.{held-typed}
+use Rattle.c_lent.proofs.Structs.{held-stored, held-typed}
 use Rattle.c_mavlink.specs.Structs.{headerStruct, dataStreamStruct, staticStruct, dynamicStruct, statusStruct, trafficStruct, messageStored}
 use Rattle.c_mavlink.specs.Readers.{readNumber, headerLeft, messageLeft, ReadsMavlink, readAs}
 use Rattle.c_mavlink.specs.Writers.{WritesMavlinkForC}
@@ -65,18 +65,26 @@ pub record SameKind {A : Type 0} (id : ℕ) (s : Struct A) (kind : A → Message
   -- C's types are those of the fields
   pub typed : (a : A) → TypedIn s a → inRange (kind a) ≡ true → MavlinkTyped (kind a)
 
+header-right : RightStruct headerStruct
+header-right = record { sound = omega arith; back = λ a. refl }
+
 struct-reads-back : {A : Type 0} (id : ℕ) (s : Struct A) (kind : A → Message) → SameKind id s kind → MavlinkStructReadsBack id s kind
 struct-reads-back {A} id s kind ok message header output after headerBefore messageBefore headerAfter messageAfter w r is n call none reading =
     let a : A = held s message in
     let h : Header = held headerStruct header in
     let l = accepted (kind a) h output w after call none in
-    let t = ok .typed a (held-typed s (ok .struct) (ok .again) message is n) (l .ranges) in
+    let c : TypedIn s a = held-typed s (ok .struct) (ok .again) message is n in
+    let t = ok .typed a c (l .ranges) in
     let due = written-reads-back (kind a) h output after (w .length) t (l .written) in
     let read : readAs id after ≡ read-as.means h (w .length) (kind a) (failuresOf (kind a)) =
-    ap (λ (k : ℕ). readAs k after) (sym (ok .named a)) ∙ one-kind .named after h (w .length) (kind a) (failuresOf (kind a)) due .0 in (
+    ap (λ (k : ℕ). readAs k after) (sym (ok .named a)) ∙ one-kind .named after h (w .length) (kind a) (failuresOf (kind a)) due .0 in
+    let same-header : headerAfter ≡ stored headerStruct h = reading .leaves-header ∙ ap (headerLeft headerBefore) read in
+    let same : messageAfter ≡ stored s a = reading .leaves-message ∙ ap (messageLeft messageBefore) read ∙ ok .stores a in (
       reading .answers ∙ ap readNumber read,
-      reading .leaves-header ∙ ap (headerLeft headerBefore) read,
-      reading .leaves-message ∙ ap (messageLeft messageBefore) read ∙ ok .stores a,
+      same-header,
+      same,
+      ap (held s) same ∙ held-stored s (ok .struct) a c,
+      λ octets size. ap (held headerStruct) same-header ∙ held-stored headerStruct header-right h (held-typed headerStruct header-right (λ x. refl) header octets size),
     )
 
 -- ---- the kinds
