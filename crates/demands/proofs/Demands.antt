@@ -14,10 +14,10 @@ use Rattle.crc_x25.proofs.CrcCode.{by-code}
 use Rattle.ucp_frame.specs.Frame.{frame}
 use Rattle.ucp_frame.specs.Stretch.{Verdict, silent, refused, delivered}
 use Rattle.ucp_frame.proofs.Frame.{frame-length-longest}
-use Rattle.output_writing.specs.declared.OstrogoszWritten.{OstrogoszWritten}
 use Rattle.output_writing.specs.Writing as writer
-use Rattle.output_writing.specs.Writing.{WriterAnswer, outputAfter, WritingNumbers}
+use Rattle.output_writing.specs.Writing.{outputAfter}
 use Rattle.ucp_writer.specs.Room.{frameDue}
+use Rattle.ucp_writer.specs.Refusals.{FrameWriterRefuses}
 use Rattle.ucp_writer.specs.Sends.{sendDue}
 use Rattle.refusals.specs.Numbers as because
 use Rattle.ucp_receiver.specs.declared.Answer.the-variants.{Nothing}
@@ -26,7 +26,7 @@ use Rattle.thm_mavlink_messages.proofs.Tabled.{tabled-mavlink}
 use Rattle.thm_mavlink_messages.proofs.RoundTrips as mavlink-trips
 use Rattle.thm_c_mavlink.proofs.ReadBack.{lent-mavlink-reads-back}
 use Rattle.thm_c_mavlink.proofs.WriteBack.{lent-mavlink-writes-back}
-use Rattle.thm_c_messages.proofs.EachKind.{lent-round-trips, lent-sent-is-delivered}
+use Rattle.thm_c_messages.proofs.EachKind.{lent-round-trips, lent-sent-is-delivered, linked-sent-is-delivered}
 use Rattle.thm_c_messages.proofs.Refusals.{lent-refusals, id-refuses}
 use Rattle.thm_c_messages.proofs.Tests.{no}
 use Rattle.thm_ucp_messages.proofs.Delivery.{sent-is-delivered, delivered-writes-back}
@@ -57,8 +57,9 @@ use Rattle.thm_ucp_receiver.proofs.Slice.{line-of-slices, slice-flag-clears, sl
 use Rattle.thm_ucp_receiver.proofs.Frames.{put-out-is-frame, frame-is-put-out, wrong-check-refused}
 use Rattle.thm_c_ucp.proofs.Receiver.{linked-lines, linked-answers, linked-counts, linked-store, linked-flag-clears, linked-later-only, linked-put-out-is-frame, linked-frame-is-put-out, linked-receiver-lists}
 use Rattle.thm_c_ucp.proofs.Slices.{linked-slice-lines, linked-slice-takes-all, linked-slice-flag-clears, linked-slice-is-call}
-use Rattle.thm_c_ucp.proofs.Writer.{linked-writer, linked-writer-lists}
-use Rattle.demands.specs.Demands.{TableNumbers, FrameWriterRefuses, Demand1, Demand2, Demand3, ReceiverLists, PremisesTied}
+use Rattle.thm_c_ucp.proofs.Writer.{linked-writer, linked-writer-refuses, linked-writer-lists}
+use Rattle.thm_c_ucp.proofs.Delivery.{linked-delivered-writes-back}
+use Rattle.demands.specs.Demands.{TableNumbers, Demand1, Demand2, Demand3, ReceiverLists, PremisesTied}
 use Rattle.demands.proofs.Refusals.{Tabled, quiet, numbered, whole, tabled}
 
 -- an answer that is the one due is a refusal when that is
@@ -94,11 +95,11 @@ frame-refused body output number = ((λ e. go e (refused-so body output number (
   where
     go : frameDue body output ≡ writer.refused number → (number ≡ 7) ⊎ (number ≡ 8) → FrameWriterRefuses body output number
     go e (inl n) = inl (n, refused-7 body output .0 (e ∙ ap writer.refused n))
-    go e (inr n) = let c = refused-8 body output .0 (e ∙ ap writer.refused n) in inr (n, c .0, c .1, c .2)
+    go e (inr n) = inr (n, refused-8 body output .0 (e ∙ ap writer.refused n))
 
     back : FrameWriterRefuses body output number → frameDue body output ≡ writer.refused number
     back (inl h) = refused-7 body output .1 (h .1) ∙ ap writer.refused (sym (h .0))
-    back (inr h) = refused-8 body output .1 (h .1, h .2, h .3) ∙ ap writer.refused (sym (h .0))
+    back (inr h) = refused-8 body output .1 (h .1) ∙ ap writer.refused (sym (h .0))
 
 abbrev SendRefused : Bool → List ℕ → List ℕ → ℕ → Type 0
 SendRefused fit body buffer number =
@@ -117,15 +118,6 @@ send-refused false body buffer number = ((λ e. inl (cc, refl)), back)
     back : SendRefused false body buffer number → writer.refused 13 ≡ writer.refused number
     back (inl h) = ap writer.refused (sym (h .0))
     back (inr h) = no (h .0)
-
--- ---- one call of the linked writer
-
-written-refused : (due : WriterAnswer) (body output after : List ℕ) (given : OstrogoszWritten) → due ≡ frameDue body output
-    → WritingNumbers due (frame body) output given after → (given .refusal ≡ 0 → ⊥)
-    → ((given .refusal ≡ because.bodyLength) ⊎ (given .refusal ≡ because.outputLength)) × (given .length ≡ 0) × (after ≡ output)
-written-refused (writer.refused number) body output after given e w some =
-    rw (w .answers) (refused-so body output number e, refl, w .leaves)
-written-refused (writer.wrote octets) body output after given e w some = absurd (some (ap (λ (g : OstrogoszWritten). g .refusal) (w .answers)))
 
 table-numbers : TableNumbers
 table-numbers =
@@ -188,7 +180,7 @@ demand1 =
                 ∙ answer-nothing (verdictDue (record { rest = restIn line; store = store }) octet (length output)) output
                 (sym (m .received .answers) ∙ ap receiver-answers.receiverAnswer told),
           );
-      linkedWriterRefuses = λ body output after given w some. written-refused (frameDue body output) body output after given refl w some;
+      linkedWriterRefuses = linked-writer-refuses;
       linkedMessagesRefuse = lent-refusals;
       linkedIdRefuses = id-refuses;
       linkedMavlinkReadersRefuse = mavlink-reader-refuses;
@@ -219,6 +211,7 @@ demand2 =
       sliceEndsAsCall = slice-is-call;
       linkedAnswersByHistory = linked-answers;
       linkedDeliveredIsFrame = linked-put-out-is-frame;
+      linkedDeliveredWritesBack = linked-delivered-writes-back;
       linkedFrameIsDelivered = linked-frame-is-put-out;
       linkedCountsByHistory = linked-counts;
       linkedSliceTakesAll = linked-slice-takes-all;
@@ -229,6 +222,7 @@ demand2 =
       messageReadIsTyped = read-is-typed;
       lentMessagesReadAndWriteBack = lent-round-trips;
       lentMessageSentIsDelivered = lent-sent-is-delivered;
+      linkedMessageSentIsDelivered = linked-sent-is-delivered;
       sentIsDelivered = sent-is-delivered;
       mavlinkReadsBack = mavlink-trips.written-reads-back;
       mavlinkWritesBack = mavlink-trips.accepted-writes-back;

@@ -26,6 +26,7 @@ use Rattle.ucp_frame.specs.Frame.{frame, longestBody, longestFrame}
 use Rattle.output_writing.specs.declared.Written.{Written}
 use Rattle.output_writing.specs.Writing.{WriterAnswer, refused, wrote, writerAnswer, Writing}
 use Rattle.ucp_writer.specs.Writes.{WritesFrame}
+use Rattle.ucp_writer.specs.Refusals.{WrongBodyLength, NoRoomForFrame, FrameWriterRefuses}
 use Rattle.mavlink_frame.specs.declared.Header.{Header}
 use Rattle.mavlink_messages.specs.declared.Message as mavlink
 use Rattle.mavlink_messages.specs.declared.Read.{Read as MavlinkRead}
@@ -35,7 +36,7 @@ use Rattle.mavlink_messages.specs.Refusals.{MavlinkShort, MavlinkWrongStart, Ma
 use Rattle.thm_mavlink_messages.specs.RoundTrips as mavlink-trips
 use Rattle.thm_c_mavlink.specs.RoundTrips.{LentMavlinkReadsBack, LentMavlinkWritesBack}
 use Rattle.thm_c_messages.specs.RoundTrips.{LentRoundTrips}
-use Rattle.thm_c_messages.specs.Delivery.{LentSentIsDelivered}
+use Rattle.thm_c_messages.specs.Delivery.{LentSentIsDelivered, DeliversOnLine}
 use Rattle.thm_c_messages.specs.Refusals.{LentRefusals, IdRefuses}
 use Rattle.thm_ucp_messages.specs.Delivery.{SentIsDelivered, DeliveredWritesBack}
 use Rattle.thm_ucp_messages.specs.RoundTrips as message-trips
@@ -64,12 +65,11 @@ use Rattle.thm_ucp_writer.specs.Calls.{WriterLists}
 use Rattle.thm_ucp_receiver.specs.Line.{Observed, callOf, upTo, Line}
 use Rattle.thm_ucp_receiver.specs.Lines.{EveryLine}
 use Rattle.thm_ucp_receiver.specs.Slice.{LineOfSlices, SliceFlagClears, SliceIsCall}
-use Rattle.output_writing.specs.declared.OstrogoszWritten.{OstrogoszWritten}
-use Rattle.c_ucp_frames.specs.Frames.{WritesFrameNumbers}
 use Rattle.c_ucp_receiver.specs.Numbers.{ReceivesNumbers}
 use Rattle.thm_c_ucp.specs.Receiver.{LinkedLines, LinkedAnswersByHistory, LinkedCountsByHistory, LinkedStoreByHistory, LinkedFlagClears, LinkedLaterOnly, LinkedPutOutIsFrame, LinkedFrameIsPutOut, LinkedReceiverLists}
 use Rattle.thm_c_ucp.specs.Slices.{LinkedSliceLines, LinkedSliceTakesAll, LinkedSliceFlagClears, LinkedSliceIsCall}
-use Rattle.thm_c_ucp.specs.Writer.{LinkedWriter, LinkedWriterLists}
+use Rattle.thm_c_ucp.specs.Writer.{LinkedWriter, LinkedWriterRefuses, LinkedWriterLists}
+use Rattle.thm_c_ucp.specs.Delivery.{DeliversLinked, LinkedDeliveredWritesBack}
 use Rattle.demands.specs.LinkedMavlink.{MavlinkReaderRefuses, MavlinkWriterRefuses, MavlinkIdRefuses}
 use Rattle.thm_ucp_receiver.specs.Promises.{AnswersAs, AnswersByHistory, StretchIsAnswered, CountsByHistory, EveryOctetCounted, StoreClean, StoreByHistory, HuntingStoresNothing, FlagClears, LaterOnly, PutOutIsFrame, FrameIsPutOut, EndsIn, carrying}
 
@@ -84,12 +84,6 @@ pub record TableNumbers : Type 0 where
       (because.mavlinkShort ≡ 20) × (because.mavlinkStart ≡ 21) × (because.mavlinkUnknownId ≡ 22) × (because.mavlinkLength ≡ 23)
       × (because.mavlinkWrongCheck ≡ 24) × (because.mavlinkField ≡ 25)
 
--- when the frame writer refuses a body: rows 7 and 8 of the table, in that order
-abbrev pub FrameWriterRefuses : List ℕ → List ℕ → ℕ → Type 0
-FrameWriterRefuses body output number =
-    ((number ≡ because.bodyLength) × ((length body ≡ 0) ⊎ (longestBody < length body)))
-    ⊎ ((number ≡ because.outputLength) × (1 ≤ length body) × (length body ≤ longestBody) × (length output < length (frame body)))
-
 -- Demand 1. Each clause stands below the tender's sentence, in its words. "Every call on every input returns, with no undefined
 -- step": see above. The calls that are linked are the others in C's numbers, so that what is said of lines and of the writer holds
 -- of them.
@@ -100,11 +94,10 @@ pub record Demand1 : Type 0 where
   pub numbers : TableNumbers
   pub writerRefuses7 :
       (body output after : List ℕ) (r : Written) → WritesFrame body output r after
-      → (writerAnswer r ≡ refused because.bodyLength) ↔ ((length body ≡ 0) ⊎ (longestBody < length body))
+      → (writerAnswer r ≡ refused because.bodyLength) ↔ WrongBodyLength body
   pub writerRefuses8 :
       (body output after : List ℕ) (r : Written) → WritesFrame body output r after
-      → (writerAnswer r ≡ refused because.outputLength)
-      ↔ ((1 ≤ length body) × (length body ≤ longestBody) × (length output < length (frame body)))
+      → (writerAnswer r ≡ refused because.outputLength) ↔ NoRoomForFrame body output
   pub writerRefuses :
       (body output after : List ℕ) (r : Written) (number : ℕ) → WritesFrame body output r after → writerAnswer r ≡ refused number
       → ((number ≡ because.bodyLength) ⊎ (number ≡ because.outputLength)) × (after ≡ output)
@@ -199,10 +192,7 @@ pub record Demand1 : Type 0 where
       (store line : List ℕ) (octet : ℕ) (output : List ℕ) (kind value : ℕ) (storeAfter lineAfter outputThen : List ℕ)
       → ReceivesNumbers store line octet output kind value storeAfter lineAfter outputThen
       → kind ≡ 0 → (value ≡ 0) × (outputThen ≡ output)
-  pub linkedWriterRefuses :
-      (body output after : List ℕ) (given : OstrogoszWritten) → WritesFrameNumbers body output given after
-      → (given .refusal ≡ 0 → ⊥)
-      → ((given .refusal ≡ because.bodyLength) ⊎ (given .refusal ≡ because.outputLength)) × (given .length ≡ 0) × (after ≡ output)
+  pub linkedWriterRefuses : LinkedWriterRefuses
   -- of the linked calls for one kind of message, readers, writers and sends: each refusal exactly when, in the order of tests, and what
   -- was lent is left; and of the call that gives a body's ID
   pub linkedMessagesRefuse : LentRefusals
@@ -250,6 +240,7 @@ pub record Demand2 : Type 0 where
   -- of the linked calls: their numbers are those of the answer and of the counts that the history gives
   pub linkedAnswersByHistory : LinkedAnswersByHistory
   pub linkedDeliveredIsFrame : LinkedPutOutIsFrame
+  pub linkedDeliveredWritesBack : LinkedDeliveredWritesBack
   pub linkedFrameIsDelivered : LinkedFrameIsPutOut
   pub linkedCountsByHistory : LinkedCountsByHistory
   pub linkedSliceTakesAll : LinkedSliceTakesAll
@@ -264,7 +255,8 @@ pub record Demand2 : Type 0 where
   -- of the calls that C links for one kind, `ostrogosz_ucp_read_..`, `ostrogosz_ucp_write_..` and `ostrogosz_ucp_send_..`, by
   -- `ReadsInto`, `WritesStructBody` and `SendsStruct` (c_lent)
   pub lentMessagesReadAndWriteBack : LentRoundTrips
-  pub lentMessageSentIsDelivered : LentSentIsDelivered
+  pub lentMessageSentIsDelivered : LentSentIsDelivered DeliversOnLine
+  pub linkedMessageSentIsDelivered : LentSentIsDelivered DeliversLinked
   pub sentIsDelivered : SentIsDelivered
   pub mavlinkReadsBack : mavlink-trips.MavlinkReadsBack
   pub mavlinkWritesBack : mavlink-trips.MavlinkWritesBack

@@ -35,10 +35,12 @@ use Rattle.c_ucp_control.proofs.Agree.{control-struct-right}
 use Rattle.c_ucp_initialization.specs.Struct.{initializationStruct}
 use Rattle.c_ucp_initialization.proofs.Agree.{initialization-struct-right}
 use Rattle.c_ucp_uplink.specs.Uplink.{ReadsUplink}
-use Rattle.thm_ucp_messages.proofs.Delivery.{sent-body, put-out}
+use Rattle.thm_c_ucp.specs.Delivery.{DeliversLinked}
+use Rattle.thm_c_ucp.proofs.Delivery.{frame-delivered-linked}
 use Rattle.thm_c_messages.specs.RoundTrips.{UplinkRoundTrips, LentRoundTrips}
-use Rattle.thm_c_messages.specs.Delivery.{UplinkSentIsDelivered, LentSentIsDelivered}
-use Rattle.thm_c_messages.proofs.Accepted.{accepted, writes, sent-accepted, fills, of-kind, kind-of}
+use Rattle.thm_c_messages.specs.Delivery.{OnEitherLine, DeliversOnLine, UplinkSentIsDelivered, LentSentIsDelivered}
+use Rattle.thm_c_messages.proofs.Accepted.{accepted, writes, sent, fills, of-kind, kind-of}
+use Rattle.thm_c_messages.proofs.Delivery.{DeliversFrames, frame-delivered}
 use Rattle.thm_c_messages.proofs.Structs.{SameValues, struct-round-trips, struct-sent-is-delivered}
 
 -- ---- what a writer tested, one by one
@@ -239,21 +241,31 @@ lent-round-trips = record {
   initialization = struct-round-trips initializationFormat initializationStruct initialization-same;
 }
 
-uplink-sent-is-delivered : UplinkSentIsDelivered
-uplink-sent-is-delivered payload buffer after w call none before later o line ends enough =
-    let body : List ℕ = uplinkBody payload in
-    let e = sent-accepted (uplinkFits payload) body buffer w call none in
-    let d = sent-body (uplinkFits payload) body buffer (e .0) (e .1) before later o line ends enough in
-    (d .1, λ lent left r reading. uplink-reads-back payload lent left r (d .0) (rw (put-out body o (d .1)) at reading))
+-- on either line, where that delivers every frame
+module _ (Delivers : OnEitherLine) (delivers : DeliversFrames Delivers) where
+  uplink-sent-is-delivered : UplinkSentIsDelivered Delivers
+  uplink-sent-is-delivered payload buffer after w call none =
+      let body : List ℕ = uplinkBody payload in
+      let e = sent (uplinkFits payload) body buffer call none in
+      subst (λ (octets : List ℕ). Delivers octets body (λ (b : List ℕ). (lent left : List ℕ) (r : ℕ) → ReadsUplink b lent r left → (r ≡ 0) × (left ≡ payload)))
+      (e .whole)
+      (delivers body (λ (b : List ℕ). (lent left : List ℕ) (r : ℕ) → ReadsUplink b lent r left → (r ≡ 0) × (left ≡ payload)) (e .long)
+      (λ lent left r reading. uplink-reads-back payload lent left r (e .fit) reading))
 
-pub lent-sent-is-delivered : LentSentIsDelivered
-lent-sent-is-delivered = record {
-  heartbeat = struct-sent-is-delivered heartbeatFormat heartbeatStruct heartbeat-same;
-  uplink = uplink-sent-is-delivered;
-  ownship = struct-sent-is-delivered (reportFormat 10) reportStruct (report-same 10);
-  geometricAltitude = struct-sent-is-delivered geometricFormat geometricStruct geometric-same;
-  traffic = struct-sent-is-delivered (reportFormat 20) reportStruct (report-same 20);
-  request = struct-sent-is-delivered requestFormat requestStruct request-same;
-  control = struct-sent-is-delivered controlFormat controlStruct control-same;
-  initialization = struct-sent-is-delivered initializationFormat initializationStruct initialization-same;
-}
+  each-sent-is-delivered : LentSentIsDelivered Delivers
+  each-sent-is-delivered = record {
+    heartbeat = struct-sent-is-delivered heartbeatFormat heartbeatStruct heartbeat-same Delivers delivers;
+    uplink = uplink-sent-is-delivered;
+    ownship = struct-sent-is-delivered (reportFormat 10) reportStruct (report-same 10) Delivers delivers;
+    geometricAltitude = struct-sent-is-delivered geometricFormat geometricStruct geometric-same Delivers delivers;
+    traffic = struct-sent-is-delivered (reportFormat 20) reportStruct (report-same 20) Delivers delivers;
+    request = struct-sent-is-delivered requestFormat requestStruct request-same Delivers delivers;
+    control = struct-sent-is-delivered controlFormat controlStruct control-same Delivers delivers;
+    initialization = struct-sent-is-delivered initializationFormat initializationStruct initialization-same Delivers delivers;
+  }
+
+pub lent-sent-is-delivered : LentSentIsDelivered DeliversOnLine
+lent-sent-is-delivered = each-sent-is-delivered DeliversOnLine frame-delivered
+
+pub linked-sent-is-delivered : LentSentIsDelivered DeliversLinked
+linked-sent-is-delivered = each-sent-is-delivered DeliversLinked frame-delivered-linked

@@ -14,10 +14,8 @@ use Rattle.output_writing.specs.declared.OstrogoszWritten.{OstrogoszWritten}
 use Rattle.output_writing.specs.Writing.{WriterAnswer, refused, wrote, outputAfter, writtenNumbers, WritingNumbers}
 use Rattle.ucp_answers.specs.Refusals.{refusalOf}
 use Rattle.ucp_answers.specs.Writes.{bodyDue}
-use Rattle.ucp_frame.specs.Frame.{frame, longestBody}
-use Rattle.ucp_writer.specs.Room.{frameDue}
+use Rattle.ucp_frame.specs.Frame.{frame}
 use Rattle.ucp_writer.specs.Sends.{sendDue}
-use Rattle.ucp_writer.proofs.room.Due.{accepted-so, refused-so, refused-7, refused-8}
 use Rattle.ucp_messages.specs.Heartbeat0.{heartbeatFormat}
 use Rattle.ucp_messages.specs.Uplink7.{uplinkFits, uplinkBody}
 use Rattle.ucp_messages.specs.Report10.{reportFormat}
@@ -39,6 +37,7 @@ use Rattle.c_ucp_control.specs.Struct.{controlStruct}
 use Rattle.c_ucp_initialization.specs.Struct.{initializationStruct}
 use Rattle.c_ucp_ids.specs.declared.OstrogoszId.{OstrogoszId}
 use Rattle.c_ucp_ids.specs.Ids.{isKnown, idDue}
+use Rattle.thm_c_ucp.proofs.Writer.{frame-refusals}
 use Rattle.thm_c_messages.specs.Refusals.{OfAnotherId, OfItsId, ReaderRefusals, WriterRefusals, SendRefusals, StructRefuses, UplinkRefuses, LentRefusals, IdRefuses}
 use Rattle.thm_c_messages.proofs.Tests.{Is, is, unknown-so, no, Tested, tested-format, tested-uplink, exact}
 
@@ -147,74 +146,26 @@ unfolding bodyDue
 body-refusals fit body output given after call = writer-refusals 13 (omega arith) fit (length body) body output given after call
 
 -- ---- sending
-module _ (body buffer : List ℕ) (given : OstrogoszWritten) (after : List ℕ) where
-  abbrev WrongLength : Type 0
-  WrongLength = (length body ≡ 0) ⊎ (longestBody < length body)
-
-  clash : {C : Type 0} → WrongLength → 1 ≤ length body → length body ≤ longestBody → C
-  clash (inl none) least most = absurd (omega arith)
-  clash (inr many) least most = absurd (omega arith)
-
-  framed : (due : WriterAnswer) → frameDue body buffer ≡ due → given ≡ writtenNumbers due → after ≡ outputAfter (frame body) buffer due
-      → SendRefusals true body buffer given after
-  framed (refused number) e a l = go (refused-so body buffer number (sym e))
-    where
-      is-refused : given .refusal ≡ number
-      is-refused = ap (λ (o : OstrogoszWritten). o .refusal) a
-
-      go : (number ≡ 7) ⊎ (number ≡ 8) → SendRefusals true body buffer given after
-      go (inl n) =
-          let r : given .refusal ≡ 7 = is-refused ∙ n in
-          let c = refused-7 body buffer .0 (e ∙ ap refused n) in
-          record {
-            refuses13 = (λ h. absurd (omega arith), λ h. no (sym h));
-            refuses7 = (λ h. (refl, c), λ h. r);
-            refuses8 = (λ h. absurd (omega arith), λ h. clash c (h .1) (h .2));
-            accepts = (λ h. absurd (omega arith), λ h. clash c (h .1) (h .2));
-            no-other = inr (inl r);
-            writes = λ h. absurd (omega arith);
-            leaves = λ h. (ap (λ (o : OstrogoszWritten). o .length) a, l);
-          }
-      go (inr n) =
-          let r : given .refusal ≡ 8 = is-refused ∙ n in
-          let c = refused-8 body buffer .0 (e ∙ ap refused n) in
-          record {
-            refuses13 = (λ h. absurd (omega arith), λ h. no (sym h));
-            refuses7 = (λ h. absurd (omega arith), λ h. clash (h .1) (c .0) (c .1));
-            refuses8 = (λ h. (refl, c .0, c .1, c .2), λ h. r);
-            accepts = (λ h. absurd (omega arith), λ h. absurd (omega (arith, h .3, c .2)));
-            no-other = inr (inr (inl r));
-            writes = λ h. absurd (omega arith);
-            leaves = λ h. (ap (λ (o : OstrogoszWritten). o .length) a, l);
-          }
-  framed (wrote octets) e a l =
-      let r : given .refusal ≡ 0 = ap (λ (o : OstrogoszWritten). o .refusal) a in
-      let c = accepted-so body buffer octets (sym e) in
-      record {
-        refuses13 = (λ h. absurd (omega arith), λ h. no (sym h));
-        refuses7 = (λ h. absurd (omega arith), λ h. clash (h .1) (c .least) (c .most));
-        refuses8 = (λ h. absurd (omega arith), λ h. absurd (omega (arith, h .3, c .room)));
-        accepts = (λ h. (refl, c .least, c .most, c .room), λ h. r);
-        no-other = inl r;
-        writes = λ h. rw (c .exact) (ap (λ (o : OstrogoszWritten). o .length) a, l);
-        leaves = λ h. absurd (h r);
-      }
-
-  send-refusals : (fit : Bool) → WritingNumbers (sendDue fit body buffer) (frame body) buffer given after
-      → SendRefusals fit body buffer given after
-  unfolding sendDue
-  send-refusals true call = framed (frameDue body buffer) refl (call .answers) (call .leaves)
-  send-refusals false call =
-      let r : given .refusal ≡ 13 = ap (λ (o : OstrogoszWritten). o .refusal) (call .answers) in
-      record {
-        refuses13 = (λ h. refl, λ h. r);
-        refuses7 = (λ h. absurd (omega arith), λ h. no (h .0));
-        refuses8 = (λ h. absurd (omega arith), λ h. no (h .0));
-        accepts = (λ h. absurd (omega arith), λ h. no (h .0));
-        no-other = inr (inr (inr r));
-        writes = λ h. absurd (omega arith);
-        leaves = λ h. (ap (λ (o : OstrogoszWritten). o .length) (call .answers), call .leaves);
-      }
+pub send-refusals : (fit : Bool) (body buffer : List ℕ) (given : OstrogoszWritten) (after : List ℕ)
+    → WritingNumbers (sendDue fit body buffer) (frame body) buffer given after → SendRefusals fit body buffer given after
+unfolding sendDue
+send-refusals true body buffer given after call =
+    let so = frame-refusals body buffer given after call in
+    record {
+      refuses13 = (λ h. not-13 (so .no-other) h, λ h. no (sym h));
+      leaves = λ h. no (sym h);
+      frames = λ h. so;
+    }
+  where
+    not-13 : {C : Type 0} → (given .refusal ≡ 0) ⊎ ((given .refusal ≡ 7) ⊎ (given .refusal ≡ 8)) → given .refusal ≡ 13 → C
+    not-13 (inl e) h = absurd (omega arith)
+    not-13 (inr (inl e)) h = absurd (omega arith)
+    not-13 (inr (inr e)) h = absurd (omega arith)
+send-refusals false body buffer given after call = record {
+  refuses13 = (λ h. refl, λ h. ap (λ (o : OstrogoszWritten). o .refusal) (call .answers));
+  leaves = λ h. (ap (λ (o : OstrogoszWritten). o .length) (call .answers), call .leaves);
+  frames = λ h. no h;
+}
 
 -- ---- the three calls of a kind whose format has its ID, its length, its fixed octets and its ranges
 struct-refuses : {A : Type 0} (k : Kind) (f : Format A) (s : Struct A) → bodySize f ≡ kindLength k → drop 1 (f .head) ≡ fixedOctets k
@@ -223,14 +174,14 @@ struct-refuses k f s size head ranges = (
   λ body before after answer call.
       reads-so (reader-refusals (getD (f .head) 0 0) body k (refusalOf f body) (tested-format f k body size head (ranges body))) call,
   λ a output after given call. body-refusals (fits f a) (bodyOf f a) output given after call,
-  λ a buffer after given call. send-refusals (bodyOf f a) buffer given after (fits f a) call,
+  λ a buffer after given call. send-refusals (fits f a) (bodyOf f a) buffer given after call,
 )
 
 uplink-refuses : UplinkRefuses
 uplink-refuses = (
   λ body before after answer call. reads-so (reader-refusals 7 body Uplink _ (tested-uplink body)) call,
   λ payload output after given call. body-refusals (uplinkFits payload) (uplinkBody payload) output given after call,
-  λ payload buffer after given call. send-refusals (uplinkBody payload) buffer given after (uplinkFits payload) call,
+  λ payload buffer after given call. send-refusals (uplinkFits payload) (uplinkBody payload) buffer given after call,
 )
 
 pub lent-refusals : LentRefusals

@@ -10,7 +10,6 @@ use lib.ListN.{length, getD, drop}
 use Rattle.refusals.specs.Numbers as because
 use Rattle.field_format.specs.Format.{Format, fits, bodyOf}
 use Rattle.output_writing.specs.declared.OstrogoszWritten.{OstrogoszWritten}
-use Rattle.ucp_frame.specs.Frame.{frame, longestBody}
 use Rattle.ucp_messages.specs.declared.Kind.{Kind}
 use Rattle.ucp_messages.specs.declared.Kind.the-variants as kind
 use Rattle.ucp_messages.specs.Refusals.{UnknownId, HasKindLength, HasFixedOctets, fieldsInRange}
@@ -34,6 +33,7 @@ use Rattle.c_ucp_control.specs.Struct.{controlStruct}
 use Rattle.c_ucp_initialization.specs.Struct.{initializationStruct}
 use Rattle.c_ucp_ids.specs.declared.OstrogoszId.{OstrogoszId}
 use Rattle.c_ucp_ids.specs.Ids.{idDue}
+use Rattle.thm_c_ucp.specs.Writer.{FrameRefusals}
 
 -- ---- reading
 -- no octet, or another first octet than the kind's ID; and the other way
@@ -76,21 +76,11 @@ WriterRefuses {A} fit body Call =
     (a : A) (output after : List ℕ) (given : OstrogoszWritten) → Call a output given after
     → WriterRefusals because.field (fit a) (length (body a)) (body a) output given after
 
--- ---- sending: 13, then what the frame writer answers to the body: 7, then 8
+-- ---- sending: 13, then what the frame writer for C answers to the body and leaves, `FrameRefusals`: 7, then 8
 pub record SendRefusals (fit : Bool) (body buffer : List ℕ) (given : OstrogoszWritten) (after : List ℕ) : Type 0 where
   pub refuses13 : (given .refusal ≡ because.field) ↔ (fit ≡ false)
-  pub refuses7 : (given .refusal ≡ because.bodyLength) ↔ ((fit ≡ true) × ((length body ≡ 0) ⊎ (longestBody < length body)))
-  pub refuses8 :
-      (given .refusal ≡ because.outputLength)
-      ↔ ((fit ≡ true) × (1 ≤ length body) × (length body ≤ longestBody) × (length buffer < length (frame body)))
-  pub accepts :
-      (given .refusal ≡ 0)
-      ↔ ((fit ≡ true) × (1 ≤ length body) × (length body ≤ longestBody) × (length (frame body) ≤ length buffer))
-  pub no-other :
-      (given .refusal ≡ 0)
-      ⊎ ((given .refusal ≡ because.bodyLength) ⊎ ((given .refusal ≡ because.outputLength) ⊎ (given .refusal ≡ because.field)))
-  pub writes : given .refusal ≡ 0 → (given .length ≡ length (frame body)) × (after ≡ frame body ++ drop (length (frame body)) buffer)
-  pub leaves : (given .refusal ≡ 0 → ⊥) → (given .length ≡ 0) × (after ≡ buffer)
+  pub leaves : fit ≡ false → (given .length ≡ 0) × (after ≡ buffer)
+  pub frames : fit ≡ true → FrameRefusals body buffer given after
 
 abbrev pub SendRefuses : {A : Type 0} → (A → Bool) → (A → List ℕ) → (A → List ℕ → OstrogoszWritten → List ℕ → Type 0) → Type 0
 SendRefuses {A} fit body Call =

@@ -24,15 +24,18 @@ use Rattle.c_ucp_request.specs.Struct.{requestStruct}
 use Rattle.c_ucp_control.specs.Struct.{controlStruct}
 use Rattle.c_ucp_initialization.specs.Struct.{initializationStruct}
 
--- the writer accepted the message that a struct holds, and the reader is given the octets written: it answers 0, and its struct
--- holds the same, padding zero. (The struct's octets are octets, and as many as it has: as a running program's are, and antt's numbers
+-- a reader answered 0, and the struct that it left holds what the other does; with padding zero, that is all that it holds
+abbrev pub ReadsSame : {A : Type 0} → Struct A → List ℕ → ℕ → List ℕ → Type 0
+ReadsSame s message r left = (r ≡ 0) × (held s left ≡ held s message) × (left ≡ stored s (held s message))
+
+-- the writer accepted the message that a struct holds, and the reader is given the octets written: its struct holds the same. (The struct's octets are octets, and as many as it has: as a running program's are, and antt's numbers
 -- need not be.)
 abbrev pub StructReadsBack : {A : Type 0} → Format A → Struct A → Type 0
 StructReadsBack f s =
     (message output after before left : List ℕ) (w : OstrogoszWritten) (r : ℕ) → Octets message → length message ≡ structSize s
     → WritesStructBody f (held s message) output w after → w .refusal ≡ 0
     → ReadsInto f s (take (w .length) after) before r left
-    → (r ≡ 0) × (left ≡ stored s (held s message))
+    → ReadsSame s message r left
 
 -- the reader accepted a body, and the writer is given the struct that it left, and room: it writes the same octets
 abbrev pub StructWritesBack : {A : Type 0} → Format A → Struct A → Type 0

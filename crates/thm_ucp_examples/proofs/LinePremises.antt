@@ -8,7 +8,7 @@ use Rattle.crc_polynomial.specs.Polynomial.{bitsOfOctets, bitsOf, divided, step
 use Rattle.crc_gdl90.specs.Check.{frameCheck}
 use Rattle.ucp_frame.specs.Frame.{escaped, stuffed, frame}
 use Rattle.ucp_frame.specs.Stretch.{unstuffed, atFlag, judged, verdict}
-use Rattle.ucp_history.specs.History.{cutAtFlags, closingVerdict, answer}
+use Rattle.ucp_history.specs.History.{cutAtFlags, openStretch, answer}
 use Rattle.ucp_receiver.specs.Octet.{storing, stateAfter, verdictDue, countsAfter}
 use Rattle.ucp_receiver.specs.Slice.{sliceRun}
 use Rattle.output_writing.specs.declared.Written.{Written}
@@ -33,7 +33,7 @@ last-behind (x ∷ []) y ys = refl
 last-behind (x ∷ z ∷ zs) y ys = last-behind (z ∷ zs) y ys
 
 pub ends-in-met : EndsInMet
-unfolding bitsOfOctets bitsOf divided step reduced frameCheck escaped stuffed frame unstuffed atFlag judged verdict cutAtFlags closingVerdict answer
+unfolding bitsOfOctets bitsOf divided step reduced frameCheck escaped stuffed frame unstuffed atFlag judged verdict cutAtFlags openStretch answer
 ends-in-met =
     record {
       bodyLength = record { least = omega arith; most = omega arith };
