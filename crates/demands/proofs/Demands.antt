@@ -45,10 +45,11 @@ use Rattle.ucp_receiver.specs.Answers.{nothing, refusal, answerFor}
 use Rattle.ucp_receiver.specs.Octet.{verdictDue}
 use Rattle.crc_gdl90_strength.proofs.Caught.{strength}
 use Rattle.crc_gdl90_strength.proofs.Premises.{premises-met}
-use Rattle.thm_ucp_examples.proofs.LinePremises.{ends-in-met, slice-line-met, writer-call-met}
+use Rattle.thm_ucp_examples.proofs.LinePremises.{ends-in-met, stretch-met, slice-line-met, writer-call-met}
 use Rattle.thm_kind_examples.proofs.Ucp as ucp-kinds
 use Rattle.thm_kind_examples.proofs.Mavlink as mavlink-kinds
 use Rattle.thm_c_examples.proofs.Structs.{struct-examples}
+use Rattle.thm_c_examples.proofs.Premises.{struct-premises}
 use Rattle.thm_ucp_writer.proofs.Calls.{writer-lists}
 use Rattle.thm_ucp_receiver.specs.Line.{Line}
 use Rattle.thm_ucp_receiver.proofs.Promises.{answers, stretch-is-answered, counts, every-octet-counted, store-clean, store-by-history, hunting-stores-nothing, flag-clears, later-only}
@@ -58,6 +59,7 @@ use Rattle.thm_ucp_receiver.proofs.Frames.{put-out-is-frame, frame-is-put-out, 
 use Rattle.thm_c_ucp.proofs.Receiver.{linked-lines, linked-answers, linked-counts, linked-store, linked-flag-clears, linked-later-only, linked-put-out-is-frame, linked-frame-is-put-out, linked-receiver-lists}
 use Rattle.thm_c_ucp.proofs.Slices.{linked-slice-lines, linked-slice-takes-all, linked-slice-flag-clears, linked-slice-is-call}
 use Rattle.thm_c_ucp.proofs.Writer.{linked-writer, linked-writer-refuses, linked-writer-lists}
+use Rattle.thm_c_ucp.proofs.Lines.{every-linked-line}
 use Rattle.thm_c_ucp.proofs.Delivery.{linked-delivered-writes-back}
 use Rattle.demands.specs.Demands.{TableNumbers, Demand1, Demand2, Demand3, ReceiverLists, PremisesTied}
 use Rattle.demands.proofs.Refusals.{Tabled, quiet, numbered, whole, tabled}
@@ -253,10 +255,13 @@ premises-tied =
     record {
       bodies = premises-met;
       lines = every-line;
+      linkedLines = every-linked-line;
       endsIn = ends-in-met;
+      stretches = stretch-met;
       sliceLine = slice-line-met;
       writerCalls = writer-call-met;
       ucpKinds = ucp-kinds.examples;
       mavlinkKinds = mavlink-kinds.examples;
       structs = struct-examples;
+      structPremises = struct-premises;
     }

@@ -57,10 +57,11 @@ use Rattle.ucp_messages.specs.Refusals.{UnknownId, WrongMessageLength, WrongFix
 use Rattle.ucp_answers.specs.Writes as Message
 use Rattle.ucp_send.specs.Sends.{Sends}
 use Rattle.crc_gdl90_strength.specs.Premises.{PremisesMet}
-use Rattle.thm_ucp_examples.specs.LinePremises.{EndsInMet, SliceLineMet, WriterCallMet}
+use Rattle.thm_ucp_examples.specs.LinePremises.{EndsInMet, StretchMet, SliceLineMet, WriterCallMet}
 use Rattle.thm_kind_examples.specs.Ucp.{UcpKindExamples}
 use Rattle.thm_kind_examples.specs.Mavlink.{MavlinkKindExamples}
 use Rattle.thm_c_examples.specs.Structs.{StructExamples}
+use Rattle.thm_c_examples.specs.Premises.{StructPremises}
 use Rattle.thm_ucp_writer.specs.Calls.{WriterLists}
 use Rattle.thm_ucp_receiver.specs.Line.{Observed, callOf, upTo, Line}
 use Rattle.thm_ucp_receiver.specs.Lines.{EveryLine}
@@ -69,6 +70,7 @@ use Rattle.c_ucp_receiver.specs.Numbers.{ReceivesNumbers}
 use Rattle.thm_c_ucp.specs.Receiver.{LinkedLines, LinkedAnswersByHistory, LinkedCountsByHistory, LinkedStoreByHistory, LinkedFlagClears, LinkedLaterOnly, LinkedPutOutIsFrame, LinkedFrameIsPutOut, LinkedReceiverLists}
 use Rattle.thm_c_ucp.specs.Slices.{LinkedSliceLines, LinkedSliceTakesAll, LinkedSliceFlagClears, LinkedSliceIsCall}
 use Rattle.thm_c_ucp.specs.Writer.{LinkedWriter, LinkedWriterRefuses, LinkedWriterLists}
+use Rattle.thm_c_ucp.specs.Lines.{EveryLinkedLine}
 use Rattle.thm_c_ucp.specs.Delivery.{DeliversLinked, LinkedDeliveredWritesBack}
 use Rattle.demands.specs.LinkedMavlink.{MavlinkReaderRefuses, MavlinkWriterRefuses, MavlinkIdRefuses}
 use Rattle.thm_ucp_receiver.specs.Promises.{AnswersAs, AnswersByHistory, StretchIsAnswered, CountsByHistory, EveryOctetCounted, StoreClean, StoreByHistory, HuntingStoresNothing, FlagClears, LaterOnly, PutOutIsFrame, FrameIsPutOut, EndsIn, carrying}
@@ -294,15 +296,19 @@ pub record Demand3 : Type 0 where
   pub linkedWriter : LinkedWriterLists
 
 -- What these demands suppose is met by some calls, and not by all: bodies at each edge of demand 3, a line that ends in a frame, a
--- line in slices of which one is answered, calls of the writer of which one is accepted; and every list of octets is a line. Each kind
--- of message has values that fit and values that do not, and octets that carry them; and each C struct has its fields, by name, at
--- their offsets.
+-- stretch that is open, a line in slices of which one is answered, calls of the writer of which one is accepted; every list of octets
+-- is a line and a linked line, and every list of octets and slices is one of linked calls. Each kind of message has values that fit
+-- and values that do not, and octets that carry them; each C struct has its fields, by name, at their offsets, and octets that its
+-- calls accept and refuse. (docs/ASSURANCE.md lists each premise and what ties it.)
 pub record PremisesTied : Type 0 where
   pub bodies : PremisesMet
   pub lines : EveryLine
+  pub linkedLines : EveryLinkedLine
   pub endsIn : EndsInMet
+  pub stretches : StretchMet
   pub sliceLine : SliceLineMet
   pub writerCalls : WriterCallMet
   pub ucpKinds : UcpKindExamples
   pub mavlinkKinds : MavlinkKindExamples
   pub structs : StructExamples
+  pub structPremises : StructPremises
