@@ -220,11 +220,12 @@ id-refuses body given e = go (decided (kindIn body))
         × ((given .refusal ≡ 0) ↔ (UnknownId body → ⊥))
         × ((given .refusal ≡ 0) ⊎ (given .refusal ≡ 10))
         × (given .refusal ≡ 0 → given .id ≡ getD body 0 0)
+        × ((given .refusal ≡ 0 → ⊥) → given .id ≡ 0)
     go (inl u) =
         let d : given ≡ record { refusal = 10; id = 0 } = e ∙ rw (u .1) in
         let r : given .refusal ≡ 10 = ap (λ (o : OstrogoszId). o .refusal) d in
         let so = unknown-so body .0 (u .0) in
-        ((λ h. so, λ h. r), (λ h. absurd (omega arith), λ h. absurd (h so)), inr r, λ h. absurd (omega arith))
+        ((λ h. so, λ h. r), (λ h. absurd (omega arith), λ h. absurd (h so)), inr r, λ h. absurd (omega arith), λ h. ap (λ (o : OstrogoszId). o .id) d)
     go (inr k) =
         let d : given ≡ record { refusal = 0; id = getD body 0 0 } = e ∙ rw (k .1) in
         let r : given .refusal ≡ 0 = ap (λ (o : OstrogoszId). o .refusal) d in (
@@ -232,4 +233,5 @@ id-refuses body given e = go (decided (kindIn body))
           (λ h u. k .0 (unknown-so body .1 u), λ h. r),
           inl r,
           λ h. ap (λ (o : OstrogoszId). o .id) d,
+          λ h. absurd (h r),
         )

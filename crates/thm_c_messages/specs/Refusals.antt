@@ -110,7 +110,7 @@ pub record LentRefusals : Type 0 where
   pub control : StructRefuses 45 kind.Control controlFormat controlStruct
   pub initialization : StructRefuses 117 kind.Initialization initializationFormat initializationStruct
 
--- ---- the call that gives a body's ID: 10 for no octet or an ID of no kind, and no other refusal
+-- ---- the call that gives a body's ID: 10 for no octet or an ID of no kind, no other refusal, and beside it no ID
 abbrev pub IdRefuses : Type 0
 IdRefuses =
     (body : List ℕ) (given : OstrogoszId) → given ≡ idDue body
@@ -118,3 +118,4 @@ IdRefuses =
     × ((given .refusal ≡ 0) ↔ (UnknownId body → ⊥))
     × ((given .refusal ≡ 0) ⊎ (given .refusal ≡ because.unknownId))
     × (given .refusal ≡ 0 → given .id ≡ getD body 0 0)
+    × ((given .refusal ≡ 0 → ⊥) → given .id ≡ 0)

@@ -1,13 +1,13 @@
 -- A linked line is a line in numbers, and what holds of lines is carried over. Assumes nothing.
 use mathlib.Core.Path.{_≡_, refl, sym, ap, subst, _∙_}
 use mathlib.Core.List.{List, [], _∷_, _++_, map, map-append, append-assoc}
-use Prim.Native.Nat.{ℕ}
+use Prim.Native.Nat.{ℕ, _≤_}
 use native.Mathlib.Omega.{arith}
-use lib.ListN.{getD, take}
+use lib.ListN.{length, getD, take}
 use Rattle.refusals.specs.Numbers as because
 use Rattle.ucp_frame.specs.Frame.{frame}
 use Rattle.ucp_frame.specs.Stretch.{Verdict, silent, refused, delivered}
-use Rattle.ucp_history.specs.History.{Call, answer}
+use Rattle.ucp_history.specs.History.{Call, cutAtFlags, openStretch, answer}
 use Rattle.ucp_receiver.specs.declared.Answer.{Answer}
 use Rattle.ucp_receiver.specs.declared.Record.{Record}
 use Rattle.ucp_receiver.specs.declared.Rest.{Rest}
@@ -18,9 +18,9 @@ use Rattle.c_ucp_receiver.specs.Numbers.{phaseNumber, recordIn, recordNumbers, 
 use Rattle.c_ucp_receiver.proofs.Numbers.{record-back, answer-back, receives}
 use Rattle.thm_ucp_receiver.specs.Line.{Observed, callOf, Runs, Line}
 use Rattle.thm_ucp_receiver.specs.Promises.{AnswersAs, CountsAs, StoreAs, putOut, Seen, seen, EndsIn, BodyLength, carrying}
-use Rattle.thm_ucp_receiver.proofs.Promises.{answers, counts, store-by-history, flag-clears, later-only}
+use Rattle.thm_ucp_receiver.proofs.Promises.{answers, stretch-is-answered, counts, store-by-history, flag-clears, later-only}
 use Rattle.thm_ucp_receiver.proofs.Frames.{put-out-is-frame, frame-is-put-out, wrong-check-refused}
-use Rattle.thm_c_ucp.specs.Receiver.{LinkedCall, LinkedRuns, LinkedLine, inNumbers, LinkedLines, linkedCallOf, LinkedAnswersAs, LinkedAnswersByHistory, LinkedCountsByHistory, LinkedStoreByHistory, LinkedFlagClears, LinkedSeen, linkedSeen, LinkedLaterOnly, LinkedPutOutIsFrame, LinkedFrameIsPutOut, LinkedReceiverLists}
+use Rattle.thm_c_ucp.specs.Receiver.{LinkedCall, LinkedRuns, LinkedLine, inNumbers, LinkedLines, linkedCallOf, LinkedAnswersAs, LinkedAnswersByHistory, LinkedStretchIsAnswered, LinkedCountsByHistory, LinkedStoreByHistory, LinkedFlagClears, LinkedSeen, linkedSeen, LinkedLaterOnly, LinkedPutOutIsFrame, LinkedFrameIsPutOut, LinkedReceiverLists}
 
 -- ---- the calls that the numbers stand for
 
@@ -118,6 +118,12 @@ linked-answers before after c l =
     linked-as c _ (own-numbers before after c (l .store) (l .line) (l .runs))
     (subst (λ (h : List Call). AnswersAs (answer h (linkedCallOf c)) (observedIn c)) (history before)
     (answers (map observedIn before) (map observedIn after) (observedIn c) (split-line before after c l)))
+
+pub linked-stretch-is-answered : LinkedStretchIsAnswered
+linked-stretch-is-answered before after c l e some quiet =
+    stretch-is-answered (map observedIn before) (map observedIn after) (observedIn c) (split-line before after c l) e
+    (subst (λ (h : List Call). 1 ≤ length (openStretch (cutAtFlags h .flags))) (sym (history before)) some)
+    (ap (λ (n : ℕ). receiverAnswer (answerIn n (c .value))) quiet)
 
 pub linked-counts : LinkedCountsByHistory
 linked-counts before after c l =

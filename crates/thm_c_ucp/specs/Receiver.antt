@@ -9,7 +9,7 @@ use lib.ListN.{length, getD, take}
 use Rattle.refusals.specs.Numbers as because
 use Rattle.ucp_frame.specs.Frame.{flag, frame, longestBody}
 use Rattle.ucp_frame.specs.Stretch.{Verdict, refused}
-use Rattle.ucp_history.specs.History.{Call, answer}
+use Rattle.ucp_history.specs.History.{Call, cutAtFlags, openStretch, answer}
 use Rattle.ucp_receiver.specs.Answers.{receiverAnswer, answerFor, outputAtFlag}
 use Rattle.ucp_receiver.specs.Octet.{noOctets}
 use Rattle.crc_gdl90_strength.specs.Strength.{TwoBodies, AtMostThreeBits, Within16Bits}
@@ -89,6 +89,12 @@ abbrev pub LinkedAnswersByHistory : Type 0
 LinkedAnswersByHistory =
     (before after : List LinkedCall) (c : LinkedCall) → LinkedLine (before ++ c ∷ after)
     → LinkedAnswersAs (answer (map linkedCallOf before) (linkedCallOf c)) c
+
+-- a flag that closes a stretch with an octet in it is answered
+abbrev pub LinkedStretchIsAnswered : Type 0
+LinkedStretchIsAnswered =
+    (before after : List LinkedCall) (c : LinkedCall) → LinkedLine (before ++ c ∷ after) → c .octet ≡ flag
+    → 1 ≤ length (openStretch (cutAtFlags (map linkedCallOf before) .flags)) → c .kind ≡ 0 → ⊥
 
 -- after every call the five counts among the line's numbers are the history's
 abbrev pub LinkedCountsByHistory : Type 0

@@ -18,7 +18,7 @@ use Rattle.ucp_writer.specs.Writes.{WritesFrame}
 use Rattle.crc_gdl90_strength.proofs.Premises.{octets}
 use Rattle.thm_ucp_receiver.proofs.Lines.{every-line}
 use Rattle.thm_ucp_writer.specs.Calls.{WriterCall, lineOctets, acceptedBodies}
-use Rattle.thm_ucp_examples.specs.LinePremises.{shortBody, beforeFrame, shortFrame, writerOutput, firstSlice, secondSlice, EndsInMet, SliceLineMet, WriterCallMet}
+use Rattle.thm_ucp_examples.specs.LinePremises.{shortBody, beforeFrame, shortFrame, writerOutput, firstSlice, secondSlice, EndsInMet, StretchMet, SliceLineMet, WriterCallMet}
 
 -- ---- the last octet of a line
 
@@ -37,6 +37,10 @@ unfolding bitsOfOctets bitsOf divided step reduced frameCheck escaped stuffed fr
 ends-in-met =
     record {
       bodyLength = record { least = omega arith; most = omega arith };
+      shortest = record { least = omega arith; most = omega arith };
+      longest = record { least = omega arith; most = omega arith };
+      notEmpty = λ b. omega (arith, b .least);
+      notLonger = λ b. omega (arith, b .most);
       ends = record { earlier = beforeFrame; parts = refl };
       line = every-line _ (octets (beforeFrame ++ frame shortBody) refl);
       answered = refl;
@@ -47,6 +51,10 @@ ends-in-met =
       wrongCheck = refl;
     }
 
+pub stretch-met : StretchMet
+unfolding cutAtFlags openStretch
+stretch-met = record { hunts = refl; hunted = refl; twoOctets = refl; oneOctet = refl; noOctet = refl }
+
 pub slice-line-met : SliceLineMet
 unfolding bitsOfOctets bitsOf divided step reduced frameCheck atFlag sliceRun stateAfter verdictDue countsAfter storing
 slice-line-met =
@@ -55,6 +63,7 @@ slice-line-met =
         (octets (firstSlice .line) refl, record { state = refl; account = refl; taken = refl; answers = refl; puts = refl }),
         ((octets (secondSlice .line) refl, record { state = refl; account = refl; taken = refl; answers = refl; puts = refl }), tt),
       );
+      endsInFlag = refl;
       notAlone = λ l. let z : _≡_ {A = ℕ} 3 4 = l .0 .1 .taken in omega arith;
     }
 
