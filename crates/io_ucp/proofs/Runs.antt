@@ -20,7 +20,7 @@ use Rattle.io_streams.proofs.Turns.{NoneLeft, not-failed, claimed, failed-claim
 use Rattle.io_ucp.specs.declared.BlockDone.{BlockDone}
 use Rattle.io_ucp.specs.declared.TurnDone.{TurnDone}
 use Rattle.io_ucp.specs.declared.Run.{Run}
-use Rattle.io_ucp.specs.Records.{Leaves, WritesLines, Follows, LinesOf, WorksTurn, Passed, RunsWhole, Runs, Ends}
+use Rattle.io_ucp.specs.Records.{Leaves, WritesLines, Follows, LinesOf, WorksTurn, Passed, RunsWhole, RunsLine, Ends}
 
 -- lines of octets behind others are those from the record behind the others on
 pub record Onto (every : LinesOf) : Type 0 where
@@ -93,7 +93,7 @@ module _ (every : LinesOf) (onto : Onto every) (s : State) (c : Counts) where
   -- the end
   pub run-ends : (i : Input) (octets written : ℕ) (b : RecordBehind) (whole : Bool) (before after : List ℕ)
       → UnlessFailed i (Passed every s c octets written b) → Ends i (b .counts) before whole after
-      → Runs every s c (record { whole = whole; octets = octets; written = written }) after
+      → RunsLine every s c (record { whole = whole; octets = octets; written = written }) after
   run-ends More octets written b whole before after p e h = absurd (true≢false (sym h ∙ e .0))
   run-ends Ended octets written b true before after p e h = record { last = b; passed = p; before = before; closes = e }
   run-ends Ended octets written b false before after p e h = absurd (true≢false (sym h))

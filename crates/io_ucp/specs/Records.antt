@@ -89,5 +89,5 @@ pub record RunsWhole (every : LinesOf) (s : State) (c : Counts) (given : Run) (a
   pub closes : Closed (last .counts) before true after
 
 -- where a program says that its input came to its end and all was written
-abbrev pub Runs : LinesOf → State → Counts → Run → List ℕ → Type 0
-Runs every s c given after = given .whole ≡ true → RunsWhole every s c given after
+abbrev pub RunsLine : LinesOf → State → Counts → Run → List ℕ → Type 0
+RunsLine every s c given after = given .whole ≡ true → RunsWhole every s c given after

@@ -24,7 +24,7 @@ ghost use Rattle.ucp_receiver.specs.Account.{zeroCounts};
 ghost use Rattle.ucp_receiver.specs.Octet.{stateOf, freshRest};
 ghost use Rattle.text_ucp_listing.specs.Lists.{behindAll};
 ghost use Rattle.text_ucp_explanation.specs.Explanation.{everyExplanation};
-ghost use Rattle.io_ucp.specs.Records.{Leaves, WritesLines, WorksTurn, Runs};
+ghost use Rattle.io_ucp.specs.Records.{Leaves, WritesLines, WorksTurn, RunsLine};
 ghost use Rattle.io_streams.specs.Blocks.{Zeroed};
 
 // Explains the octets of a block, and writes the lines out.
@@ -92,7 +92,7 @@ fn explain_input(
     buffer: &mut [u8],
 ) -> Run
     requires { ⌜ textRoom ≤ length (now buffer) ⌝ }
-    ensures { λ r. ⌜ Runs everyExplanation (stateOf freshRest (now (store .entry))) zeroCounts r (now (text .exit)) ⌝ }
+    ensures { λ r. ⌜ RunsLine everyExplanation (stateOf freshRest (now (store .entry))) zeroCounts r (now (text .exit)) ⌝ }
 {
     let mut receiver = ucp_receiver::octet::fresh_record();
     let mut turn = io_streams::first_turn(block);

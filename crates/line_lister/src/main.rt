@@ -2,7 +2,7 @@
 // the counts. `text_ucp_listing` has the text; here are only the reading and the writing. What a block leaves of the receiver's record
 // is proved (`Leaves`), that as many octets went out as its lines have (`WritesLines`), and that each turn goes on from the record and
 // the store that the one before left (`WorksTurn`). So a run works on one line from a fresh record, in whatever blocks it came: the
-// closing line is its account, and as many octets went out as its lines have (`Runs`). That this line is the input, that the octets
+// closing line is its account, and as many octets went out as its lines have (`RunsLine`). That this line is the input, that the octets
 // that went out are the text's, and that a failed read is no end is tested.
 //
 // Where a read fails, what was listed so far has been written out already, the failure is said on standard error, and no
@@ -22,7 +22,7 @@ ghost use Rattle.text_ucp_listing.specs.Listing.{longestLine};
 ghost use Rattle.ucp_receiver.specs.Account.{zeroCounts};
 ghost use Rattle.ucp_receiver.specs.Octet.{stateOf, freshRest};
 ghost use Rattle.text_ucp_listing.specs.Lists.{behindAll, everyLine};
-ghost use Rattle.io_ucp.specs.Records.{Leaves, WritesLines, WorksTurn, Runs};
+ghost use Rattle.io_ucp.specs.Records.{Leaves, WritesLines, WorksTurn, RunsLine};
 
 // Lists the octets of a block, and writes the text out each time that it is full, and at the block's end.
 fn list_block(
@@ -76,7 +76,7 @@ fn list_turn(
 // Lists all of the input, turn by turn from a fresh record.
 fn list_input(store: &mut Store, room: &mut BodyRoom, block: &mut [u8], text: &mut [u8]) -> Run
     requires { ⌜ longestLine ≤ length (now text) ⌝ }
-    ensures { λ r. ⌜ Runs everyLine (stateOf freshRest (now (store .entry))) zeroCounts r (now (text .exit)) ⌝ }
+    ensures { λ r. ⌜ RunsLine everyLine (stateOf freshRest (now (store .entry))) zeroCounts r (now (text .exit)) ⌝ }
 {
     let mut receiver = ucp_receiver::octet::fresh_record();
     let mut turn = io_streams::first_turn(block);
