@@ -10,7 +10,7 @@ use Rattle.io_streams.specs.declared.Input.{Input}
 use Rattle.io_streams.specs.declared.Input.the-variants.{More, Ended, Failed}
 use Rattle.io_streams.specs.declared.Turn.{Turn}
 use Rattle.io_streams.specs.Blocks.{WithinBlock}
-use Rattle.io_streams.specs.Turns.{Behind, over, AtEnd, ReadsBlock, BlockTurns}
+use Rattle.io_streams.specs.Turns.{Behind, over, AtEnd, ReadsBlock, BlockTurns, UnlessFailed}
 
 pub read-behind : (g : Got) (part held block : ℕ) → WithinBlock g part → held + part ≤ block → Behind g held block
 read-behind (Octets n) part held block w h = (omega (arith, w .0), w .1)
@@ -36,6 +36,22 @@ ended : (b : Bool) (held left : ℕ) → cond b (over Ended) (record { octets = 
 ended true held left = refl
 ended false held left = refl
 
+-- once something failed no turn is left
+abbrev pub NoneLeft : Input → ℕ → Type 0
+NoneLeft More left = Unit {0}
+NoneLeft Ended left = Unit {0}
+NoneLeft Failed left = left ≡ 0
+
+pub not-failed : (i : Input) (left : ℕ) {claim : Type 0} → 0 < left → NoneLeft i left → UnlessFailed i claim → claim
+not-failed More left h n u = u
+not-failed Ended left h n u = u
+not-failed Failed left h n u = absurd (omega (arith, n))
+
+pub claimed : (i : Input) {claim : Type 0} → claim → UnlessFailed i claim
+claimed More p = p
+claimed Ended p = p
+claimed Failed p = tt
+
 module _ (left block held : ℕ) (t : Turn) where
   pub reads-onward : (i : Input) → ReadsBlock i left block held t → Onward left block t
   reads-onward More r = record { within = r .1; fewer = omega (arith, r .2) }
@@ -54,3 +70,20 @@ module _ (left block held : ℕ) (t : Turn) where
 
   pub ended-reads : held ≤ block → 0 < left → AtEnd held left t → ReadsBlock (t .input) left block held t
   ended-reads h l e = subst (λ (i : Input). ReadsBlock i left block held t) (sym (ap (λ (u : Turn). u .input) e ∙ ended (eqb held 0) held left)) (h, l, e)
+
+  still : (i : Input) → ReadsBlock i left block held t → NoneLeft i (t .left)
+  still More r = tt
+  still Ended r = tt
+  still Failed r = ap (λ (u : Turn). u .left) r
+
+  pub reads-none : ReadsBlock (t .input) left block held t → NoneLeft (t .input) (t .left)
+  reads-none r = still (t .input) r
+
+  pub turns-none : (input : Input) → BlockTurns input left block held t → NoneLeft (t .input) (t .left)
+  turns-none More r = reads-none r
+  turns-none Ended r = subst (λ (u : Turn). NoneLeft (u .input) (u .left)) (sym r) tt
+  turns-none Failed r = subst (λ (u : Turn). NoneLeft (u .input) (u .left)) (sym r) refl
+
+  -- a turn behind a failure claims nothing
+  pub failed-claims : (claim : Type 0) → t ≡ over Failed → UnlessFailed (t .input) claim
+  failed-claims claim r = subst (λ (u : Turn). UnlessFailed (u .input) claim) (sym r) tt

@@ -45,3 +45,9 @@ abbrev pub hasEnded : Input → Bool
 hasEnded More = false
 hasEnded Ended = true
 hasEnded Failed = false
+
+-- what is claimed of a run that no read and no write has failed
+abbrev pub UnlessFailed : Input → Type 0 → Type 0
+UnlessFailed More claim = claim
+UnlessFailed Ended claim = claim
+UnlessFailed Failed claim = Unit {0}

@@ -1,12 +1,14 @@
-// What the programs share: standard input by the block, standard output, and clearing what was lent. What is read and written
-// no contract can say: it speaks of what is lent and answered, and the files of the system are neither; the C library's says of
-// a read or a write only how many octets it moved. Each function is safe, ends, and fixes what it can.
+// What the programs share: standard input by the block, standard output, and clearing what was lent. A contract speaks of what
+// is lent and answered, and the files of the system are neither; the C library's says of a read or a write only how many octets
+// it moved. So no contract can say which octets were read, that any reached the output, or that it was closed: a function that
+// writes or closes nothing would meet all that can be said. Each function is safe, ends, and fixes what it can; tests/streams
+// shows the rest on the built programs.
 use libc::STDIN_FILENO;
 use libc::STDOUT_FILENO;
 ghost use mathlib.Core.Path.{_≡_};
 ghost use Prim.Native.Nat.{_+_, _%_, _^_, min, _<_, _≤_};
 ghost use lib.ListN.{length, take};
-ghost use Rattle.io_streams.specs.Blocks.{Zeroed, WithinBlock, WrittenIfEmpty, WritesOut, WritesFirst, ClosesOutput};
+ghost use Rattle.io_streams.specs.Blocks.{Zeroed, WithinBlock, WrittenIfEmpty, WritesFirst};
 ghost use Rattle.io_streams.specs.Gathering.{Gathers, WritesWaiting};
 ghost use Rattle.io_streams.specs.Turns.{Behind, KeepsHeld, over, hasEnded, AtEnd, ReadsBlock, BlockTurns};
 
@@ -144,7 +146,6 @@ fn write_failed() {
 // a frame stay in the memory that main lends.
 pub fn write_out(text: &[u8]) -> bool
     ensures { λ r. ⌜ WrittenIfEmpty (length (now (text .entry))) r ⌝ }
-    ensures { λ r. ⌜ WritesOut (length (now (text .entry))) r ⌝ }
 {
     let mut done = 0;
     while done < text.len() {
@@ -277,15 +278,9 @@ pub fn clear_stack() {
     clear_below(&mut here, 15);
 }
 
-// Whether closing succeeded; where it did not, that is said on standard error. Some file systems say only here that a write
-// failed.
-pub fn close_output() -> bool
-    ensures { λ r. ⌜ ClosesOutput r ⌝ }
-{
-    let status = libc::close(STDOUT_FILENO);
-    if status < 0 {
+// Closes the output. Some file systems say only here that a write failed; then that is said on standard error.
+pub fn close_output() {
+    if libc::close(STDOUT_FILENO) < 0 {
         write_failed();
-        return false;
     }
-    true
 }

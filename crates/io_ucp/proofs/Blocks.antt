@@ -15,7 +15,7 @@ use Rattle.io_streams.specs.declared.Input.the-variants.{More}
 use Rattle.io_streams.specs.declared.Output.{Output}
 use Rattle.io_streams.specs.declared.Output.the-variants.{Wrote, Failed as WriteFailed}
 use Rattle.io_streams.specs.Gathering.{WritesWaiting}
-use Rattle.io_ucp.specs.Records.{Leaves, blockDone, WritesLines}
+use Rattle.io_ucp.specs.Records.{Leaves, blockDone, WritesLines, LinesOf}
 
 abbrev pub Reached : List ℕ → RecordBehind → State → Counts → ℕ → Type 0
 Reached block last s c taken = (taken ≤ length block) × (last ≡ behindAll s c (drop taken block))
@@ -37,10 +37,6 @@ module _ (block : List ℕ) where
         (sym (ap (λ (b : RecordBehind). b .state) end), sym (ap (λ (b : RecordBehind). b .counts) end))
 
 -- ---- what went out
-
--- a block's lines, from a record on: none of no octets
-abbrev pub LinesOf : Type 0
-LinesOf = State → Counts → List ℕ → List ℕ
 
 -- the lines of the block are those that went out, and then those of the octets that are left
 pub record WentOut (every : LinesOf) (block whole : List ℕ) (s : State) (c : Counts) (taken written : ℕ) : Type 0 where

@@ -2,13 +2,15 @@
 // closing line, and clearing what was lent.
 use io_streams::Input;
 use io_streams::Output;
+use io_streams::Turn;
 use ucp_frame::BodyRoom;
 use ucp_receiver::Counts;
 use ucp_receiver::Record;
 use ucp_receiver::Store;
 ghost use mathlib.Core.Path.{_≡_};
+ghost use lib.ListN.{length};
 ghost use Rattle.io_streams.specs.Blocks.{Zeroed};
-ghost use Rattle.io_ucp.specs.Records.{Closed, Ends, blockDone};
+ghost use Rattle.io_ucp.specs.Records.{Closed, Ends, blockDone, Follows};
 
 // The receiver's record besides its store, from block to block.
 pub struct Progress {
@@ -42,6 +44,37 @@ pub fn block_done(receiver: Record, output: Output) -> BlockDone
             written: 0,
         },
     }
+}
+
+// What a turn came to: the receiver's record behind its block, the turn that follows, and how many octets of text went out,
+// modulo 2^64.
+pub struct TurnDone {
+    pub receiver: Record,
+    pub turn: Turn,
+    pub written: usize,
+}
+
+// The turn that follows a block, by what the block came to. Nothing of it is held.
+pub fn follow(done: BlockDone, block: &mut [u8], left: u64) -> TurnDone
+    ensures { λ r. ⌜ Follows done left (length (now (block .entry))) r ⌝ }
+{
+    let progress = done.progress;
+    let receiver = progress.receiver;
+    let input = progress.input;
+    let turn = io_streams::next_turn(input, block, 0, left);
+    TurnDone {
+        receiver: receiver,
+        turn: turn,
+        written: done.written,
+    }
+}
+
+// What a run came to: whether the input was read to its end and all was written; how many of its octets were worked on, and how
+// many of text went out before the closing line, both modulo 2^64.
+pub struct Run {
+    pub whole: bool,
+    pub octets: usize,
+    pub written: usize,
 }
 
 // The closing line, where text has room for it, and whether what was put there was written.

@@ -1,7 +1,6 @@
 // The line explainer: reads standard input to its end, and writes a line for each answer of the receiver that says what it
-// means, and a last line with the counts. `text_ucp_explanation` has the text, `io_streams` the reading and the writing. What a
-// block leaves of the receiver's record is proved (`Leaves`), and that as many octets went out as its lines have
-// (`WritesLines`); that the record goes on from block to block is tested.
+// means, and a last line with the counts. `text_ucp_explanation` has the text, `io_streams` the reading and the writing. What is
+// proved of a block, a turn and a run, and what is tested, is as in the line lister.
 //
 // Lines wait in a buffer, and go out where the next one does not fit, and at the end of every block that a read brought: so
 // whoever waits for a line sees it as soon as its octets are read.
@@ -10,7 +9,10 @@
 // standard error, and no closing line follows.
 use io_streams::Gathered;
 use io_streams::Output;
+use io_streams::Turn;
 use io_ucp::BlockDone;
+use io_ucp::Run;
+use io_ucp::TurnDone;
 use text_output::TextRoom;
 use ucp_frame::BodyRoom;
 use ucp_receiver::Record;
@@ -18,10 +20,11 @@ use ucp_receiver::Store;
 ghost use Prim.Native.Nat.{_≤_};
 ghost use lib.ListN.{length};
 ghost use Rattle.text_output.specs.Clips.{textRoom};
-ghost use Rattle.ucp_receiver.specs.Octet.{stateOf};
+ghost use Rattle.ucp_receiver.specs.Account.{zeroCounts};
+ghost use Rattle.ucp_receiver.specs.Octet.{stateOf, freshRest};
 ghost use Rattle.text_ucp_listing.specs.Lists.{behindAll};
 ghost use Rattle.text_ucp_explanation.specs.Explanation.{everyExplanation};
-ghost use Rattle.io_ucp.specs.Records.{Leaves, WritesLines};
+ghost use Rattle.io_ucp.specs.Records.{Leaves, WritesLines, WorksTurn, RunsLine};
 ghost use Rattle.io_streams.specs.Blocks.{Zeroed};
 
 // Explains the octets of a block, and writes the lines out.
@@ -62,29 +65,54 @@ fn explain_block(
     io_ucp::block_done(receiver, output)
 }
 
-// Explains all of the input, and answers whether it came to its end and all was written.
+// A turn: explains its octets of the block, and reads on.
+fn explain_turn(
+    receiver: Record,
+    store: &mut Store,
+    room: &mut BodyRoom,
+    block: &mut [u8],
+    text: &mut TextRoom,
+    buffer: &mut [u8],
+    turn: Turn,
+) -> TurnDone
+    requires { ⌜ (textRoom ≤ length (now buffer)) × (turn .octets ≤ length (now block)) ⌝ }
+    ensures { λ r. ⌜ WorksTurn everyExplanation receiver (now (store .entry)) (now (block .entry)) turn r (now (store .exit)) ⌝ }
+{
+    let end = turn.octets;
+    let done = explain_block(receiver, store, room, &block[..end], text, buffer);
+    io_ucp::follow(done, block, turn.left)
+}
+
+// Explains all of the input, turn by turn from a fresh record.
 fn explain_input(
     store: &mut Store,
     room: &mut BodyRoom,
     block: &mut [u8],
     text: &mut TextRoom,
     buffer: &mut [u8],
-) -> bool
+) -> Run
     requires { ⌜ textRoom ≤ length (now buffer) ⌝ }
+    ensures { λ r. ⌜ RunsLine everyExplanation (stateOf freshRest (now (store .entry))) zeroCounts r (now (text .exit)) ⌝ }
 {
     let mut receiver = ucp_receiver::octet::fresh_record();
     let mut turn = io_streams::first_turn(block);
+    let mut octets = 0;
+    let mut written = 0;
     while turn.left > 0 {
-        let end = turn.octets;
-        let done = explain_block(receiver, store, room, &block[..end], text, buffer);
-        let progress = done.progress;
-        receiver = progress.receiver;
-        let input = progress.input;
-        turn = io_streams::next_turn(input, block, 0, turn.left);
+        octets = std::num::wrapping_add_usize(octets, turn.octets);
+        let done = explain_turn(receiver, store, room, block, text, buffer, turn);
+        receiver = done.receiver;
+        turn = done.turn;
+        written = std::num::wrapping_add_usize(written, done.written);
     }
     let input = turn.input;
     let counts = receiver.counts;
-    io_ucp::write_ending(input, text, counts)
+    let whole = io_ucp::write_ending(input, text, counts);
+    Run {
+        whole: whole,
+        octets: octets,
+        written: written,
+    }
 }
 
 // Frames, and what they say, passed through all of these.
@@ -113,12 +141,12 @@ fn main() {
     let mut block = io::large_buffer();
     let mut text = [0u8; text_output::TEXT_ROOM];
     let mut buffer = io::large_buffer();
-    let whole = explain_input(&mut store, &mut room, &mut block, &mut text, &mut buffer);
+    let run = explain_input(&mut store, &mut room, &mut block, &mut text, &mut buffer);
     clear_lent(&mut store, &mut room, &mut block, &mut text, &mut buffer);
     let none = ucp_receiver::octet::fresh_record();
     explain_block(none, &mut store, &mut room, &block, &mut text, &mut buffer);
     io_streams::clear_stack();
-    if whole {
+    if run.whole {
         io_streams::close_output();
     }
 }

@@ -18,7 +18,8 @@ use Rattle.text_mavlink_explanation.specs.Explanation.{frameLine}
 use Rattle.text_mavlink_explanation.specs.Calls.{ExplainsFrame}
 use Rattle.text_mavlink_explanation.specs.Decided.{frameRoom}
 use Rattle.text_mavlink_explanation.proofs.Used.{used-within, used-some}
-use Rattle.mavlink_explainer.specs.Blocks.{Carries, Walks, few, stops, onward, inputOf, octetsOut, explains, UnlessFailed, Explores}
+use Rattle.io_streams.specs.Turns.{UnlessFailed}
+use Rattle.mavlink_explainer.specs.Blocks.{Carries, Walks, few, stops, onward, inputOf, octetsOut, explains, Explores}
 
 -- ---- explaining
 

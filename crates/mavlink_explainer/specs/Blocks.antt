@@ -8,6 +8,7 @@ use Rattle.io_streams.specs.declared.Input.{Input}
 use Rattle.io_streams.specs.declared.Input.the-variants.{More, Ended, Failed}
 use Rattle.io_streams.specs.declared.Output.{Output}
 use Rattle.io_streams.specs.declared.Output.the-variants.{Wrote, Failed as WriteFailed}
+use Rattle.io_streams.specs.Turns.{UnlessFailed}
 use Rattle.mavlink_explainer.specs.declared.Progress.{Progress}
 use Rattle.mavlink_messages.specs.Messages.{readDue}
 use Rattle.text_mavlink_explanation.specs.Explanation.{frameLine, usedBy, isRefused, framesLine}
@@ -61,11 +62,6 @@ pub record Explored (last : Bool) (block : List ℕ) (frames bytes : ℕ) (given
   pub lines : List ℕ
   pub walks : Walks (cond last 1 frameRoom) block count (given .left) refused lines
   pub counts : given ≡ explains frames bytes count (length block - given .left) (given .left) (inputAfter last refused) (length lines % 2 ^ 64)
-
-abbrev pub UnlessFailed : Input → Type 0 → Type 0
-UnlessFailed More claim = claim
-UnlessFailed Ended claim = claim
-UnlessFailed Failed claim = Unit {0}
 
 pub record Explores (last : Bool) (block : List ℕ) (frames bytes : ℕ) (given : Progress) : Type 0 where
   pub leaves : FramesLeave (given .input) (given .left) (length block)

@@ -9,10 +9,10 @@ slice-aggregate-write-out : tie.Need-slice-aggregate-write-out
 slice-aggregate-write-out c = simp length-take (omega arith)
 
 returns : tie.Need-returns
-returns c = λ empty. c .write-out .ensures .0 (simp length-take (omega (arith, empty)))
+returns c = λ empty. c .write-out .ensures (simp length-take (omega (arith, empty)))
 
 returns-2 : tie.Need-returns-2
-returns-2 c = λ empty. c .write-out2 .ensures .0 (omega (arith, empty))
+returns-2 c = λ empty. c .write-out2 .ensures (omega (arith, empty))
 
 pub write-first-spec : {M : Type 1} → statement M
 write-first-spec =

@@ -18,7 +18,7 @@ some-left (suc n) written tells failed = omega arith
 
 returns-2 : tie.Need-returns-2
 returns-2 c =
-    some-left _ _ (λ empty. c .before .write-out .ensures .0 (simp length-take (omega (arith, empty)))) (c .if1 .left)
+    some-left _ _ (λ empty. c .before .write-out .ensures (simp length-take (omega (arith, empty)))) (c .if1 .left)
 
 pub write-lines-spec : {M : Type 1} → statement M
 write-lines-spec =

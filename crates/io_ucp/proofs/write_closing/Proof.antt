@@ -39,7 +39,7 @@ returns c =
     record {
       next = p .put-closing .result;
       line = p .put-closing .ensures;
-      tells = λ empty. c .write-out .ensures .0 (length-take-le _ _ (closed-within p) ∙ empty);
+      tells = λ empty. c .write-out .ensures (length-take-le _ _ (closed-within p) ∙ empty);
     }
 
 pub write-closing-spec : {M : Type 1} → statement M
