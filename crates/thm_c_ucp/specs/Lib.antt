@@ -3,3 +3,4 @@ pub mod Slices
 pub mod Writer
 pub mod Delivery
 pub mod Lines
+pub mod Refusals

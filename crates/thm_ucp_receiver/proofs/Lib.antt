@@ -7,3 +7,4 @@ pub mod Promises
 pub mod Frames
 pub mod Slice
 pub mod Lines
+pub mod Refusals

@@ -49,12 +49,12 @@ verdict-answers x xs = judged-answers (unstuffed (x ∷ xs))
 
 -- ---- a body and two octets of a check
 
-body-of : (a : List ℕ) (low high : ℕ) → withoutCheck (a ++ (low ∷ high ∷ [])) ≡ a
+pub body-of : (a : List ℕ) (low high : ℕ) → withoutCheck (a ++ (low ∷ high ∷ [])) ≡ a
 body-of a low high =
     let l : length a ≡ length (a ++ (low ∷ high ∷ [])) - 2 = simp length-append (omega arith) in
     take-at a (low ∷ high ∷ []) _ l
 
-check-sent : (a : List ℕ) (low high : ℕ) → checkSent (a ++ (low ∷ high ∷ [])) ≡ low + high * 256
+pub check-sent : (a : List ℕ) (low high : ℕ) → checkSent (a ++ (low ∷ high ∷ [])) ≡ low + high * 256
 check-sent a low high =
     let l : length a ≡ length (a ++ (low ∷ high ∷ [])) - 2 = simp length-append (omega arith) in
     let n : length (a ++ (low ∷ high ∷ [])) - 1 ≡ length a + 1 = simp length-append (omega arith) in
@@ -81,7 +81,7 @@ unfolding verdict unstuffed
 verdict-judged [] room h = absurd (h refl)
 verdict-judged (x ∷ xs) room h = refl
 
-stuffed-verdict : (xs : List ℕ) (room : ℕ) → 1 ≤ length xs → length xs ≤ storeOctets → verdict (stuffed xs) room ≡ atFlag xs room
+pub stuffed-verdict : (xs : List ℕ) (room : ℕ) → 1 ≤ length xs → length xs ≤ storeOctets → verdict (stuffed xs) room ≡ atFlag xs room
 unfolding judged
 stuffed-verdict xs room h k =
     let l : length (unstuffed (stuffed xs) .octets) ≡ length xs =
@@ -99,7 +99,7 @@ carried a b room k =
 
 -- ---- what is delivered
 
-last-two : (l : List ℕ) → 2 ≤ length l → l ≡ withoutCheck l ++ (getD l (length l - 2) 0 ∷ getD l (length l - 1) 0 ∷ [])
+pub last-two : (l : List ℕ) → 2 ≤ length l → l ≡ withoutCheck l ++ (getD l (length l - 2) 0 ∷ getD l (length l - 1) 0 ∷ [])
 last-two l h =
     let i : ℕ = length l - 2 in
     let n : suc i ≡ length l - 1 = omega arith in
