@@ -217,9 +217,9 @@ demand2 =
     record {
       checkIsRemainder = check-is-remainder;
       x25IsCode = by-code;
-      writes = λ body output after r w least most room.
-          let e = w .answers ∙ due-accepted body output least most room in
-          (e, w .leaves ∙ ap (outputAfter (frame body) output) e, frame-length-longest body most);
+      writes = λ body output after r w may.
+          let e = w .answers ∙ due-accepted body output (may .0) (may .1) (may .2) in
+          (e, w .leaves ∙ ap (outputAfter (frame body) output) e, frame-length-longest body (may .1));
       answersByHistory = answers;
       stretchIsAnswered = stretch-is-answered;
       linkedAnswersByHistory = linked-answers;

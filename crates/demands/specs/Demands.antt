@@ -25,7 +25,7 @@ use Rattle.ucp_frame.specs.Frame.{frame, longestBody, longestFrame}
 use Rattle.output_writing.specs.declared.Written.{Written}
 use Rattle.output_writing.specs.Writing.{WriterAnswer, refused, wrote, writerAnswer, Writing}
 use Rattle.ucp_writer.specs.Writes.{WritesFrame}
-use Rattle.ucp_writer.specs.Refusals.{WrongBodyLength, NoRoomForFrame, FrameWriterRefuses}
+use Rattle.ucp_writer.specs.Refusals.{WrongBodyLength, NoRoomForFrame, RoomForFrame, FrameWriterRefuses}
 use Rattle.mavlink_frame.specs.declared.Header.{Header}
 use Rattle.mavlink_messages.specs.declared.Message as mavlink
 use Rattle.mavlink_messages.specs.declared.Read.{Read as MavlinkRead}
@@ -230,7 +230,7 @@ pub record Demand2 : Type 0 where
   -- a body of 1 to 436 octets with room for its frame is written, and that exactly (of the linked call: `linkedWriterRefuses`)
   pub writes :
       (body output after : List ℕ) (r : Written) → WritesFrame body output r after
-      → 1 ≤ length body → length body ≤ longestBody → length (frame body) ≤ length output
+      → RoomForFrame body output
       → (writerAnswer r ≡ wrote (length (frame body)))
       × (after ≡ frame body ++ drop (length (frame body)) output)
       × (length (frame body) ≤ longestFrame)

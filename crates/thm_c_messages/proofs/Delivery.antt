@@ -10,10 +10,10 @@ use Rattle.ucp_frame.specs.Stretch.{delivered}
 use Rattle.thm_ucp_messages.proofs.Delivery.{put-out}
 use Rattle.thm_ucp_receiver.specs.Promises.{AnswersAs, BodyLength}
 use Rattle.thm_ucp_receiver.proofs.Frames.{frame-is-put-out}
-use Rattle.thm_c_messages.specs.Delivery.{OnEitherLine, DeliversOnLine}
+use Rattle.thm_c_messages.specs.Delivery.{Delivering, DeliversOnLine}
 
 -- a frame on the line is delivered: where its body meets `Use`, what is put out does
-abbrev pub DeliversFrames : OnEitherLine → Type 1
+abbrev pub DeliversFrames : Delivering → Type 1
 DeliversFrames Delivers = (body : List ℕ) (Use : List ℕ → Type 0) → BodyLength body → Use body → Delivers (frame body) body Use
 
 pub frame-delivered : DeliversFrames DeliversOnLine

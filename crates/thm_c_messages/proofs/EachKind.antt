@@ -38,7 +38,7 @@ use Rattle.c_ucp_uplink.specs.Uplink.{ReadsUplink}
 use Rattle.thm_c_ucp.specs.Delivery.{DeliversLinked}
 use Rattle.thm_c_ucp.proofs.Delivery.{frame-delivered-linked}
 use Rattle.thm_c_messages.specs.RoundTrips.{UplinkRoundTrips, LentRoundTrips}
-use Rattle.thm_c_messages.specs.Delivery.{OnEitherLine, DeliversOnLine, UplinkSentIsDelivered, LentSentIsDelivered}
+use Rattle.thm_c_messages.specs.Delivery.{Delivering, DeliversOnLine, UplinkSentIsDelivered, LentSentIsDelivered}
 use Rattle.thm_c_messages.proofs.Accepted.{accepted, writes, sent, fills, of-kind, kind-of}
 use Rattle.thm_c_messages.proofs.Delivery.{DeliversFrames, frame-delivered}
 use Rattle.thm_c_messages.proofs.Structs.{SameValues, struct-round-trips, struct-sent-is-delivered}
@@ -242,7 +242,7 @@ lent-round-trips = record {
 }
 
 -- on either line, where that delivers every frame
-module _ (Delivers : OnEitherLine) (delivers : DeliversFrames Delivers) where
+module _ (Delivers : Delivering) (delivers : DeliversFrames Delivers) where
   uplink-sent-is-delivered : UplinkSentIsDelivered Delivers
   uplink-sent-is-delivered payload buffer after w call none =
       let body : List ℕ = uplinkBody payload in

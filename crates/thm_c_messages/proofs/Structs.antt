@@ -14,7 +14,7 @@ use Rattle.c_lent.specs.Structs.{Struct, RightStruct, structColumns, structRowO
 use Rattle.c_lent.proofs.Structs.{held-stored, held-typed}
 use Rattle.c_lent.specs.Reads.{ReadsInto}
 use Rattle.thm_c_messages.specs.RoundTrips.{ReadsSame, StructReadsBack, StructWritesBack, StructRoundTrips}
-use Rattle.thm_c_messages.specs.Delivery.{OnEitherLine, StructSentIsDelivered}
+use Rattle.thm_c_messages.specs.Delivery.{Delivering, StructSentIsDelivered}
 use Rattle.thm_c_messages.proofs.Accepted.{accepted, writes, sent, fills, of-kind, kind-of}
 use Rattle.thm_c_messages.proofs.Delivery.{DeliversFrames}
 use borrow.Author.Tests.{eqb-true}
@@ -77,7 +77,7 @@ module _ {A : Type 0} (f : Format A) (s : Struct A) (ok : SameValues f s) where
   struct-round-trips = (struct-reads-back, struct-writes-back)
 
   -- on either line, where that delivers every frame
-  pub struct-sent-is-delivered : (Delivers : OnEitherLine) → DeliversFrames Delivers → StructSentIsDelivered Delivers f s
+  pub struct-sent-is-delivered : (Delivers : Delivering) → DeliversFrames Delivers → StructSentIsDelivered Delivers f s
   struct-sent-is-delivered Delivers delivers message buffer after w is n call none =
       let body : List ℕ = bodyOf f (held s message) in
       let e = sent (fits f (held s message)) body buffer call none in

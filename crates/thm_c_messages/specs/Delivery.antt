@@ -31,20 +31,20 @@ use Rattle.thm_ucp_receiver.specs.Promises.{AnswersAs, EndsIn}
 use Rattle.thm_c_messages.specs.RoundTrips.{ReadsSame}
 
 -- where a line, whatever it brought before, ends in these octets, and the room is 436 octets or more: the last call delivers this
--- body, and the octets that it put out meet `Use`. (`DeliversLinked` of thm_c_ucp is the same of a linked line.)
+-- body, and the octets that it put out meet `Use`. `DeliversLinked` of thm_c_ucp is the same of a linked line
 abbrev pub DeliversOnLine : List ℕ → List ℕ → (List ℕ → Type 0) → Type 0
 DeliversOnLine octets body Use =
     (before later : List Observed) (o : Observed) → Line (before ++ o ∷ later)
     → EndsIn octets (upTo before o) → longestBody ≤ length (o .output)
     → AnswersAs (delivered body) o × Use (take (length body) (o .outputThen))
 
--- either line
-abbrev pub OnEitherLine : Type 1
-OnEitherLine = List ℕ → List ℕ → (List ℕ → Type 0) → Type 0
+-- what it is that these octets, on a line, bring this body, and that the octets put out meet something: `DeliversOnLine`, or
+-- `DeliversLinked`
+abbrev pub Delivering : Type 1
+Delivering = List ℕ → List ℕ → (List ℕ → Type 0) → Type 0
 
--- what an accepted send wrote is delivered, and a reader that is given the body put out answers 0 and leaves a struct that holds what
--- was sent, padding zero
-abbrev pub StructSentIsDelivered : OnEitherLine → {A : Type 0} → Format A → Struct A → Type 0
+-- what an accepted send wrote is delivered, and a reader that is given the body put out leaves a struct that holds what was sent
+abbrev pub StructSentIsDelivered : Delivering → {A : Type 0} → Format A → Struct A → Type 0
 StructSentIsDelivered Delivers f s =
     (message buffer after : List ℕ) (w : OstrogoszWritten) → Octets message → length message ≡ structSize s
     → SendsStruct f (held s message) buffer w after → w .refusal ≡ 0
@@ -52,14 +52,14 @@ StructSentIsDelivered Delivers f s =
     (λ (body : List ℕ). (lent left : List ℕ) (r : ℕ) → ReadsInto f s body lent r left → ReadsSame s message r left)
 
 -- the same of an uplink, whose payload is lent
-abbrev pub UplinkSentIsDelivered : OnEitherLine → Type 0
+abbrev pub UplinkSentIsDelivered : Delivering → Type 0
 UplinkSentIsDelivered Delivers =
     (payload buffer after : List ℕ) (w : OstrogoszWritten) → SendsUplink payload buffer w after → w .refusal ≡ 0
     → Delivers (take (w .length) after) (uplinkBody payload)
     (λ (body : List ℕ). (lent left : List ℕ) (r : ℕ) → ReadsUplink body lent r left → (r ≡ 0) × (left ≡ payload))
 
 -- every kind of the UCP line
-pub record LentSentIsDelivered (Delivers : OnEitherLine) : Type 0 where
+pub record LentSentIsDelivered (Delivers : Delivering) : Type 0 where
   pub heartbeat : StructSentIsDelivered Delivers heartbeatFormat heartbeatStruct
   pub uplink : UplinkSentIsDelivered Delivers
   pub ownship : StructSentIsDelivered Delivers (reportFormat 10) reportStruct

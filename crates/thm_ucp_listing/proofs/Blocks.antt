@@ -13,7 +13,8 @@ use Rattle.ucp_receiver.specs.Octet.{State, stateOf, noOctets, freshRecord}
 use Rattle.text_ucp_listing.specs.Listing.{closingLine, longestClosing}
 use Rattle.text_ucp_listing.specs.Lists.{behindAll}
 use Rattle.thm_ucp_receiver.specs.Slice.{gathered}
-use Rattle.thm_ucp_listing.specs.Input.{listedCall, answerLines, accountCounts}
+use Rattle.thm_ucp_receiver.specs.Promises.{accountCounts}
+use Rattle.thm_ucp_listing.specs.Input.{listedCall, answerLines}
 use Rattle.thm_ucp_listing.specs.Blocks.{BlockCall, BlockRuns, blockCounts, writtenAll, BlocksAreListing}
 use Rattle.thm_ucp_listing.proofs.Input.{listedAfter, Keeps, KeepsBehind, keeps-fresh, keeps-behind, lines-by-history}
 use Rattle.thm_ucp_listing.proofs.Calls.{answer-lines-append, listed-both}

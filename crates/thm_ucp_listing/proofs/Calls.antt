@@ -18,7 +18,8 @@ use Rattle.ucp_receiver.specs.Octet.{State, stateOf, noOctets, freshRecord, sta
 use Rattle.text_ucp_listing.specs.Listing.{bodyRoom, longestLine, answerLine, closingLine, longestClosing}
 use Rattle.text_ucp_listing.specs.Lists.{Lines, behind, noLines, lines, Lists, behindAll, everyLine}
 use Rattle.thm_ucp_receiver.specs.Slice.{gathered}
-use Rattle.thm_ucp_listing.specs.Input.{listedCall, answerLines, accountCounts}
+use Rattle.thm_ucp_receiver.specs.Promises.{accountCounts}
+use Rattle.thm_ucp_listing.specs.Input.{listedCall, answerLines}
 use Rattle.thm_ucp_listing.specs.Calls.{ListCall, ListRuns, listTaken, listText, countsLast, CallsAreListing}
 use Rattle.thm_ucp_listing.proofs.Input.{listedAfter, one-call, Keeps, KeepsBehind, keeps-fresh, keeps-behind, lines-by-history}
 

@@ -10,7 +10,8 @@ use Rattle.text_ucp_listing.specs.Listing.{bodyRoom, answerLine, closingLine}
 use Rattle.text_ucp_listing.specs.Lists.{RecordBehind, behindAll, everyLine}
 use Rattle.thm_ucp_receiver.proofs.Record.{Stands, stands-fresh, stands-next, stands-answer}
 use Rattle.thm_ucp_receiver.proofs.Counts.{stands-counts}
-use Rattle.thm_ucp_listing.specs.Input.{listedCall, answerLines, accountCounts, StepsAreListing}
+use Rattle.thm_ucp_receiver.specs.Promises.{accountCounts}
+use Rattle.thm_ucp_listing.specs.Input.{listedCall, answerLines, StepsAreListing}
 
 abbrev pub listedAfter : List Call → List ℕ → List Call
 listedAfter h xs = h ++ map listedCall xs

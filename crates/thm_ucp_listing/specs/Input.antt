@@ -2,13 +2,13 @@
 -- lister). Nothing here speaks of a record or a step. Assumes nothing.
 use mathlib.Core.Path.{_≡_}
 use mathlib.Core.List.{List, [], _∷_, _++_, map}
-use Prim.Native.Nat.{ℕ, _%_, _^_}
-use Rattle.ucp_history.specs.History.{Call, answer, Account, account}
-use Rattle.ucp_receiver.specs.declared.Counts.{Counts}
+use Prim.Native.Nat.{ℕ}
+use Rattle.ucp_history.specs.History.{Call, answer, account}
 use Rattle.ucp_receiver.specs.Account.{zeroCounts}
 use Rattle.ucp_receiver.specs.Octet.{fresh}
 use Rattle.text_ucp_listing.specs.Listing.{bodyRoom, answerLine, closingLine}
 use Rattle.text_ucp_listing.specs.Lists.{everyLine, behindAll}
+use Rattle.thm_ucp_receiver.specs.Promises.{accountCounts}
 
 -- the lister lends 436 octets of room to every call
 abbrev pub listedCall : ℕ → Call
@@ -18,17 +18,6 @@ listedCall x = record { octet = x; room = bodyRoom }
 unfoldable pub answerLines : List Call → List ℕ → List ℕ
 answerLines before [] = []
 answerLines before (x ∷ xs) = answerLine (answer before (listedCall x)) ++ answerLines (before ++ (listedCall x ∷ [])) xs
-
--- the five counts of an account, each modulo 2^32
-abbrev pub accountCounts : Account → Counts
-accountCounts a =
-    record {
-      flags = a .flags % 2 ^ 32;
-      delivered = a .delivered % 2 ^ 32;
-      refused = a .refused % 2 ^ 32;
-      skipped = a .skipped % 2 ^ 32;
-      unclosed = a .openOctets % 2 ^ 32;
-    }
 
 -- the whole output
 abbrev pub listing : List ℕ → List ℕ

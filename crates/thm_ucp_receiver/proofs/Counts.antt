@@ -15,22 +15,13 @@ use Rattle.ucp_receiver.specs.declared.Phase.the-variants.{Hunting, TooLong}
 use Rattle.ucp_receiver.specs.declared.Counts.{Counts}
 use Rattle.ucp_receiver.specs.Account.{countedFlag, countedOpen}
 use Rattle.ucp_receiver.specs.Octet.{State, countedOctet, countsAfter}
+use Rattle.thm_ucp_receiver.specs.Promises.{accountCounts}
 use Rattle.thm_ucp_receiver.proofs.Reached.{holding, phaseAt, reached}
 use Rattle.thm_ucp_receiver.proofs.Cut.{segment, flags-flag, hunted-flag, flags-octet, hunted-octet, read-more, hunted-more, open-last, closed-same, closed-more}
 use Rattle.thm_ucp_receiver.proofs.Record.{Stands, hunts, reads, stands-closed}
 
 abbrev wrapped : ℕ → ℕ
 wrapped n = n % 2 ^ 32
-
-abbrev pub counted : Account → Counts
-counted a =
-    record {
-      flags = wrapped (a .flags);
-      delivered = wrapped (a .delivered);
-      refused = wrapped (a .refused);
-      skipped = wrapped (a .skipped);
-      unclosed = wrapped (a .openOctets);
-    }
 
 wrapped-more : (n : ℕ) → wrapped (wrapped n + 1) ≡ wrapped (n + 1)
 wrapped-more n = mod-add-mod n (2 ^ 32) 1
@@ -47,7 +38,7 @@ flagged v a =
       openOctets = 0;
     }
 
-flag-counted : (v : Verdict) (a : Account) → countedFlag v (counted a) ≡ counted (flagged v a)
+flag-counted : (v : Verdict) (a : Account) → countedFlag v (accountCounts a) ≡ accountCounts (flagged v a)
 flag-counted v a = go v
   where
     none : (n : ℕ) → wrapped n ≡ wrapped (n + 0)
@@ -61,7 +52,7 @@ flag-counted v a = go v
         (record { flags = g; delivered = e; refused = q; skipped = wrapped (a .skipped); unclosed = 0 })
     fields f d r = λ i. record { flags = f i; delivered = d i; refused = r i; skipped = wrapped (a .skipped); unclosed = 0 }
 
-    go : (v : Verdict) → countedFlag v (counted a) ≡ counted (flagged v a)
+    go : (v : Verdict) → countedFlag v (accountCounts a) ≡ accountCounts (flagged v a)
     go silent = fields (wrapped-more (a .flags)) (none (a .delivered)) (none (a .refused))
     go (refused number) = fields (wrapped-more (a .flags)) (none (a .delivered)) (all (a .refused))
     go (delivered body) = fields (wrapped-more (a .flags)) (all (a .delivered)) (none (a .refused))
@@ -85,7 +76,7 @@ module _ (h : List Call) (c : Call) where
   -- ---- an octet before the first flag, and one of a stretch
 
   account-hunted : (c .octet ≡ flag → ⊥) → cutAtFlags h .flags ≡ []
-      → countedOctet Hunting (counted (account h)) ≡ counted (account (h ++ (c ∷ [])))
+      → countedOctet Hunting (accountCounts (account h)) ≡ accountCounts (account (h ++ (c ∷ [])))
   account-hunted n q =
       λ i. record {
         flags = wrapped (length (same i));
@@ -103,7 +94,7 @@ module _ (h : List Call) (c : Call) where
 
   account-read : (c .octet ≡ flag → ⊥) → (done : List Segment) (room : ℕ) (raw : List ℕ)
       → cutAtFlags h .flags ≡ done ++ (segment room raw ∷ [])
-      → countedOpen (counted (account h)) ≡ counted (account (h ++ (c ∷ [])))
+      → countedOpen (accountCounts (account h)) ≡ accountCounts (account (h ++ (c ∷ [])))
   account-read n done room raw q =
       λ i. record {
         flags = wrapped (same-length i);
@@ -144,21 +135,21 @@ reached-counted u c = go (ltb storeOctets (length (u .octets))) (u .ending)
     go false badEscape = refl
 
 pub stands-counts : (h : List Call) (s : State) (c : Call) → Stands h s
-    → countsAfter (counted (account h)) s (c .octet) (c .room) ≡ counted (account (h ++ (c ∷ [])))
+    → countsAfter (accountCounts (account h)) s (c .octet) (c .room) ≡ accountCounts (account (h ++ (c ∷ [])))
 unfolding countsAfter
 stands-counts h s c = go (eqb (c .octet) flag) refl
   where
     in-phase : {r : State} → s ≡ r
-        → countedOctet (s .rest .phase) (counted (account h)) ≡ countedOctet (r .rest .phase) (counted (account h))
-    in-phase p = ap (λ (r : State). countedOctet (r .rest .phase) (counted (account h))) p
+        → countedOctet (s .rest .phase) (accountCounts (account h)) ≡ countedOctet (r .rest .phase) (accountCounts (account h))
+    in-phase p = ap (λ (r : State). countedOctet (r .rest .phase) (accountCounts (account h))) p
 
     go : (t : Bool) → eqb (c .octet) flag ≡ t → Stands h s
-        → countsAfter (counted (account h)) s (c .octet) (c .room) ≡ counted (account (h ++ (c ∷ [])))
+        → countsAfter (accountCounts (account h)) s (c .octet) (c .room) ≡ accountCounts (account (h ++ (c ∷ [])))
     go true e st =
-        rw e (ap (λ (v : Verdict). countedFlag v (counted (account h))) (stands-closed h s c st)
+        rw e (ap (λ (v : Verdict). countedFlag v (accountCounts (account h))) (stands-closed h s c st)
         ∙ flag-counted (verdict (openStretch (cutAtFlags h .flags)) (c .room)) (account h)
-        ∙ ap counted (sym (account-flag h c (eqb-true (c .octet) flag e))))
+        ∙ ap accountCounts (sym (account-flag h c (eqb-true (c .octet) flag e))))
     go false e (hunts p q) = rw e (in-phase p ∙ account-hunted h c (eqb-false (c .octet) flag e) q)
     go false e (reads done room raw p q) =
-        rw e (in-phase p ∙ reached-counted (unstuffed raw) (counted (account h))
+        rw e (in-phase p ∙ reached-counted (unstuffed raw) (accountCounts (account h))
         ∙ account-read h c (eqb-false (c .octet) flag e) done room raw q)

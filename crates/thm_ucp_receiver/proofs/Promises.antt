@@ -16,18 +16,18 @@ use Rattle.ucp_receiver.specs.declared.Record.{Record}
 use Rattle.ucp_receiver.specs.Answers.{ReceiverAnswer, nothing, answerFor, outputAtFlag}
 use Rattle.ucp_receiver.specs.Octet.{State, afterFlag, stateAfter, verdictDue, countsAfter}
 use Rattle.thm_ucp_receiver.specs.Line.{Observed, callOf, upTo, Meets, Runs, Line}
-use Rattle.thm_ucp_receiver.specs.Promises.{AnswersByHistory, StretchIsAnswered, CountsByHistory, EveryOctetCounted, StoreClean, StoreByHistory, HuntingStoresNothing, FlagClears, putOut, Seen, seen, LaterOnly}
+use Rattle.thm_ucp_receiver.specs.Promises.{AnswersByHistory, StretchIsAnswered, accountCounts, CountsByHistory, EveryOctetCounted, StoreClean, StoreByHistory, HuntingStoresNothing, FlagClears, putOut, Seen, seen, LaterOnly}
 use Rattle.thm_ucp_receiver.proofs.Stretch.{verdict-answers}
 use Rattle.thm_ucp_receiver.proofs.Slice.{silence-due}
 use Rattle.thm_ucp_receiver.proofs.Cut.{account-sum}
 use Rattle.thm_ucp_receiver.proofs.Record.{Stands, stands-fresh, stands-next, stands-answer, stands-clean, stands-holds}
-use Rattle.thm_ucp_receiver.proofs.Counts.{counted, stands-counts}
+use Rattle.thm_ucp_receiver.proofs.Counts.{stands-counts}
 
 -- ---- the record after a history
 
 record At (h : List Call) (receiver : Record) (store : List ℕ) : Type 0 where
   stands : Stands h (record { rest = receiver .rest; store = store })
-  tally : receiver .counts ≡ counted (account h)
+  tally : receiver .counts ≡ accountCounts (account h)
 
 next : (h : List Call) {receiver : Record} {store : List ℕ} (o : Observed) → At h receiver store → Meets receiver store o
     → At (h ++ (callOf o ∷ [])) (o .given .receiver) (o .storeAfter)
@@ -98,11 +98,7 @@ every-octet-counted = account-sum
 pub counts : CountsByHistory
 counts before after o l =
     record {
-      flags = ap (λ (c : Counts). c .flags) t;
-      delivered = ap (λ (c : Counts). c .delivered) t;
-      refused = ap (λ (c : Counts). c .refused) t;
-      skipped = ap (λ (c : Counts). c .skipped) t;
-      unclosed = ap (λ (c : Counts). c .unclosed) t;
+      each = t;
       received =
           ap (λ (c : Counts). (c .flags + c .delivered + c .refused + c .skipped + c .unclosed) % 2 ^ 32) t
           ∙ wrapped-sum _ _ (a .openOctets) (wrapped-sum _ _ (a .skipped)
@@ -116,7 +112,7 @@ counts before after o l =
     a : Account
     a = account calls
 
-    t : o .given .receiver .counts ≡ counted (account calls)
+    t : o .given .receiver .counts ≡ accountCounts (account calls)
     t = after-call before after o l .tally
 
 pub store-clean : StoreClean

@@ -43,12 +43,19 @@ StretchIsAnswered =
 abbrev pub sum : Account → ℕ
 sum a = a .flags + a .delivered + a .refused + a .skipped + a .openOctets
 
+-- each modulo 2^32
+abbrev pub accountCounts : Account → Counts
+accountCounts a =
+    record {
+      flags = a .flags % 2 ^ 32;
+      delivered = a .delivered % 2 ^ 32;
+      refused = a .refused % 2 ^ 32;
+      skipped = a .skipped % 2 ^ 32;
+      unclosed = a .openOctets % 2 ^ 32;
+    }
+
 pub record CountsAs (calls : List Call) (c : Counts) : Type 0 where
-  pub flags : c .flags ≡ account calls .flags % 2 ^ 32
-  pub delivered : c .delivered ≡ account calls .delivered % 2 ^ 32
-  pub refused : c .refused ≡ account calls .refused % 2 ^ 32
-  pub skipped : c .skipped ≡ account calls .skipped % 2 ^ 32
-  pub unclosed : c .unclosed ≡ account calls .openOctets % 2 ^ 32
+  pub each : c ≡ accountCounts (account calls)
   pub received : (c .flags + c .delivered + c .refused + c .skipped + c .unclosed) % 2 ^ 32 ≡ length calls % 2 ^ 32
 
 -- after every call each count is the history's modulo 2^32, and their sum is the octets received
