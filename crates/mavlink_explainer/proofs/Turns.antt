@@ -1,13 +1,13 @@
 -- What a turn of each loop keeps. Assumes nothing.
 use mathlib.Core.Path.{_≡_, refl, sym, ap, ap₂, subst, _∙_}
 use mathlib.Core.Bool.{Bool, true, false, cond}
-use mathlib.Core.List.{List, [], _++_, append-assoc, append-nil}
-use Prim.Native.Nat.{ℕ, _+_, _-_, _%_, _^_, _<_, _≤_}
+use mathlib.Core.List.{List, [], _∷_, _++_, append-assoc, append-nil}
+use Prim.Native.Nat.{ℕ, zero, suc, _+_, _-_, _%_, _^_, _<_, _≤_}
 use native.Mathlib.Nat.{zero-add, add-comm, mod-add-mod}
 use native.Mathlib.Numerals.{add-one}
 use native.Mathlib.Omega.{arith}
-use lib.ListN.{length, set, getD, drop, length-drop, length-append}
-use lib.Seq.{paste, paste-suc, drop-paste, getD-drop, drop-drop}
+use lib.ListN.{length, set, getD, take, drop, length-drop, length-append}
+use lib.Seq.{paste, paste-suc, take-paste, drop-paste, getD-drop, drop-drop}
 use Rattle.io_streams.specs.declared.Input.the-variants.{More, Ended, Failed}
 use Rattle.io_streams.specs.declared.Output.{Output}
 use Rattle.io_streams.specs.declared.Output.the-variants.{Wrote, Failed as WriteFailed}
@@ -171,3 +171,29 @@ module _ (block : List ℕ) (from i : ℕ) (h : from + i < length block) where
       ∙ ap (λ (n : ℕ). set (paste block 0 (drop from block) i) n (getD (drop from block) i 0)) (sym (zero-add i))
       ∙ paste-suc block 0 (drop from block) i 0 (omega arith) there
       ∙ ap (paste block 0 (drop from block)) (sym (add-one i))
+
+take-none : (n : ℕ) → take {A = ℕ} n [] ≡ []
+take-none zero = refl
+take-none (suc n) = refl
+
+drop-take : (from end : ℕ) (l : List ℕ) → from ≤ end → drop from (take end l) ≡ take (end - from) (drop from l)
+drop-take zero end l h = let same : end ≡ end - 0 = omega arith in ap (λ (n : ℕ). take n l) same
+drop-take (suc from) zero l h = absurd (omega arith)
+drop-take (suc from) (suc end) [] h = sym (take-none (suc end - suc from))
+drop-take (suc from) (suc end) (x ∷ xs) h =
+    let same : end - from ≡ suc end - suc from = omega arith in
+    drop-take from end xs (omega arith) ∙ ap (λ (n : ℕ). take n (drop from xs)) same
+
+-- what is carried over, and kept where more is read, stands at the block's start
+pub held-carried : (before moved after : List ℕ) (end held : ℕ) → held ≤ end → end ≤ length before
+    → moved ≡ paste before 0 (drop (end - held) before) (end - (end - held)) → take held after ≡ take held moved
+    → take held after ≡ drop (end - held) (take end before)
+held-carried before moved after end held h within is same =
+    let few : end - (end - held) ≡ held = omega arith in
+    let none : held ≡ 0 + held = omega arith in
+    same
+    ∙ ap (take held) (is ∙ ap (paste before 0 (drop (end - held) before)) few)
+    ∙ ap (λ (n : ℕ). take n (paste before 0 (drop (end - held) before) held)) none
+    ∙ take-paste before 0 (drop (end - held) before) held (omega arith) (simp length-drop (omega arith))
+    ∙ ap (λ (n : ℕ). take n (drop (end - held) before)) (sym few)
+    ∙ sym (drop-take (end - held) end before (omega arith))

@@ -3,13 +3,15 @@ use mathlib.Core.Path.{_≡_}
 use mathlib.Core.Bool.{Bool, true, false, cond}
 use mathlib.Core.List.{List, [], _++_}
 use Prim.Native.Nat.{ℕ, _+_, _-_, _%_, _^_, _<_, _≤_}
-use lib.ListN.{length, drop}
+use lib.ListN.{length, take, drop}
 use Rattle.io_streams.specs.declared.Input.{Input}
 use Rattle.io_streams.specs.declared.Input.the-variants.{More, Ended, Failed}
 use Rattle.io_streams.specs.declared.Output.{Output}
 use Rattle.io_streams.specs.declared.Output.the-variants.{Wrote, Failed as WriteFailed}
-use Rattle.io_streams.specs.Turns.{UnlessFailed}
+use Rattle.io_streams.specs.declared.Turn.{Turn}
+use Rattle.io_streams.specs.Turns.{BlockTurns, hasEnded, UnlessFailed}
 use Rattle.mavlink_explainer.specs.declared.Progress.{Progress}
+use Rattle.mavlink_explainer.specs.declared.TurnDone.{TurnDone}
 use Rattle.mavlink_messages.specs.Messages.{readDue}
 use Rattle.text_mavlink_explanation.specs.Explanation.{frameLine, usedBy, isRefused, framesLine}
 use Rattle.text_mavlink_explanation.specs.Calls.{WholeFrame}
@@ -66,6 +68,15 @@ pub record Explored (last : Bool) (block : List ℕ) (frames bytes : ℕ) (given
 pub record Explores (last : Bool) (block : List ℕ) (frames bytes : ℕ) (given : Progress) : Type 0 where
   pub leaves : FramesLeave (given .input) (given .left) (length block)
   pub explored : UnlessFailed (given .input) (Explored last block frames bytes given)
+
+-- ---- a turn
+
+-- the frames in a turn's octets of the block are explained; the octets behind them stand at the block's start then, and the turn that
+-- follows reads on behind these, by what the block came to
+pub record WorksFrames (frames bytes : ℕ) (before : List ℕ) (turn : Turn) (given : TurnDone) (after : List ℕ) : Type 0 where
+  pub explores : Explores (hasEnded (turn .input)) (take (turn .octets) before) frames bytes (given .progress)
+  pub carried : take (given .progress .left) after ≡ drop (turn .octets - given .progress .left) (take (turn .octets) before)
+  pub follows : BlockTurns (given .progress .input) (turn .left) (length before) (given .progress .left) (given .turn)
 
 -- ---- the closing line
 

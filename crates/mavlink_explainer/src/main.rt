@@ -1,7 +1,8 @@
 // The MAVLink explainer: reads standard input, frames back to back, to its end or to the first frame that is refused, and writes
 // a line for each frame that says what it means. It closes with how many frames were explained and the octets that they used.
 // `text_mavlink_explanation` has the text, `io_streams` the reading and the writing. What the frames of one block are is proved
-// (`Explores`), and that as many octets went out as their lines have; that octets and counts go on from block to block is tested.
+// (`Explores`), that as many octets went out as their lines have, and of a turn that the octets behind its frames are carried over
+// and read on behind (`WorksFrames`); that a run hands counts and block on from turn to turn is its text, and tested.
 //
 // Lines wait in a buffer, and go out where the next one does not fit, and at the end of every block that a read brought.
 //
@@ -10,17 +11,18 @@
 use io_streams::Gathered;
 use io_streams::Input;
 use io_streams::Output;
+use io_streams::Turn;
 use text_output::TextRoom;
 ghost use mathlib.Core.Path.{_≡_};
 ghost use mathlib.Core.Bool.{cond};
 ghost use Prim.Native.Nat.{_-_, _≤_};
 ghost use lib.ListN.{length, drop};
 ghost use lib.Seq.{paste};
-ghost use Rattle.io_streams.specs.declared.Input.the-variants.{More, Ended};
+ghost use Rattle.io_streams.specs.declared.Input.the-variants.{More, Ended, Failed};
 ghost use Rattle.io_streams.specs.Blocks.{Zeroed};
 ghost use Rattle.text_output.specs.Clips.{textRoom};
 ghost use Rattle.text_mavlink_explanation.specs.Decided.{frameRoom};
-ghost use Rattle.mavlink_explainer.specs.Blocks.{inputOf, octetsOut, explains, Explores, FramesClosed};
+ghost use Rattle.mavlink_explainer.specs.Blocks.{inputOf, octetsOut, explains, Explores, WorksFrames, FramesClosed};
 
 // How far the frames are explained: how many, the octets that they used, and how many octets behind them are left of the block.
 // The input has ended where it is at its end or a frame was refused. So many octets of text went out for the block, modulo
@@ -52,18 +54,20 @@ fn goes_on(last: bool) -> Input
     Input::More
 }
 
-// So many frames more, of so many octets, and what writing their lines came to.
+// So many frames more, of all octets of a block but those left, and what writing their lines came to.
 fn progressed(
     frames: u64,
     bytes: u64,
     count: usize,
-    used: usize,
+    octets: usize,
     left: usize,
     input: Input,
     output: Output,
 ) -> Progress
-    ensures { λ r. ⌜ r ≡ explains frames bytes count used left (inputOf output input) (octetsOut output) ⌝ }
+    requires { ⌜ left ≤ octets ⌝ }
+    ensures { λ r. ⌜ r ≡ explains frames bytes count (octets - left) left (inputOf output input) (octetsOut output) ⌝ }
 {
+    let used = octets - left;
     let frames = std::num::wrapping_add_u64(frames, count as u64);
     let bytes = std::num::wrapping_add_u64(bytes, used as u64);
     match output {
@@ -82,6 +86,15 @@ fn progressed(
             written: 0,
         },
     }
+}
+
+// The same where a write failed before the block's end.
+fn stopped(frames: u64, bytes: u64, count: usize, octets: usize, left: usize) -> Progress
+    requires { ⌜ left ≤ octets ⌝ }
+    ensures { λ r. ⌜ r ≡ explains frames bytes count (octets - left) left Failed 0 ⌝ }
+{
+    let failed = Input::Failed;
+    progressed(frames, bytes, count, octets, left, failed, Output::Failed)
 }
 
 // Explains the frames of a block, and writes their lines out. A frame is decided where 50 octets are there, or the input has
@@ -108,15 +121,7 @@ fn explain_block(
         let gathered = io_streams::gather(buffer, waiting, text, explained.written);
         match gathered {
             Gathered::Failed => {
-                return progressed(
-                    frames,
-                    bytes,
-                    count,
-                    used,
-                    left,
-                    Input::Failed,
-                    Output::Failed,
-                );
+                return stopped(frames, bytes, count, block.len(), left);
             }
             Gathered::Waiting(next, out) => {
                 waiting = next;
@@ -125,14 +130,29 @@ fn explain_block(
         }
         if explained.refused {
             let output = io_streams::write_waiting(buffer, waiting, written);
-            return progressed(frames, bytes, count, used, left, Input::Ended, output);
+            return progressed(
+                frames,
+                bytes,
+                count,
+                block.len(),
+                left,
+                Input::Ended,
+                output,
+            );
         }
         count += 1;
         left -= explained.used;
     }
     let output = io_streams::write_waiting(buffer, waiting, written);
-    let used = block.len() - left;
-    progressed(frames, bytes, count, used, left, goes_on(last), output)
+    progressed(
+        frames,
+        bytes,
+        count,
+        block.len(),
+        left,
+        goes_on(last),
+        output,
+    )
 }
 
 // Moves the octets from a place of the block up to another to its start.
@@ -155,8 +175,40 @@ fn write_closing(text: &mut TextRoom, frames: u64, bytes: u64) -> bool
     io_streams::write_first(text, n)
 }
 
-// Explains all of the input, and answers whether it came to its end or to a refused frame, and all was written. Octets that do
-// not decide a frame yet are carried over.
+// What a turn came to, and the turn that follows.
+struct TurnDone {
+    progress: Progress,
+    turn: Turn,
+}
+
+// A turn: explains the frames in its octets of the block, carries over those that do not decide a frame yet, and reads on
+// behind them.
+fn explain_turn(
+    frames: u64,
+    bytes: u64,
+    block: &mut [u8],
+    text: &mut TextRoom,
+    buffer: &mut [u8],
+    turn: Turn,
+) -> TurnDone
+    requires { ⌜ (textRoom ≤ length (now buffer)) × (turn .octets ≤ length (now block)) ⌝ }
+    ensures { λ r. ⌜ WorksFrames frames bytes (now (block .entry)) turn r (now (block .exit)) ⌝ }
+{
+    let end = turn.octets;
+    let input = turn.input;
+    let last = io_streams::has_ended(input);
+    let progress = explain_block(frames, bytes, last, &block[..end], text, buffer);
+    let held = progress.left;
+    carry(block, end - held, end);
+    let input = progress.input;
+    let next = io_streams::next_turn(input, block, held, turn.left);
+    TurnDone {
+        progress: progress,
+        turn: next,
+    }
+}
+
+// Explains all of the input, and answers whether it came to its end or to a refused frame, and all was written.
 fn explain_input(block: &mut [u8], text: &mut TextRoom, buffer: &mut [u8]) -> bool
     requires { ⌜ textRoom ≤ length (now buffer) ⌝ }
 {
@@ -164,16 +216,11 @@ fn explain_input(block: &mut [u8], text: &mut TextRoom, buffer: &mut [u8]) -> bo
     let mut bytes: u64 = 0;
     let mut turn = io_streams::first_turn(block);
     while turn.left > 0 {
-        let end = turn.octets;
-        let input = turn.input;
-        let last = io_streams::has_ended(input);
-        let progress = explain_block(frames, bytes, last, &block[..end], text, buffer);
-        let held = progress.left;
-        carry(block, end - held, end);
+        let done = explain_turn(frames, bytes, block, text, buffer, turn);
+        let progress = done.progress;
         frames = progress.frames;
         bytes = progress.bytes;
-        let input = progress.input;
-        turn = io_streams::next_turn(input, block, held, turn.left);
+        turn = done.turn;
     }
     let input = turn.input;
     if !io_streams::has_ended(input) {

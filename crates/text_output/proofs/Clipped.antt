@@ -5,8 +5,8 @@ use mathlib.Core.List.{List, [], _∷_, _++_, append-nil}
 use Prim.Native.Nat.{ℕ, suc, _+_, _≤_, min}
 use native.Mathlib.Omega.{arith}
 use lib.Dec.{leb}
-use lib.ListN.{length, length-append}
-use lib.Seq.{sets, length-sets, set-out}
+use lib.ListN.{length, take, drop, length-append}
+use lib.Seq.{sets, sets-eq, length-sets, set-out, paste, take-all}
 use borrow.Author.Tests.{leb-true, leb-false}
 use Rattle.field_words.proofs.Sets.{sets-append}
 use Rattle.text_output.specs.Clips.{textRoom, Clips}
@@ -28,6 +28,11 @@ sets-clipped l i vs = go (leb (length l) i) refl
         let h = leb-false (length l) i e in
         let same : min i (length l) ≡ i = omega arith in
         ap (λ (n : ℕ). sets l n vs) same
+
+-- octets that fit, pasted
+pub pasted : (l : List ℕ) (at : ℕ) (vs : List ℕ) → at + length vs ≤ length l → paste l at vs (length vs) ≡ sets l at vs
+pasted l at vs h =
+    ap (λ (xs : List ℕ). take at l ++ xs ++ drop (at + length vs) l) (take-all (length vs) vs (omega arith)) ∙ sym (sets-eq vs l at h)
 
 module _ {before : List ℕ} {at : ℕ} {us : List ℕ} {next : ℕ} {after : List ℕ} (p : Clips before at us next after) where
   pub clips-long : length after ≡ length before

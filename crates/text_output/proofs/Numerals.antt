@@ -1,12 +1,12 @@
 -- A numeral by its last digit, and how long it is. Assumes nothing.
-use mathlib.Core.Path.{_≡_, refl}
+use mathlib.Core.Path.{_≡_, refl, ap, _∙_}
 use mathlib.Core.Bool.{Bool, true, false, not, _&&_}
-use mathlib.Core.List.{[], _∷_, _++_}
-use Prim.Native.Nat.{ℕ, zero, suc, _-_, _/_, _%_, _<_, _≤_}
+use mathlib.Core.List.{List, [], _∷_, _++_, append-assoc}
+use Prim.Native.Nat.{ℕ, zero, suc, _+_, _-_, _/_, _%_, _<_, _≤_}
 use native.Mathlib.Omega.{arith}
 use lib.Dec.{ltb}
 use lib.ListN.{length, length-append}
-use borrow.Author.Tests.{ltb-true}
+use borrow.Author.Tests.{ltb-true, lt-ltb}
 use Rattle.text_output.specs.Text.{codes, hexDigit, numeral, fraction}
 
 module _ (padded : Bool) (base : ℕ) where
@@ -27,6 +27,29 @@ module _ (padded : Bool) (base : ℕ) where
   more-digits (suc most) n h e =
       let same : suc most - 1 ≡ most = omega arith in
       rw (e, same)
+
+  -- ---- two digits a step
+
+  pub last-digit : (most n : ℕ) → most ≡ 1 → (not padded && ltb n base) ≡ false → numeral padded base most n ≡ hexDigit (n % base) ∷ []
+  last-digit most n one e =
+      let less : most - 1 ≡ 0 = omega arith in
+      more-digits most n (λ z. omega arith) e
+      ∙ ap (λ (xs : List ℕ). xs ++ (hexDigit (n % base) ∷ [])) (no-digit (most - 1) (n / base) less)
+
+  pub two-digits : (most n : ℕ) → (most ≡ 0 → ⊥) → (most ≡ 1 → ⊥) → (not padded && ltb n base) ≡ false → (not padded && ltb (n / base) base) ≡ true
+      → numeral padded base most n ≡ hexDigit (n / base) ∷ hexDigit (n % base) ∷ []
+  two-digits most n some more e f =
+      more-digits most n some e
+      ∙ ap (λ (xs : List ℕ). xs ++ (hexDigit (n % base) ∷ [])) (one-digit (most - 1) (n / base) (λ z. more (omega (arith, some))) f)
+
+  pub pair-digits : (most n : ℕ) → (most ≡ 0 → ⊥) → (most ≡ 1 → ⊥) → (not padded && ltb n base) ≡ false → (not padded && ltb (n / base) base) ≡ false
+      → numeral padded base most n ≡ numeral padded base (most - 2) (n / base / base) ++ (hexDigit (n / base % base) ∷ hexDigit (n % base) ∷ [])
+  pair-digits most n some more e f =
+      let less : most - 1 - 1 ≡ most - 2 = omega arith in
+      more-digits most n some e
+      ∙ ap (λ (xs : List ℕ). xs ++ (hexDigit (n % base) ∷ [])) (more-digits (most - 1) (n / base) (λ z. more (omega (arith, some))) f)
+      ∙ append-assoc (numeral padded base (most - 1 - 1) (n / base / base)) (hexDigit (n / base % base) ∷ []) (hexDigit (n % base) ∷ [])
+      ∙ ap (λ (k : ℕ). numeral padded base k (n / base / base) ++ (hexDigit (n / base % base) ∷ hexDigit (n % base) ∷ [])) less
 
   pub numeral-most : (most n : ℕ) → length (numeral padded base most n) ≤ most
   unfolding numeral
@@ -51,3 +74,15 @@ no-places (suc places) n e = absurd (omega arith)
 pub some-places : (places n : ℕ) → (places ≡ 0 → ⊥) → fraction places n ≡ codes "." ++ numeral true 10 places n
 some-places zero n h = absurd (h refl)
 some-places (suc places) n h = refl
+
+-- a decimal digit by arithmetic
+pub decimal-digit : (d : ℕ) → d < 10 → d + 48 ≡ hexDigit d
+unfolding hexDigit
+decimal-digit d h = rw (lt-ltb d 10 h) (omega arith)
+
+-- the point, and seven digits
+pub seven-places : (n : ℕ) → fraction 7 n
+    ≡ 46 ∷ hexDigit (n / 10 / 10 / 10 / 10 / 10 / 10 % 10) ∷ hexDigit (n / 10 / 10 / 10 / 10 / 10 % 10) ∷ hexDigit (n / 10 / 10 / 10 / 10 % 10)
+    ∷ hexDigit (n / 10 / 10 / 10 % 10) ∷ hexDigit (n / 10 / 10 % 10) ∷ hexDigit (n / 10 % 10) ∷ hexDigit (n % 10) ∷ []
+unfolding numeral
+seven-places n = refl

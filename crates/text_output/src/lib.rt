@@ -2,9 +2,10 @@
 // `Clips` says so, and where all fits it says that all is there.
 ghost use mathlib.Core.Path.{_≡_};
 ghost use mathlib.Core.List.{[], _∷_};
-ghost use Prim.Native.Nat.{_/_, _%_, _<_, _≤_, _^_};
+ghost use Prim.Native.Nat.{_+_, _/_, _%_, _<_, _≤_, _^_};
 ghost use lib.ListN.{length, drop};
 ghost use lib.IntN.{natAbs};
+ghost use Rattle.field_words.specs.Words.{octetsUp};
 ghost use Rattle.text_output.specs.Clips.{textRoom, Clips};
 ghost use Rattle.text_output.specs.Text.{hexDigit, hexPair, isPlain, backslashed, printedOctet, printed, numeral, natural, radix, padded, minus, places, fraction, fixedPoint};
 
@@ -141,9 +142,23 @@ pub fn put_printed(
     at
 }
 
+fn set_word(text: &mut [u8], at: usize, word: &[u8]) -> usize
+    requires { ⌜ (length (now text) ≡ textRoom) × (at + length (now word) ≤ textRoom) ⌝ }
+    ensures { λ r. ⌜ Clips (now (text .entry)) at (now (word .entry)) r (now (text .exit)) ⌝ }
+{
+    field_words::copies::copy(word, text, at);
+    at + word.len()
+}
+
+// Eight octets a step where all of it fits.
 pub fn put_word(text: &mut TextRoom, at: usize, word: &[u8]) -> usize
     ensures { λ r. ⌜ Clips (now (text .entry)) at (now (word .entry)) r (now (text .exit)) ⌝ }
 {
+    if at < TEXT_ROOM {
+        if word.len() <= TEXT_ROOM - at {
+            return set_word(text, at, word);
+        }
+    }
     put_printed(text, at, Printing::Plain, word, 0)
 }
 
@@ -176,6 +191,26 @@ fn remainder(n: u64, base: u64) -> u64
     n % base
 }
 
+fn set_two(text: &mut [u8], at: usize, first: u8, second: u8) -> usize
+    requires { ⌜ length (now text) ≡ textRoom ⌝ }
+    ensures { λ r. ⌜ Clips (now (text .entry)) at (first ∷ second ∷ []) r (now (text .exit)) ⌝ }
+{
+    if at < text.len() - 1 {
+        text[at] = first;
+        text[at + 1] = second;
+        return at + 2;
+    }
+    let at = set_octet(text, at, first);
+    set_octet(text, at, second)
+}
+
+fn put_two(text: &mut TextRoom, at: usize, first: u8, second: u8) -> usize
+    ensures { λ r. ⌜ Clips (now (text .entry)) at (first ∷ second ∷ []) r (now (text .exit)) ⌝ }
+{
+    set_two(text, at, first, second)
+}
+
+// Two digits a step: a number of many digits calls itself half as often.
 fn put_numeral(text: &mut TextRoom, at: usize, padded: bool, base: u64, most: u8, n: u64) -> usize
     requires { ⌜ (0 < base) × (base ≤ 16) ⌝ }
     ensures { λ r. ⌜ Clips (now (text .entry)) at (numeral padded base most n) r (now (text .exit)) ⌝ }
@@ -186,8 +221,16 @@ fn put_numeral(text: &mut TextRoom, at: usize, padded: bool, base: u64, most: u8
     if !padded & (n < base) {
         return put_octet(text, at, digit(n));
     }
-    let at = put_numeral(text, at, padded, base, most - 1, quotient(n, base));
-    put_octet(text, at, digit(remainder(n, base)))
+    let more = quotient(n, base);
+    let last = digit(remainder(n, base));
+    if most == 1 {
+        return put_octet(text, at, last);
+    }
+    if !padded & (more < base) {
+        return put_two(text, at, digit(more), last);
+    }
+    let at = put_numeral(text, at, padded, base, most - 2, quotient(more, base));
+    put_two(text, at, digit(remainder(more, base)), last)
 }
 
 pub fn put_natural(text: &mut TextRoom, at: usize, n: u64) -> usize
@@ -256,11 +299,51 @@ fn whole_of(scale: Scale) -> u64
     }
 }
 
+fn decimal(n: u64) -> u64
+    ensures { λ r. ⌜ (r ≡ hexDigit (n % 10)) × (r < 256) ⌝ }
+{
+    n % 10 + 48
+}
+
+// The point and seven digits, as one number.
+fn seven_places(n: u64) -> u64
+    ensures { λ r. ⌜ octetsUp 8 r ≡ fraction 7 n ⌝ }
+{
+    let from_1 = n / 10;
+    let from_2 = from_1 / 10;
+    let from_3 = from_2 / 10;
+    let from_4 = from_3 / 10;
+    let from_5 = from_4 / 10;
+    let from_6 = from_5 / 10;
+    46
+        + (decimal(from_6) * 256
+            + (decimal(from_5) * 65536
+                + (decimal(from_4) * 16777216
+                    + (decimal(from_3) * 4294967296
+                        + (decimal(from_2) * 1099511627776
+                            + (decimal(from_1) * 281474976710656
+                                + decimal(n) * 72057594037927936))))))
+}
+
+fn set_eight(text: &mut [u8], at: usize, word: u64) -> usize
+    requires { ⌜ (length (now text) ≡ textRoom) × (at + 8 ≤ textRoom) ⌝ }
+    ensures { λ r. ⌜ Clips (now (text .entry)) at (octetsUp 8 word) r (now (text .exit)) ⌝ }
+{
+    field_words::put_64(text, at, word);
+    at + 8
+}
+
+// Seven places, as angles have, go in one store where there is room.
 fn put_fraction(text: &mut TextRoom, at: usize, places: u8, n: u64) -> usize
     ensures { λ r. ⌜ Clips (now (text .entry)) at (fraction places n) r (now (text .exit)) ⌝ }
 {
     if places == 0 {
         return put_nothing(text, at);
+    }
+    if places == 7 {
+        if at < TEXT_ROOM - 7 {
+            return set_eight(text, at, seven_places(n));
+        }
     }
     let at = put_octet(text, at, b'.');
     put_numeral(text, at, true, 10, places, n)

@@ -51,7 +51,7 @@ returns c =
     let l = c .before .before .before .before .before .before .before .before .before .before .before .before .before .loop in
     let a = c .before .before .before .before .before .before .before .before .before .before .before .before .before .before .before .before .before .args in
     let least = c .before .before .before .before .before .before .before .before .before .before .before .before .before .before .least-octets in
-    rw (c .progressed .ensures)
+    rw (c .stopped .ensures)
     (at-failure (least .result) (now (a .block)) (l .count) (l .left) _ (omega (arith, l .inv .0)) (l .inv .1) (a .last) (least .ensures) (a .frames) (a .bytes))
 
 -- what waits then is within the buffer, and with what went out it makes up what waited and the line
@@ -86,7 +86,7 @@ returns-2 c =
     let next = c .before .before .before .before .before .before .gathered .given .0 .0 in
     let w = c .before .write-waiting in
     let waits : min next (length (c .before .before .before .before .before .before .before .before .before .before .gather .last .0)) ≡ next = omega (arith, gathered (c .before .before .before .before .before .before) .0, c .before .before .before .before .before .before .before .before .before .before .gather .kept .0) in
-    rw (c .progressed2 .ensures)
+    rw (c .progressed .ensures)
     (at-refused (least .result) (now (a .block)) (l .count) (l .left) _ (omega (arith, l .inv .0)) (l .inv .1) (a .last) (least .ensures) (a .frames) (a .bytes) (explained (c .before .before .before .before .before .before .before .before .before .before .before .before .before .before)) (c .before .before .before .before .before .before .before .before .before .before .before .before .before .before .before .before .before .loop-test .taken) (c .before .before .before .if1 .taken)
     (c .before .before .before .before .wrapping-add-usize .result) next (adds (c .before .before .before .before)) (w .result) (subst (λ (k : ℕ). WritesWaiting (c .before .before .before .before .wrapping-add-usize .result) k (w .result)) waits (w .ensures)))
 
@@ -112,8 +112,14 @@ loop-again c =
       omega (arith, gathered (c .before .before .before .before) .0, kept),
     )
 
-sub-used-2 : tie.Need-sub-used-2 Inv-loop μ-loop
-sub-used-2 c = omega (arith, c .before .before .before .loop .inv .0)
+stopped-requires : tie.Need-stopped-requires Inv-loop μ-loop
+stopped-requires c κs = omega (arith, c .before .before .before .before .before .before .before .before .before .before .before .before .loop .inv .0)
+
+progressed-requires : tie.Need-progressed-requires Inv-loop μ-loop
+progressed-requires c κs = omega (arith, c .before .before .before .before .before .before .before .before .before .before .before .before .before .before .before .before .before .loop .inv .0)
+
+progressed-requires-2 : tie.Need-progressed-requires-2 Inv-loop μ-loop
+progressed-requires-2 c κs = omega (arith, c .before .before .before .before .loop .inv .0)
 
 same-length-3 : tie.Need-same-length-3 Inv-loop μ-loop
 same-length-3 c = c .before .before .before .before .before .loop .inv .2
@@ -125,7 +131,7 @@ returns-3 c =
     let least = c .before .before .before .before .before .before .least-octets in
     let w = c .before .before .write-waiting2 in
     let waits : min (l .waiting) (length (l .buffer)) ≡ l .waiting = omega (arith, l .inv .3) in
-    rw (c .progressed3 .ensures, c .before .goes-on .ensures)
+    rw (c .progressed2 .ensures, c .before .goes-on .ensures)
     (at-end (least .result) (now (a .block)) (l .count) (l .left) _ (omega (arith, l .inv .0)) (l .inv .1) (a .last) (least .ensures) (a .frames) (a .bytes) (omega (arith, c .before .before .before .before .loop-test .left))
     (l .written) (l .waiting) refl (w .result) (subst (λ (k : ℕ). WritesWaiting (l .written) k (w .result)) waits (w .ensures)))
 
@@ -144,13 +150,13 @@ explain-block-spec =
     (λ c κs. search needs)
     (λ c κs. search needs)
     (λ c. search needs)
-    (λ c κs. search needs)
+    stopped-requires
     same-length
     returns
     (λ c. search needs)
     (λ c κs. search needs)
     (λ c κs. search needs)
-    (λ c κs. search needs)
+    progressed-requires
     same-length-2
     returns-2
     add-count
@@ -158,8 +164,7 @@ explain-block-spec =
     loop-less
     loop-again
     (λ c κs. search needs)
-    sub-used-2
     (λ c κs. search needs)
-    (λ c κs. search needs)
+    progressed-requires-2
     same-length-3
     returns-3)
