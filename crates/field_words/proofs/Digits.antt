@@ -1,9 +1,11 @@
 -- The octets of a number, one division behind the other, and of a list from some place on. Assumes nothing.
 use mathlib.Core.Path.{_≡_, refl, sym, ap, ap₂, _∙_}
-use mathlib.Core.List.{List, [], _∷_}
-use Prim.Native.Nat.{ℕ, zero, suc, _+_, _*_, _/_, _%_, _<_, _≤_}
+use mathlib.Core.List.{List, [], _∷_, _++_}
+use Prim.Native.Nat.{ℕ, zero, suc, _+_, _*_, _/_, _%_, _^_, _<_, _≤_}
 use native.Mathlib.Omega.{arith}
+use native.Mathlib.Nat.{mul-assoc, pow-suc}
 use native.Mathlib.Numerals.{add-one}
+use lib.Arith.{mod-mul}
 use lib.ListN.{length, getD, take, drop}
 use lib.Seq.{drop-cons}
 use Rattle.field_words.specs.Words.{octetsUp, octetsDown, eight}
@@ -43,6 +45,25 @@ down [] ys h = refl
 down (x ∷ xs) ys h =
     ap₂ (λ (y n : ℕ). octetsDown (length xs) n (y ∷ ys)) (first x (value xs) (h .0)) (others x (value xs) (h .0))
     ∙ down xs (x ∷ ys) (h .1)
+
+-- the k lowest octets of a number, and one more above them
+some : (k : ℕ) → 0 < 256 ^ k
+some zero = omega arith
+some (suc k) = let more = some k in omega arith
+
+pub topped : (k w x : ℕ) → x < 256 → octetsUp (suc k) (w % 256 ^ k + x * 256 ^ k) ≡ octetsUp k w ++ x ∷ []
+unfolding octetsUp
+topped zero w x h = let only : (w % 1 + x * 1) % 256 ≡ x = omega arith in ap (λ (n : ℕ). n ∷ []) only
+topped (suc k) w x h =
+    let low = w / 256 % 256 ^ k in
+    let high = x * 256 ^ k in
+    let halves : w % (256 ^ k * 256) ≡ low * 256 + w % 256 = mod-mul w (some k) (omega arith) in
+    let above : x * (256 ^ k * 256) ≡ high * 256 = sym (mul-assoc x (256 ^ k) 256) in
+    let digits : w % (256 ^ k * 256) + x * (256 ^ k * 256) ≡ w % 256 + (low + high) * 256 = omega (arith, halves, above) in
+    ap (λ (m : ℕ). octetsUp (suc (suc k)) (w % m + x * m)) (pow-suc 256 k)
+    ∙ ap (octetsUp (suc (suc k))) digits
+    ∙ ap₂ (λ (y n : ℕ). y ∷ octetsUp (suc k) n) (first (w % 256) (low + high) (omega arith)) (others (w % 256) (low + high) (omega arith))
+    ∙ ap (λ (ys : List ℕ). w % 256 ∷ ys) (topped k (w / 256) x h)
 
 module _ (w a b c d e f g h : ℕ) (la : a < 256) (lb : b < 256) (lc : c < 256) (ld : d < 256) (le : e < 256) (lf : f < 256) (lg : g < 256)
     (lh : h < 256) (is : w ≡ eight a b c d e f g h) where
