@@ -1,7 +1,7 @@
 // The X.25 check that MAVLink carries, by shifts.
 ghost use mathlib.Core.Path.{_≡_};
 ghost use mathlib.Core.List.{[], _∷_, _++_};
-ghost use Prim.Native.Nat.{_<_, _≤_};
+ghost use Prim.Native.Nat.{_≤_};
 ghost use lib.ListN.{length, drop};
 ghost use Rattle.field_words.specs.Words.{octetsUp};
 ghost use Rattle.crc_x25.specs.Check.{x25, x25From};
@@ -41,27 +41,22 @@ fn next_eight(check: u16, word: u64) -> u16
 pub fn x25_five(first: u8, second: u8, third: u8, fourth: u8, fifth: u8) -> u16
     ensures { λ r. ⌜ r ≡ x25 (first ∷ second ∷ third ∷ fourth ∷ fifth ∷ []) ⌝ }
 {
-    let word = first as u64 * 16777216
-        + (second as u64 * 4294967296
-            + (third as u64 * 1099511627776
-                + (fourth as u64 * 281474976710656 + fifth as u64 * 72057594037927936)));
+    let word = field_words::word_of(0, 0, 0, first, second, third, fourth, fifth);
     next_eight(0x8EB4, word)
 }
 
 // The check of seven octets at once, a number's lowest: the step of eight over a zero and them.
 pub fn x25_seven(word: u64) -> u16
-    requires { ⌜ word < 72057594037927936 ⌝ }
     ensures { λ r. ⌜ r ≡ x25 (octetsUp 7 word) ⌝ }
 {
-    next_eight(0x3078, word * 256)
+    next_eight(0x3078, word << 8)
 }
 
-// The check of four octets and eight more: the step of eight over four zeros and the four, then over the eight.
+// The check of a number's four lowest octets and eight more: the step of eight over four zeros and the four, then over the eight.
 pub fn x25_twelve(first: u64, word: u64) -> u16
-    requires { ⌜ first < 4294967296 ⌝ }
     ensures { λ r. ⌜ r ≡ x25 (octetsUp 4 first ++ octetsUp 8 word) ⌝ }
 {
-    next_eight(next_eight(0xEC2A, first * 4294967296), word)
+    next_eight(next_eight(0xEC2A, first << 32), word)
 }
 
 // The check of octets and then of one more, the extra that is not sent.
