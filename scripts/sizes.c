@@ -81,6 +81,16 @@ CALL(read_uplink,
      ostrogosz_ucp_write_uplink(payload, sizeof payload, body, sizeof body),
      answer = ostrogosz_ucp_read_uplink(body, sizeof body, payload))
 CALL(read_id, , answer = ostrogosz_ucp_read_id(body, sizeof body).id)
+CALL(altitude_in_feet, ,
+     answer = (uint32_t)ostrogosz_ucp_altitude_in_feet(7).value)
+CALL(rate_in_feet_per_minute, ,
+     answer = (uint32_t)ostrogosz_ucp_rate_in_feet_per_minute(7).value)
+CALL(geometric_altitude_in_feet, ,
+     answer = (uint32_t)ostrogosz_ucp_geometric_altitude_in_feet(7))
+CALL(degrees_e7, , answer = (uint32_t)ostrogosz_ucp_degrees_e7(7))
+CALL(mavlink_read_id, , answer = ostrogosz_mavlink_read_id(frame, ROOM).id)
+CALL(mavlink_count_failures, ,
+     answer = ostrogosz_mavlink_count_failures(7).count)
 CALL(start, , ostrogosz_ucp_receiver_start(&receiver))
 
 static void prepare_line(void)
@@ -170,10 +180,16 @@ int main(void)
     UCP_ROWS(request);
     UCP_ROWS(control);
     UCP_ROWS(initialization);
+    ROW(ucp_altitude_in_feet, altitude_in_feet);
+    ROW(ucp_rate_in_feet_per_minute, rate_in_feet_per_minute);
+    ROW(ucp_geometric_altitude_in_feet, geometric_altitude_in_feet);
+    ROW(ucp_degrees_e7, degrees_e7);
+    ROW(mavlink_read_id, mavlink_read_id);
     MAVLINK_ROWS(data_stream);
     MAVLINK_ROWS(static);
     MAVLINK_ROWS(dynamic);
     MAVLINK_ROWS(status);
     MAVLINK_ROWS(traffic);
+    ROW(mavlink_count_failures, mavlink_count_failures);
     return 0;
 }

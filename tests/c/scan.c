@@ -3,9 +3,8 @@
  * did not lend: after each call the lent memory is cleared and all writable
  * memory of the process is looked through, the stack below too.
  */
-#include "expect.h"
+#include "memory.h"
 #include "ostrogosz.h"
-#include "secret.h"
 
 /* All that is lent. */
 static struct {
@@ -335,58 +334,41 @@ static const struct {
 #define CALLS (sizeof calls / sizeof calls[0])
 
 /* What is left in all writable memory. */
-static struct traces left(void)
-{
-    static struct region regions[256];
-    struct traces found = {0, 0};
-    size_t count = writable_regions("/proc/self/maps", regions, 256);
-    size_t i;
-    EXPECT(count > 0 && count < 256);
-    for (i = 0; i < count; i++) {
-        count_traces((const volatile uint8_t *)regions[i].start,
-                     regions[i].end - regions[i].start, &found);
-    }
-    return found;
-}
+static struct traces found;
 
-/* The stack below, as a call left it: looking through memory takes stack too,
- * and would cover what was left. */
-static uint8_t below[1 << 15];
+static void count(const volatile uint8_t *octets, size_t octets_length)
+{
+    count_traces(octets, octets_length, &found);
+}
 
 /* What one call leaves once the lent memory is cleared. */
 static struct traces left_by(void (*call)(void), int clears)
 {
-    volatile uint8_t here = 0;
-    const volatile uint8_t *stack = &here;
-    size_t i;
     accepted = 1;
     wipe(&lent, sizeof lent);
-    wipe(below, sizeof below);
-    call();
-    for (i = 0; i < sizeof below; i++) {
-        ((volatile uint8_t *)below)[sizeof below - 1 - i] =
-            *(const volatile uint8_t *)((uintptr_t)stack - 1 - i);
-    }
+    call_and_keep(call);
     EXPECT(accepted);
     if (clears) {
         wipe(&lent, sizeof lent);
     }
-    return left();
+    found.identities = found.addresses = 0;
+    look_through(count);
+    return found;
 }
 
 /* Three octets may stand somewhere by chance, so an address counts only where
  * both are found. */
 static void try_call(size_t i)
 {
-    struct traces found[2];
+    struct traces left[2];
     for (secret = 0; secret < 2; secret++) {
-        found[secret] = left_by(calls[i].call, calls[i].call != start_anew);
+        left[secret] = left_by(calls[i].call, calls[i].call != start_anew);
     }
-    if (found[0].identities > 0 || found[1].identities > 0 ||
-        (found[0].addresses > 0 && found[1].addresses > 0)) {
+    if (left[0].identities > 0 || left[1].identities > 0 ||
+        (left[0].addresses > 0 && left[1].addresses > 0)) {
         printf("%s leaves %u and %u identities, %u and %u addresses\n",
-               calls[i].name, found[0].identities, found[1].identities,
-               found[0].addresses, found[1].addresses);
+               calls[i].name, left[0].identities, left[1].identities,
+               left[0].addresses, left[1].addresses);
         EXPECT(!"a trace");
     } else {
         EXPECT("no trace");

@@ -2,10 +2,10 @@
 use mathlib.Core.Path.{_≡_}
 use mathlib.Core.List.{List}
 use Prim.Native.Nat.{ℕ, _+_, _<_, _≤_}
-use lib.ListN.{length}
+use lib.ListN.{length, getD}
 use Rattle.mavlink_frame.specs.declared.Kind.{Kind}
 use Rattle.mavlink_frame.specs.Frame.{KindAnswer, known, unknown, mavlinkKind}
-use Rattle.mavlink_frame.specs.Reader.{frame, headerAt}
+use Rattle.mavlink_frame.specs.Reader.{frame, headerAt, foundOf}
 use Rattle.mavlink_frame.specs.Reader as found-as
 use Rattle.c_mavlink.specs.Readers.{foundAs}
 
@@ -17,6 +17,17 @@ pub record Taken (k : Kind) (s : List ℕ) : Type 0 where
 abbrev pub TakenBy : KindAnswer → List ℕ → Type 0
 TakenBy (known k) s = Taken k s
 TakenBy unknown s = ⊥
+
+-- one that begins with a frame of a kind, of whatever check
+pub record WholeFrame (k : Kind) (s : List ℕ) : Type 0 where
+  pub room : k .length + 8 ≤ length s
+  pub sized : getD s 1 0 ≡ k .length
+  pub is : foundAs (k .id) s ≡ foundOf k s
+
+-- the refusal that is due before the check; 0 where there is none
+pub record Before (k : Kind) (s : List ℕ) (refusal : ℕ) : Type 0 where
+  pub refused : 0 < refusal → foundAs (k .id) s ≡ found-as.refused refusal
+  pub whole : refusal ≡ 0 → WholeFrame k s
 
 -- the refusal that is due up to the check; 0 where the frame is right
 pub record Tested (id : ℕ) (s : List ℕ) (refusal : ℕ) : Type 0 where

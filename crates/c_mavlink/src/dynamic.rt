@@ -30,7 +30,7 @@ pub extern "C" fn ostrogosz_mavlink_read_dynamic(
 ) -> u32
     ensures { λ r. ⌜ ReadsMavlink (readAs 202 (now (input .entry))) (now (header .entry)) (now (message .entry)) r (now (header .exit)) (now (message .exit)) ⌝ }
 {
-    let refusal = super::frames::refusal_of(202, input);
+    let refusal = super::frames::refusal_of(mavlink_frame::DYNAMIC, input);
     if refusal != 0 {
         return refusal;
     }
@@ -50,7 +50,7 @@ fn write(message: &[u8], header: &[u8], output: &mut [u8]) -> OstrogoszWritten
     if !fits(message) {
         return super::frames::field_refused();
     }
-    super::frames::write(202, &message[0..42], header, output)
+    super::frames::write(mavlink_frame::DYNAMIC, &message[0..42], header, output)
 }
 
 // Writes the frame of the message that a struct holds at the start of output: 25, then 8.

@@ -26,6 +26,8 @@ const UNKNOWN_ID: u32 = refusals::MAVLINK_UNKNOWN_ID as u32;
 
 const LENGTH: u32 = refusals::MAVLINK_LENGTH as u32;
 
+const WRONG_CHECK: u32 = refusals::MAVLINK_WRONG_CHECK as u32;
+
 const FIELD: u32 = refusals::MAVLINK_FIELD as u32;
 
 // What kind of frame stands at the start of an input.

@@ -1,6 +1,5 @@
 // Message 201, the static data of an aircraft. Its struct has the payload's octets in the payload's order, but for the integrity: the
 // address has four octets there.
-use mavlink_frame::Kind;
 use output_writing::OstrogoszWritten;
 ghost use mathlib.Core.Path.{_≡_};
 ghost use Prim.Native.Nat.{_<_, _≤_};
@@ -53,7 +52,7 @@ pub extern "C" fn ostrogosz_mavlink_read_static(
 ) -> u32
     ensures { λ r. ⌜ ReadsMavlink (readAs 201 (now (input .entry))) (now (header .entry)) (now (message .entry)) r (now (header .exit)) (now (message .exit)) ⌝ }
 {
-    let refusal = super::frames::refusal_of(201, input);
+    let refusal = super::frames::refusal_of(mavlink_frame::STATIC, input);
     if refusal != 0 {
         return refusal;
     }
@@ -80,13 +79,8 @@ fn put_frame(message: &[u8], header: &[u8], output: &mut [u8])
     requires { ⌜ (length (now message) ≡ 20) × (little32 (now message) 0 < 16777216) × (length (now header) ≡ 3) × (27 ≤ length (now output)) ⌝ }
     ensures { λ r. ⌜ now (output .exit) ≡ messageFrame (Static (held staticStruct (now (message .entry)))) (held headerStruct (now (header .entry))) ++ drop 27 (now (output .entry)) ⌝ }
 {
-    let kind = Kind {
-        id: 201,
-        length: 19,
-        extra: 126,
-    };
     put_payload(message, output);
-    mavlink_frame::writer::surround(kind, super::frames::sender(header), output);
+    mavlink_frame::writer::surround(mavlink_frame::STATIC, super::frames::sender(header), output);
 }
 
 fn write(message: &[u8], header: &[u8], output: &mut [u8]) -> OstrogoszWritten

@@ -6,7 +6,21 @@ ghost use Rattle.mavlink_messages.specs.declared.Message.the-variants.{Status};
 ghost use Rattle.c_lent.specs.Structs.{held};
 ghost use Rattle.c_mavlink.specs.Structs.{headerStruct, statusStruct};
 ghost use Rattle.c_mavlink.specs.Readers.{ReadsMavlink, readAs};
+ghost use Rattle.c_mavlink.specs.Steps.{Tested};
 ghost use Rattle.c_mavlink.specs.Writers.{WritesMavlinkForC};
+
+// As `frames::refusal_of`, with the check from registers.
+fn refusal_of(input: &[u8]) -> u32
+    ensures { λ r. ⌜ Tested 203 (now (input .entry)) r ⌝ }
+{
+    let kind = mavlink_frame::STATUS;
+    let early = super::frames::before_check(kind, input);
+    if early != 0 {
+        return early;
+    }
+    let check = mavlink_frame::reader::check_of_one(kind.extra, input);
+    super::frames::judged(kind, check, input)
+}
 
 // Reads the message in the frame at the start of input into both structs: 0, or the refusal that is due, and then both are as
 // they were.
@@ -18,7 +32,7 @@ pub extern "C" fn ostrogosz_mavlink_read_status(
 ) -> u32
     ensures { λ r. ⌜ ReadsMavlink (readAs 203 (now (input .entry))) (now (header .entry)) (now (message .entry)) r (now (header .exit)) (now (message .exit)) ⌝ }
 {
-    let refusal = super::frames::refusal_of(203, input);
+    let refusal = refusal_of(input);
     if refusal != 0 {
         return refusal;
     }
@@ -31,7 +45,12 @@ fn write(message: &[u8], header: &[u8], output: &mut [u8]) -> OstrogoszWritten
     requires { ⌜ (length (now message) ≡ 1) × (length (now header) ≡ 3) ⌝ }
     ensures { λ r. ⌜ WritesMavlinkForC (Status (held statusStruct (now (message .entry)))) (held headerStruct (now (header .entry))) (now (output .entry)) r (now (output .exit)) ⌝ }
 {
-    super::frames::write(203, message, header, output)
+    output_writing::in_numbers(mavlink_frame::writer::write_one(
+        mavlink_frame::STATUS,
+        super::frames::sender(header),
+        message[0],
+        output,
+    ))
 }
 
 // Writes the frame of the message that a struct holds at the start of output: 8.

@@ -27,7 +27,7 @@ pub extern "C" fn ostrogosz_mavlink_read_traffic(
 ) -> u32
     ensures { λ r. ⌜ ReadsMavlink (readAs 246 (now (input .entry))) (now (header .entry)) (now (message .entry)) r (now (header .exit)) (now (message .exit)) ⌝ }
 {
-    let refusal = super::frames::refusal_of(246, input);
+    let refusal = super::frames::refusal_of(mavlink_frame::TRAFFIC, input);
     if refusal != 0 {
         return refusal;
     }
@@ -47,7 +47,7 @@ fn write(message: &[u8], header: &[u8], output: &mut [u8]) -> OstrogoszWritten
     if !fits(message) {
         return super::frames::field_refused();
     }
-    super::frames::write(246, &message[0..38], header, output)
+    super::frames::write(mavlink_frame::TRAFFIC, &message[0..38], header, output)
 }
 
 // Writes the frame of the message that a struct holds at the start of output: 25, then 8.

@@ -7,6 +7,7 @@ ghost use lib.Dec.{ltb};
 ghost use mathlib.Core.List.{_++_};
 ghost use Prim.Native.Nat.{_<_, _≤_};
 ghost use lib.ListN.{length, getD, drop};
+ghost use Rattle.field_words.specs.Words.{octetsUp};
 ghost use Rattle.field_codes.specs.Codes.{isSquawk};
 ghost use Rattle.ucp_frame.specs.Frame.{frame};
 ghost use Rattle.field_layout.specs.Steps.{little16};
@@ -18,6 +19,7 @@ ghost use Rattle.c_lent.specs.Writes.{WritesStructBody};
 ghost use Rattle.c_lent.specs.Sends.{SendsStruct};
 ghost use Rattle.c_lent.specs.Structs.{isYes, stored, held};
 ghost use Rattle.c_ucp_control.specs.Struct.{controlStruct, controlState};
+ghost use Rattle.c_ucp_control.specs.Steps.{stateFields};
 
 // ---- reading
 
@@ -30,20 +32,16 @@ fn body_fits(body: &[u8]) -> bool
         & field_texts::pairs::is_padded_at(body, 10)
 }
 
-// From 3 on the body has the octets of the struct from 8 on.
-fn fill(body: &[u8], message: &mut [u8; 24])
-    requires { ⌜ length (now body) ≡ 18 ⌝ }
-    ensures { λ r. ⌜ now (message .exit) ≡ stored controlStruct (valueIn controlFormat (now (body .entry))) ⌝ }
+// Bits 7 to 0 of the octet at 2, an octet of the struct for each field, and the padding behind them.
+fn flags(state: u8) -> u64
+    ensures { λ r. ⌜ octetsUp 8 r ≡ stateFields state ⌝ }
 {
-    // Behind a store the compiler reads the body anew. Else it keeps the text from its test, and copies it by way of the stack.
-    *message = [0; 24];
-    let state = body[2];
     let from_6 = state % 128;
     let from_5 = from_6 % 64;
     let from_4 = from_5 % 32;
     let from_3 = from_4 % 16;
     let from_2 = from_3 % 8;
-    *message = [
+    field_words::word_of(
         state / 128,
         from_6 / 64,
         from_5 / 32,
@@ -52,23 +50,20 @@ fn fill(body: &[u8], message: &mut [u8; 24])
         from_2 / 2,
         from_2 % 2,
         0,
-        body[3],
-        body[4],
-        body[5],
-        body[6],
-        body[7],
-        body[8],
-        body[9],
-        body[10],
-        body[11],
-        body[12],
-        body[13],
-        body[14],
-        body[15],
-        body[16],
-        body[17],
-        0,
-    ];
+    )
+}
+
+// From 3 on the body has the octets of the struct from 8 on.
+fn fill(body: &[u8], message: &mut [u8; 24])
+    requires { ⌜ length (now body) ≡ 18 ⌝ }
+    ensures { λ r. ⌜ now (message .exit) ≡ stored controlStruct (valueIn controlFormat (now (body .entry))) ⌝ }
+{
+    // Behind a store the compiler reads the body anew. Else it keeps the text from its test, and copies it by way of the stack.
+    *message = [0; 24];
+    field_words::put_64(message, 0, flags(body[2]));
+    field_words::put_64(message, 8, field_words::little_64(body, 3));
+    // The first of the identity is put twice.
+    field_words::put_64(message, 15, field_words::little_64(body, 10));
 }
 
 // Reads a body into the struct: 0, or the refusal that is due, 10 to 13, and then the struct is as it was.

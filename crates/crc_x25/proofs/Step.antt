@@ -258,10 +258,21 @@ pub after : (xs ys : List ℕ) → x25From (x25 xs) ys ≡ x25 (xs ++ ys)
 after xs ys =
     ap (λ (n : ℕ). x25From n ys) (sym (starts xs)) ∙ sym (from-append 0xFFFF xs ys) ∙ starts (xs ++ ys)
 
--- three zeros turn 8EB4 into the start
-pub zeros-before : (xs : List ℕ) → x25From 0x8EB4 (0 ∷ 0 ∷ 0 ∷ xs) ≡ x25 xs
-unfolding x25From x25 mirrored bitsUp polynomial register next step reduced wireBits
-zeros-before xs = from-append 0x8EB4 (0 ∷ 0 ∷ 0 ∷ []) xs ∙ ap (λ (n : ℕ). x25From n xs) start ∙ starts xs
-  where
-    start : x25From 0x8EB4 (0 ∷ 0 ∷ 0 ∷ []) ≡ 0xFFFF
-    start = refl
+-- zeros turn some number into the start
+abbrev Before : ℕ → ℕ → Type 0
+Before check zeros = (xs : List ℕ) → x25From check (replicate zeros 0 ++ xs) ≡ x25 xs
+
+before : (check zeros : ℕ) → x25From check (replicate zeros 0) ≡ 0xFFFF → Before check zeros
+before check zeros start xs = from-append check (replicate zeros 0) xs ∙ ap (λ (n : ℕ). x25From n xs) start ∙ starts xs
+
+pub zero-before : Before 0x3078 1
+unfolding x25From mirrored bitsUp polynomial register next step reduced wireBits
+zero-before = before 0x3078 1 refl
+
+pub zeros-before : Before 0x8EB4 3
+unfolding x25From mirrored bitsUp polynomial register next step reduced wireBits
+zeros-before = before 0x8EB4 3 refl
+
+pub four-before : Before 0xEC2A 4
+unfolding x25From mirrored bitsUp polynomial register next step reduced wireBits
+four-before = before 0xEC2A 4 refl

@@ -41,11 +41,22 @@ fn next_eight(check: u16, word: u64) -> u16
 pub fn x25_five(first: u8, second: u8, third: u8, fourth: u8, fifth: u8) -> u16
     ensures { λ r. ⌜ r ≡ x25 (first ∷ second ∷ third ∷ fourth ∷ fifth ∷ []) ⌝ }
 {
-    let word = first as u64 * 16777216
-        + (second as u64 * 4294967296
-            + (third as u64 * 1099511627776
-                + (fourth as u64 * 281474976710656 + fifth as u64 * 72057594037927936)));
+    let word = field_words::word_of(0, 0, 0, first, second, third, fourth, fifth);
     next_eight(0x8EB4, word)
+}
+
+// The check of seven octets at once, a number's lowest: the step of eight over a zero and them.
+pub fn x25_seven(word: u64) -> u16
+    ensures { λ r. ⌜ r ≡ x25 (octetsUp 7 word) ⌝ }
+{
+    next_eight(0x3078, word << 8)
+}
+
+// The check of a number's four lowest octets and eight more: the step of eight over four zeros and the four, then over the eight.
+pub fn x25_twelve(first: u64, word: u64) -> u16
+    ensures { λ r. ⌜ r ≡ x25 (octetsUp 4 first ++ octetsUp 8 word) ⌝ }
+{
+    next_eight(next_eight(0xEC2A, first << 32), word)
 }
 
 // The check of octets and then of one more, the extra that is not sent.

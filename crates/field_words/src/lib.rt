@@ -2,7 +2,7 @@
 pub mod copies;
 
 ghost use mathlib.Core.Path.{_≡_};
-ghost use mathlib.Core.List.{[]};
+ghost use mathlib.Core.List.{[], _∷_};
 ghost use Prim.Native.Nat.{_+_, _<_, _≤_};
 ghost use lib.ListN.{length, getD, take, drop};
 ghost use lib.Seq.{sets};
@@ -42,6 +42,19 @@ pub fn little_64(octets: &[u8], at: usize) -> u64
     ensures { λ r. ⌜ octetsUp 8 r ≡ take 8 (drop at (now (octets .entry))) ⌝ }
 {
     sum(octets, at)
+}
+
+// Eight octets, the first least significant.
+pub fn word_of(a: u8, b: u8, c: u8, d: u8, e: u8, f: u8, g: u8, h: u8) -> u64
+    ensures { λ r. ⌜ octetsUp 8 r ≡ a ∷ b ∷ c ∷ d ∷ e ∷ f ∷ g ∷ h ∷ [] ⌝ }
+{
+    a as u64
+        + (b as u64 * 256
+            + (c as u64 * 65536
+                + (d as u64 * 16777216
+                    + (e as u64 * 4294967296
+                        + (f as u64 * 1099511627776
+                            + (g as u64 * 281474976710656 + h as u64 * 72057594037927936))))))
 }
 
 // The octets of a number turned round.

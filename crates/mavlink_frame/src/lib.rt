@@ -38,33 +38,37 @@ pub struct Header {
 }
 
 // ID, length and extra of each kind.
-const KINDS: [Kind; 5] = [
-    Kind {
-        id: 66,
-        length: 6,
-        extra: 148,
-    },
-    Kind {
-        id: 201,
-        length: 19,
-        extra: 126,
-    },
-    Kind {
-        id: 202,
-        length: 42,
-        extra: 7,
-    },
-    Kind {
-        id: 203,
-        length: 1,
-        extra: 85,
-    },
-    Kind {
-        id: 246,
-        length: 38,
-        extra: 184,
-    },
-];
+pub const DATA_STREAM: Kind = Kind {
+    id: 66,
+    length: 6,
+    extra: 148,
+};
+
+pub const STATIC: Kind = Kind {
+    id: 201,
+    length: 19,
+    extra: 126,
+};
+
+pub const DYNAMIC: Kind = Kind {
+    id: 202,
+    length: 42,
+    extra: 7,
+};
+
+pub const STATUS: Kind = Kind {
+    id: 203,
+    length: 1,
+    extra: 85,
+};
+
+pub const TRAFFIC: Kind = Kind {
+    id: 246,
+    length: 38,
+    extra: 184,
+};
+
+const KINDS: [Kind; 5] = [DATA_STREAM, STATIC, DYNAMIC, STATUS, TRAFFIC];
 
 // The kind that has a message ID.
 pub fn kind_of(id: u8) -> Lookup

@@ -4,11 +4,12 @@ use super::Kind;
 use super::Lookup;
 use output_writing::Written;
 ghost use mathlib.Core.Path.{_≡_};
-ghost use mathlib.Core.List.{_++_};
+ghost use mathlib.Core.List.{[], _∷_, _++_};
 ghost use Prim.Native.Nat.{_+_, _≤_};
 ghost use lib.ListN.{length, drop};
 ghost use lib.Seq.{sets};
 ghost use Rattle.output_writing.specs.Writing.{Writing};
+ghost use Rattle.field_words.specs.Words.{octetsUp};
 ghost use Rattle.crc_x25.specs.Check.{x25};
 ghost use Rattle.mavlink_frame.specs.Frame.{headerOctets, covered, mavlinkFrame};
 ghost use Rattle.mavlink_frame.specs.Reader.{payloadAt};
@@ -25,7 +26,8 @@ pub fn write_frame(id: u8, header: Header, payload: &[u8], output: &mut [u8]) ->
     }
 }
 
-fn write_kind(kind: Kind, header: Header, payload: &[u8], output: &mut [u8]) -> Written
+// The same for the kind that a caller knows.
+pub fn write_kind(kind: Kind, header: Header, payload: &[u8], output: &mut [u8]) -> Written
     ensures { λ r. ⌜ Writing (writeOf kind (now (payload .entry)) (now (output .entry))) (mavlinkFrame kind header (now (payload .entry))) (now (output .entry)) r (now (output .exit)) ⌝ }
 {
     let n = payload.len();
@@ -37,6 +39,51 @@ fn write_kind(kind: Kind, header: Header, payload: &[u8], output: &mut [u8]) -> 
     }
     fill(kind, header, payload, output);
     Written::Wrote(n + 8)
+}
+
+// The same for a kind whose payload has one octet.
+pub fn write_one(kind: Kind, header: Header, octet: u8, output: &mut [u8]) -> Written
+    requires { ⌜ kind .length ≡ 1 ⌝ }
+    ensures { λ r. ⌜ Writing (writeOf kind (octet ∷ []) (now (output .entry))) (mavlinkFrame kind header (octet ∷ [])) (now (output .entry)) r (now (output .exit)) ⌝ }
+{
+    if output.len() < 9 {
+        return Written::Refused(refusals::OUTPUT_LENGTH);
+    }
+    let check = check_of_one(kind, header, octet);
+    output[6] = octet;
+    put_around(kind, header, check, output);
+    Written::Wrote(9)
+}
+
+// For one whose payload has six: they are put as one word, whose last two octets the check goes over.
+pub fn write_six(kind: Kind, header: Header, payload: &[u8], output: &mut [u8]) -> Written
+    requires { ⌜ (kind .length ≡ 6) × (length (now payload) ≡ 6) ⌝ }
+    ensures { λ r. ⌜ Writing (writeOf kind (now (payload .entry)) (now (output .entry))) (mavlinkFrame kind header (now (payload .entry))) (now (output .entry)) r (now (output .exit)) ⌝ }
+{
+    if output.len() < 14 {
+        return Written::Refused(refusals::OUTPUT_LENGTH);
+    }
+    let check = check_of_six(kind, header, payload);
+    field_words::put_64(output, 6, six(payload));
+    put_around(kind, header, check, output);
+    Written::Wrote(14)
+}
+
+// Six octets and two zeros.
+fn six(payload: &[u8]) -> u64
+    requires { ⌜ length (now payload) ≡ 6 ⌝ }
+    ensures { λ r. ⌜ octetsUp 8 r ≡ now (payload .entry) ++ 0 ∷ 0 ∷ [] ⌝ }
+{
+    field_words::word_of(
+        payload[0],
+        payload[1],
+        payload[2],
+        payload[3],
+        payload[4],
+        payload[5],
+        0,
+        0,
+    )
 }
 
 // Writes the frame of a payload at the start of an output that has room for it.
@@ -70,6 +117,50 @@ fn check_of(kind: Kind, header: Header, payload: &[u8]) -> u16
         kind.id,
     );
     crc_x25::x25_after(head, payload, kind.extra)
+}
+
+// Header, one octet and extra: seven octets in one word.
+fn check_of_one(kind: Kind, header: Header, octet: u8) -> u16
+    ensures { λ r. ⌜ r ≡ x25 (covered kind header (octet ∷ [])) ⌝ }
+{
+    crc_x25::x25_seven(field_words::word_of(
+        kind.length,
+        header.sequence,
+        header.system,
+        header.component,
+        kind.id,
+        octet,
+        kind.extra,
+        0,
+    ))
+}
+
+// Header, six octets and extra: twelve octets in two words.
+fn check_of_six(kind: Kind, header: Header, payload: &[u8]) -> u16
+    requires { ⌜ length (now payload) ≡ 6 ⌝ }
+    ensures { λ r. ⌜ r ≡ x25 (covered kind header (now (payload .entry))) ⌝ }
+{
+    let first = field_words::word_of(
+        kind.length,
+        header.sequence,
+        header.system,
+        header.component,
+        0,
+        0,
+        0,
+        0,
+    );
+    let others = field_words::word_of(
+        kind.id,
+        payload[0],
+        payload[1],
+        payload[2],
+        payload[3],
+        payload[4],
+        payload[5],
+        kind.extra,
+    );
+    crc_x25::x25_twelve(first, others)
 }
 
 // Puts the header before the payload, and behind it a check.

@@ -1,10 +1,12 @@
 -- The parts that are put make the frame. Assumes nothing.
-use mathlib.Core.Path.{_≡_, sym, ap, ap₂, _∙_}
+use mathlib.Core.Path.{_≡_, refl, sym, ap, ap₂, _∙_}
 use mathlib.Core.List.{List, [], _∷_, _++_, append-assoc}
-use Prim.Native.Nat.{ℕ, _+_, _-_, _≤_}
+use Prim.Native.Nat.{ℕ, suc, _+_, _-_, _≤_}
 use native.Mathlib.Omega.{arith}
-use lib.ListN.{length, take, drop, length-append, length-drop, take-append-drop}
-use lib.Seq.{sets, sets-eq, paste, drop-paste, take-at, drop-at, take-length, length-take-le, drop-drop, drop-append-add}
+use native.Mathlib.Nat.{le-of-eq}
+use lib.ListN.{length, set, take, drop, length-append, length-drop, take-append-drop}
+use lib.Seq.{sets, sets-eq, drop-set-lt, paste, drop-paste, take-at, drop-at, take-length, length-take-le, take-all, drop-drop, drop-append-add}
+use Rattle.field_words.proofs.Digits.{elements, from}
 use Rattle.crc_x25.specs.Check.{x25}
 use Rattle.mavlink_frame.specs.declared.Kind.{Kind}
 use Rattle.mavlink_frame.specs.declared.Header.{Header}
@@ -79,3 +81,39 @@ module _ (payload output : List ℕ) (room : length payload + 8 ≤ length outpu
       ∙ ap (drop 2) (drop-paste output 6 payload (length payload) (omega arith) (omega arith))
       ∙ drop-drop 2 (6 + length payload) output
       ∙ ap (λ (m : ℕ). drop m output) (sym e)
+
+-- one of six octets, octet by octet
+pub six : (payload : List ℕ) → length payload ≡ 6 → elements payload 0 0 6 ≡ payload
+six payload e = sym (from payload 0 6 0 (omega arith)) ∙ take-all 6 payload (le-of-eq e)
+
+-- what is behind octets that are put stays
+behind-sets : (vs l : List ℕ) (i n : ℕ) → i + length vs ≤ n → drop n (sets l i vs) ≡ drop n l
+behind-sets [] l i n h = refl
+behind-sets (v ∷ vs) l i n h = behind-sets vs (set l i v) (suc i) n (omega arith) ∙ drop-set-lt n l i v (omega arith)
+
+-- one that is put from 6 on, and up to two octets more, over which the check goes
+module _ (payload more output : List ℕ) (few : length more ≤ 2) (room : length payload + 8 ≤ length output)
+    {mid : List ℕ} (put : mid ≡ sets output 6 (payload ++ more)) where
+  pub payload-placed : payloadAt (length payload) mid ≡ payload
+  payload-placed =
+      let behind = drop (6 + length (payload ++ more)) output in
+      let six : length (take 6 output) ≡ 6 = length-take-le 6 output (omega arith) in
+      ap (λ (xs : List ℕ). take (length payload) (drop 6 xs))
+      (put ∙ sets-eq (payload ++ more) output 6 (simp length-append (omega arith)) ∙ append-assoc (take 6 output) (payload ++ more) behind)
+      ∙ ap (take (length payload)) (drop-at (take 6 output) (payload ++ more ++ behind) 6 six ∙ append-assoc payload more behind)
+      ∙ take-at payload (more ++ behind) (length payload) refl
+
+  pub behind-placed : drop (length payload + 8) mid ≡ drop (length payload + 8) output
+  behind-placed =
+      ap (drop (length payload + 8)) put
+      ∙ behind-sets (payload ++ more) output 6 (length payload + 8) (simp length-append (omega arith))
+
+  -- with the right check around it, the frame
+  pub framed : (k : Kind) (h : Header) {check : ℕ} {after : List ℕ} → k .length ≡ length payload → check ≡ x25 (covered k h payload)
+      → after ≡ closed k h (payloadAt (k .length) mid) check ++ drop (k .length + 8) mid
+      → after ≡ mavlinkFrame k h payload ++ drop (length payload + 8) output
+  framed k h {check} n e around =
+      around
+      ∙ ap (λ (m : ℕ). closed k h (payloadAt m mid) check ++ drop (m + 8) mid) n
+      ∙ ap₂ (λ (p behind : List ℕ). closed k h p check ++ behind) payload-placed behind-placed
+      ∙ ap (λ (xs : List ℕ). xs ++ drop (length payload + 8) output) (frame-closed k h payload e)

@@ -1,6 +1,7 @@
 -- `c_mavlink::dynamic::write` meets its contract, by its two ways. Assumes nothing.
 use mathlib.Core.Path.{_∙_}
 use denote.Ref.{now}
+use Rattle.mavlink_frame.specs.Frame.{mavlinkKind}
 use Rattle.mavlink_messages.specs.declared.Message.the-variants.{Dynamic}
 use Rattle.c_lent.proofs.Writers.{fitting, not-fitting}
 use Rattle.c_lent.specs.Structs.{held}
@@ -19,6 +20,7 @@ returns c =
     (not-fitting (c .before .before .fits2 .ensures ∙ dynamic-held (now (s .args .message)) (s .pre .0)) (c .before .if1 .taken)) (c .field-refused .ensures)
 
 returns-2 : tie.Need-returns-2
+unfolding mavlinkKind
 returns-2 c =
     let s = c .before .before .before .before .before .before .before .before .before .before in
     written (Dynamic (held dynamicStruct (now (s .args .message)))) (held headerStruct (now (s .args .header))) (now (s .args .output))

@@ -6,7 +6,7 @@ use Rattle.c_mavlink.proofs.frames.write.Tie as tie
 
 returns : tie.Need-returns
 returns c =
-    let w = as-numbers (c .in-numbers .ensures) (c .before .before .before .write-frame .ensures) in
+    let w = as-numbers (c .in-numbers .ensures) (c .before .before .before .write-kind .ensures) in
     rw (c .before .before .before .before .before .sender .ensures) at w
 
 pub write-spec : {M : Type 1} → statement M

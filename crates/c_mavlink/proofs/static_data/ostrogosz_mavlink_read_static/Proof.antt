@@ -18,6 +18,10 @@ use borrow.Author.Needs.{needs}
 use Rattle.c_mavlink.proofs.static_data.ostrogosz_mavlink_read_static.Statement.{statement}
 use Rattle.c_mavlink.proofs.static_data.ostrogosz_mavlink_read_static.Tie as tie
 
+refusal-of-requires : tie.Need-refusal-of-requires
+unfolding mavlinkKind
+refusal-of-requires c κs = refl
+
 taken : (c : tie.Else1) → Taken (kind 201 19 126) (now (c .before .before .before .args .input))
 unfolding mavlinkKind
 taken c = c .before .refusal-of .ensures .taken (c .if1 .left)
@@ -46,6 +50,6 @@ returns-3 c =
 pub ostrogosz-mavlink-read-static-spec : {M : Type 1} → statement M
 ostrogosz-mavlink-read-static-spec =
     tie.close
-    (tie.spec (λ c κs. search needs) returns (λ c. search needs) (λ c. search needs) (λ c. omega (arith, room c)) (λ c κs. search needs) (λ c. search needs) (λ c. search needs) (λ c. omega (arith, room (c .before .before)))
+    (tie.spec refusal-of-requires returns (λ c. search needs) (λ c. search needs) (λ c. omega (arith, room c)) (λ c κs. search needs) (λ c. search needs) (λ c. search needs) (λ c. omega (arith, room (c .before .before)))
     (λ c κs. omega (arith, payload-length 19 (now (c .before .before .before .before .before .before .args .input)) (room (c .before .before .before)))) returns-2
     (λ c κs. (omega (arith, room (c .before .before .before .before .before .before)), search needs)) (λ c κs. omega (arith, room (c .before .before .before .before .before .before .before .before))) returns-3)
