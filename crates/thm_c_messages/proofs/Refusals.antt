@@ -28,7 +28,8 @@ use Rattle.ucp_messages.specs.Initialization117.{initializationFormat}
 use Rattle.ucp_messages.specs.declared.Kind.{Kind}
 use Rattle.ucp_messages.specs.declared.Kind.the-variants.{Heartbeat, Uplink, Ownship, GeometricAltitude, Traffic, Request, Control, Initialization, Unknown}
 use Rattle.ucp_messages.specs.Kinds.{kindIn}
-use Rattle.ucp_messages.specs.Refusals.{UnknownId, kindLength, fixedOctets, fieldsInRange}
+use Rattle.ucp_messages.specs.Kinds.{isKnown, kindLength, fixedOctets}
+use Rattle.ucp_messages.specs.Refusals.{UnknownId, fieldsInRange}
 use Rattle.c_lent.specs.Structs.{Struct}
 use Rattle.c_lent.specs.Reads.{hasId, refusalAs, FillsStruct}
 use Rattle.c_ucp_heartbeat.specs.Struct.{heartbeatStruct}
@@ -38,7 +39,7 @@ use Rattle.c_ucp_request.specs.Struct.{requestStruct}
 use Rattle.c_ucp_control.specs.Struct.{controlStruct}
 use Rattle.c_ucp_initialization.specs.Struct.{initializationStruct}
 use Rattle.c_ucp_ids.specs.declared.OstrogoszId.{OstrogoszId}
-use Rattle.c_ucp_ids.specs.Ids.{isKnown, idDue}
+use Rattle.c_ucp_ids.specs.Ids.{idDue}
 use Rattle.thm_c_messages.specs.Refusals.{OfAnotherId, OfItsId, ReaderRefusals, WriterRefusals, SendRefusals, StructRefuses, UplinkRefuses, LentRefusals, IdRefuses}
 use Rattle.thm_c_messages.proofs.Tests.{Is, is, unknown-so, no, Tested, tested-format, tested-uplink, exact}
 
