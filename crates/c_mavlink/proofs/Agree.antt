@@ -13,7 +13,7 @@ use Rattle.c_lent.proofs.Structs.{held-stored}
 use Rattle.c_mavlink.specs.Structs.{headerStruct, dataStreamStruct, staticStruct, dynamicStruct, statusStruct, trafficStruct}
 
 -- ---- header
-header-right : RightStruct headerStruct
+pub header-right : RightStruct headerStruct
 header-right = record { sound = omega arith; back = λ a. refl }
 
 header-offsets : structOffsets headerStruct ≡ 0 ∷ 1 ∷ 2 ∷ []

@@ -14,13 +14,12 @@ use Rattle.ucp_receiver.specs.declared.Phase.{Phase}
 use Rattle.ucp_receiver.specs.declared.Phase.the-variants.{Hunting, Reading, Escape, BadEscape, TooLong}
 use Rattle.ucp_receiver.specs.declared.Counts.{Counts}
 use Rattle.ucp_receiver.specs.declared.Answer.{Answer}
-use Rattle.ucp_receiver.specs.declared.Answer.the-variants.{Nothing, Delivered, Refused}
 use Rattle.ucp_receiver.specs.declared.Received.{Received}
 use Rattle.ucp_receiver.specs.declared.Taken.{Taken}
-use Rattle.ucp_receiver.specs.Answers.{ReceiverAnswer, nothing, refusal, body, receiverAnswer, answerFor}
+use Rattle.ucp_receiver.specs.Answers.{receiverAnswer, answerFor}
 use Rattle.ucp_receiver.specs.Octet.{State, storing, advancedIn, closedIn, stateAfter, verdictDue, countsAfter, countedOctet, Receives}
 use Rattle.ucp_receiver.specs.Slice.{SliceRun, sliceRun, endAt, Takes}
-use Rattle.c_ucp_receiver.specs.Numbers.{restIn, countsIn, recordIn, answerValue, ReceivesFitting, TakesFitting}
+use Rattle.c_ucp_receiver.specs.Numbers.{restIn, countsIn, recordIn, valueTold, answerValue, ReceivesFitting, TakesFitting}
 
 by-test : {A : Type 0} (P : A → Type 0) (b : Bool) {x y : A} → (b ≡ true → P x) → (b ≡ false → P y) → P (cond b x y)
 by-test P true p q = p refl
@@ -32,13 +31,8 @@ either P b p q = by-test P b (λ e. p) (λ e. q)
 abbrev pub SmallState : State → Type 0
 SmallState s = s .rest .stored < 2 ^ 32
 
-abbrev size : ReceiverAnswer → ℕ
-size nothing = 0
-size (refusal number) = number
-size (body octets) = octets
-
 abbrev pub SmallVerdict : Verdict → Type 0
-SmallVerdict v = size (answerFor v) < 2 ^ 32
+SmallVerdict v = valueTold (answerFor v) < 2 ^ 32
 
 storing-small : (x : ℕ) (s : State) → SmallState s → SmallState (storing x s)
 unfolding storing
@@ -99,13 +93,8 @@ run-small s c (x ∷ xs) room h =
 
 -- ---- the answer's number
 
-value-size : (answer : Answer) → answerValue answer ≡ size (receiverAnswer answer)
-value-size Nothing = refl
-value-size (Delivered octets) = refl
-value-size (Refused number) = refl
-
 pub value-small : (answer : Answer) (due : Verdict) → receiverAnswer answer ≡ answerFor due → SmallVerdict due → answerValue answer < 2 ^ 32
-value-small answer due e h = subst (λ (n : ℕ). n < 2 ^ 32) (sym (value-size answer ∙ ap size e)) h
+value-small answer due e h = subst (λ (n : ℕ). n < 2 ^ 32) (sym (ap valueTold e)) h
 
 -- ---- what a call gives
 

@@ -14,6 +14,7 @@ use Rattle.ucp_receiver.specs.declared.Answer.{Answer}
 use Rattle.ucp_receiver.specs.declared.Answer.the-variants.{Nothing, Delivered, Refused}
 use Rattle.ucp_receiver.specs.declared.Received.{Received}
 use Rattle.ucp_receiver.specs.declared.Taken.{Taken}
+use Rattle.ucp_receiver.specs.Answers.{ReceiverAnswer, nothing, refusal, body, receiverAnswer}
 use Rattle.ucp_receiver.specs.Octet.{freshRecord, noOctets, Receives}
 use Rattle.ucp_receiver.specs.Slice.{Takes}
 
@@ -57,15 +58,21 @@ recordNumbers receiver =
 abbrev pub answerIn : ℕ → ℕ → Answer
 answerIn kind value = cond (eqb kind 1) (Delivered value) (cond (eqb kind 2) (Refused value) Nothing)
 
+abbrev pub kindTold : ReceiverAnswer → ℕ
+kindTold nothing = 0
+kindTold (body octets) = 1
+kindTold (refusal number) = 2
+
+abbrev pub valueTold : ReceiverAnswer → ℕ
+valueTold nothing = 0
+valueTold (body octets) = octets
+valueTold (refusal number) = number
+
 abbrev pub answerKind : Answer → ℕ
-answerKind Nothing = 0
-answerKind (Delivered octets) = 1
-answerKind (Refused number) = 2
+answerKind a = kindTold (receiverAnswer a)
 
 abbrev pub answerValue : Answer → ℕ
-answerValue Nothing = 0
-answerValue (Delivered octets) = octets
-answerValue (Refused number) = number
+answerValue a = valueTold (receiverAnswer a)
 
 -- one octet on the record that the line stands for; what it gives fits the numbers again
 pub record ReceivesFitting (store line : List ℕ) (octet : ℕ) (output : List ℕ) (given : Received) (storeAfter outputThen : List ℕ) : Type 0 where

@@ -86,6 +86,10 @@ three-in-one : differBelow zero₁ (0xE0 ∷ []) 8 ≡ 3
 unfolding differBelow xor
 three-in-one = refl
 
+four-in-one : differBelow zero₁ (0xF0 ∷ []) 8 ≡ 4
+unfolding differBelow xor
+four-in-one = refl
+
 sixteen-bits : differBelow zero₂ (0xFF ∷ 0xFF ∷ []) 16 ≡ 16
 unfolding differBelow xor
 sixteen-bits = refl
@@ -110,4 +114,9 @@ premises-met =
       endsLast = record { atFirst = refl; atLast = refl };
       sixteenAcross = within zero₃ (0x10 ∷ 0x00 ∷ 0x20 ∷ []) refl 3 5 outermost refl refl (omega arith);
       endsAcross = record { atFirst = refl; atLast = refl };
+      notSame = λ t. t .differ refl;
+      notLonger = λ t. let z : _≡_ {A = ℕ} 1 2 = t .lengths in omega arith;
+      notOctets = λ o. omega (arith, o 0);
+      notFour = λ h. omega (arith, h, four-in-one);
+      notSeventeen = λ h. omega (arith, h 3 19 refl refl);
     }

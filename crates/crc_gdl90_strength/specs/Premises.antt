@@ -1,9 +1,11 @@
--- Bodies that meet each premise of the strength, at its edge: what is said of such bodies is said of some. Assumes nothing.
+-- Bodies that meet each premise of the strength, at its edge, and such as just don't: what is said of such bodies is said of some.
+-- Assumes nothing.
 use mathlib.Core.Path.{_≡_}
 use mathlib.Core.Bool.{true}
 use mathlib.Core.List.{List, [], _∷_, _++_}
 use Prim.Native.Nat.{ℕ}
 use lib.ListN.{length, replicate}
+use Rattle.crc_polynomial.specs.Polynomial.{Octets}
 use Rattle.crc_gdl90_strength.specs.BitNumbers.{differAt, differBelow}
 use Rattle.crc_gdl90_strength.specs.Strength.{TwoBodies, AtMostThreeBits, Within16Bits}
 
@@ -39,3 +41,9 @@ pub record PremisesMet : Type 0 where
   pub endsLast : DifferAtEnds longestZero (longestWith 0x00 0x00 0x80 0x01) 3472 3487
   pub sixteenAcross : Within16Bits (0x00 ∷ 0x00 ∷ 0x00 ∷ []) (0x10 ∷ 0x00 ∷ 0x20 ∷ [])
   pub endsAcross : DifferAtEnds (0x00 ∷ 0x00 ∷ 0x00 ∷ []) (0x10 ∷ 0x00 ∷ 0x20 ∷ []) 3 18
+  -- and just past each premise: one body twice, an octet more, a number that is no octet, four bits, 17 places
+  pub notSame : TwoBodies (0x00 ∷ []) (0x00 ∷ []) → ⊥
+  pub notLonger : TwoBodies (0x00 ∷ []) (0x00 ∷ 0x00 ∷ []) → ⊥
+  pub notOctets : Octets (0x100 ∷ []) → ⊥
+  pub notFour : AtMostThreeBits (0x00 ∷ []) (0xF0 ∷ []) → ⊥
+  pub notSeventeen : Within16Bits (0x00 ∷ 0x00 ∷ 0x00 ∷ []) (0x10 ∷ 0x00 ∷ 0x10 ∷ []) → ⊥

@@ -5,7 +5,9 @@ use mathlib.Core.List.{List}
 use Prim.Native.Nat.{ℕ, _≤_, _<_}
 use native.Mathlib.Omega.{arith}
 use mathlib.Core.Logic.{_↔_, _⊎_, inl, inr}
+use borrow.Author.Tests.{eqb-true, ne-eqb}
 use lib.Bits.{bitXor}
+use lib.Dec.{eqb}
 use lib.ListN.{length}
 use Rattle.crc_polynomial.specs.Polynomial.{bitsOfOctets, polynomial, quotient, timesGenerator, degree16}
 use Rattle.crc_polynomial.proofs.Laws.{divides}
@@ -14,20 +16,20 @@ use Rattle.crc_x25.proofs.CrcCode.{by-code}
 use Rattle.ucp_frame.specs.Frame.{frame}
 use Rattle.ucp_frame.specs.Stretch.{Verdict, silent, refused, delivered}
 use Rattle.ucp_frame.proofs.Frame.{frame-length-longest}
-use Rattle.output_writing.specs.declared.OstrogoszWritten.{OstrogoszWritten}
 use Rattle.output_writing.specs.Writing as writer
-use Rattle.output_writing.specs.Writing.{WriterAnswer, outputAfter, WritingNumbers}
+use Rattle.output_writing.specs.Writing.{outputAfter}
 use Rattle.ucp_writer.specs.Room.{frameDue}
+use Rattle.ucp_writer.specs.Refusals.{FrameWriterRefuses}
 use Rattle.ucp_writer.specs.Sends.{sendDue}
 use Rattle.refusals.specs.Numbers as because
 use Rattle.ucp_receiver.specs.declared.Answer.the-variants.{Nothing}
-use Rattle.c_ucp_receiver.specs.Numbers.{restIn, answerIn, answerValue}
+use Rattle.c_ucp_receiver.specs.Numbers.{answerIn, answerValue, OwnNumbers}
 use Rattle.thm_mavlink_messages.proofs.Tabled.{tabled-mavlink}
 use Rattle.thm_mavlink_messages.proofs.RoundTrips as mavlink-trips
 use Rattle.thm_c_mavlink.proofs.ReadBack.{lent-mavlink-reads-back}
 use Rattle.thm_c_mavlink.proofs.WriteBack.{lent-mavlink-writes-back}
-use Rattle.thm_c_messages.proofs.EachKind.{lent-round-trips, lent-sent-is-delivered}
-use Rattle.thm_c_messages.proofs.Refusals.{lent-refusals, id-refuses}
+use Rattle.thm_c_messages.proofs.EachKind.{lent-round-trips, lent-refusals, lent-sent-is-delivered, linked-sent-is-delivered}
+use Rattle.thm_c_messages.proofs.Refusals.{id-refuses}
 use Rattle.thm_c_messages.proofs.Tests.{no}
 use Rattle.thm_ucp_messages.proofs.Delivery.{sent-is-delivered, delivered-writes-back}
 use Rattle.thm_ucp_messages.proofs.ReadBack as message-read
@@ -40,26 +42,27 @@ use Rattle.demands.proofs.ReaderRefusals as messages
 use Rattle.demands.proofs.MavlinkRefusals as mavlink
 use Rattle.demands.proofs.LinkedMavlink.{mavlink-reader-refuses, mavlink-writer-refuses, mavlink-id-refuses}
 use Rattle.ucp_writer.proofs.room.Due.{refused-so, refused-7, refused-8, due-accepted}
-use Rattle.ucp_receiver.specs.Answers as receiver-answers
-use Rattle.ucp_receiver.specs.Answers.{nothing, refusal, answerFor}
-use Rattle.ucp_receiver.specs.Octet.{verdictDue}
+use Rattle.ucp_receiver.specs.Answers.{ReceiverAnswer, nothing, refusal, receiverAnswer, answerFor, outputAtFlag}
 use Rattle.crc_gdl90_strength.proofs.Caught.{strength}
 use Rattle.crc_gdl90_strength.proofs.Premises.{premises-met}
-use Rattle.thm_ucp_examples.proofs.LinePremises.{ends-in-met, slice-line-met, writer-call-met}
+use Rattle.thm_ucp_examples.proofs.LinePremises.{ends-in-met, stretch-met, slice-line-met, writer-call-met}
 use Rattle.thm_kind_examples.proofs.Ucp as ucp-kinds
 use Rattle.thm_kind_examples.proofs.Mavlink as mavlink-kinds
 use Rattle.thm_c_examples.proofs.Structs.{struct-examples}
+use Rattle.thm_c_examples.proofs.Premises.{struct-premises}
 use Rattle.thm_ucp_writer.proofs.Calls.{writer-lists}
 use Rattle.thm_ucp_receiver.specs.Line.{Line}
 use Rattle.thm_ucp_receiver.proofs.Promises.{answers, stretch-is-answered, counts, every-octet-counted, store-clean, store-by-history, hunting-stores-nothing, flag-clears, later-only}
 use Rattle.thm_ucp_receiver.proofs.Lines.{every-line}
 use Rattle.thm_ucp_receiver.proofs.Slice.{line-of-slices, slice-flag-clears, slice-is-call}
 use Rattle.thm_ucp_receiver.proofs.Frames.{put-out-is-frame, frame-is-put-out, wrong-check-refused}
-use Rattle.thm_c_ucp.proofs.Receiver.{linked-lines, linked-answers, linked-counts, linked-store, linked-flag-clears, linked-later-only, linked-put-out-is-frame, linked-frame-is-put-out, linked-receiver-lists}
+use Rattle.thm_c_ucp.proofs.Receiver.{linked-lines, linked-answers, linked-stretch-is-answered, linked-counts, linked-store, linked-flag-clears, linked-later-only, linked-put-out-is-frame, linked-frame-is-put-out, linked-receiver-lists}
 use Rattle.thm_c_ucp.proofs.Slices.{linked-slice-lines, linked-slice-takes-all, linked-slice-flag-clears, linked-slice-is-call}
-use Rattle.thm_c_ucp.proofs.Writer.{linked-writer, linked-writer-lists}
-use Rattle.demands.specs.Demands.{TableNumbers, FrameWriterRefuses, Demand1, Demand2, Demand3, ReceiverLists, PremisesTied}
-use Rattle.demands.proofs.Refusals.{Tabled, quiet, numbered, whole, tabled}
+use Rattle.thm_c_ucp.proofs.Writer.{linked-writer, linked-writer-refuses, linked-writer-lists}
+use Rattle.thm_c_ucp.proofs.Lines.{every-linked-line}
+use Rattle.thm_c_ucp.proofs.Delivery.{linked-delivered-writes-back}
+use Rattle.demands.specs.Demands.{TableNumbers, RefusalOrSilence, LinkedRefusalOrSilence, Demand1, Demand2, Demand3, ReceiverLists, PremisesTied}
+use Rattle.demands.proofs.Refusals.{Tabled, quiet, numbered, whole, tabled, tabled-slice}
 
 -- an answer that is the one due is a refusal when that is
 along : {A : Type 0} {answer due refusal : A} {Condition : Type 0} → answer ≡ due → (due ≡ refusal) ↔ Condition
@@ -72,20 +75,47 @@ check-is-remainder : (body : List ℕ)
 unfolding frameCheck
 check-is-remainder body = let d = divides (bitsOfOctets body) in (d .dividend, d .degree)
 
--- ---- one call of the receiver
+-- ---- one call of the receiver, by the octet or by the slice: a verdict that is tabled, the answer that is due for it, and the output
 
 answer-refusal : (v : Verdict) (n : ℕ) (output : List ℕ) → Tabled v → answerFor v ≡ refusal n
-    → (1 ≤ n) × (n ≤ 6) × (receiver-answers.outputAtFlag v output ≡ output)
+    → (1 ≤ n) × (n ≤ 6) × (outputAtFlag v output ≡ output)
 answer-refusal _ n output quiet e = let z : _≡_ {A = ℕ} 0 1 = cc in absurd (omega arith)
 answer-refusal _ n output (numbered m least most) e =
     let same : m ≡ n = cc in
     (omega arith, omega arith, refl)
 answer-refusal _ n output (whole octets) e = let z : _≡_ {A = ℕ} 0 1 = cc in absurd (omega arith)
 
-answer-nothing : (v : Verdict) (output : List ℕ) → answerFor v ≡ nothing → receiver-answers.outputAtFlag v output ≡ output
+answer-nothing : (v : Verdict) (output : List ℕ) → answerFor v ≡ nothing → outputAtFlag v output ≡ output
 answer-nothing silent output e = refl
 answer-nothing (refused n) output e = let z : _≡_ {A = ℕ} 0 1 = cc in absurd (omega arith)
 answer-nothing (delivered octets) output e = let z : _≡_ {A = ℕ} 0 1 = cc in absurd (omega arith)
+
+no-body : (v : Verdict) → Tabled v → {given : ReceiverAnswer} {output outputThen : List ℕ} → given ≡ answerFor v
+    → outputThen ≡ outputAtFlag v output → RefusalOrSilence given output outputThen
+no-body v t {output = output} d puts =
+    record {
+      refuses = λ number e.
+          let p = answer-refusal v number output t (sym d ∙ e) in
+          (p .0, p .1, puts ∙ p .2);
+      silent = λ e. puts ∙ answer-nothing v output (sym d ∙ e);
+    }
+
+-- in numbers, which are those of what they stand for
+linked-no-body : {lineAfter : List ℕ} {kind value : ℕ} {output outputThen : List ℕ} → OwnNumbers lineAfter kind value
+    → RefusalOrSilence (receiverAnswer (answerIn kind value)) output outputThen → LinkedRefusalOrSilence kind value output outputThen
+linked-no-body {kind = kind} {value = value} own so =
+    record {
+      refuses = λ e. so .refuses value (ap (λ (n : ℕ). receiverAnswer (answerIn n value)) e);
+      silent = λ e.
+          let told : answerIn kind value ≡ Nothing = ap (λ (n : ℕ). answerIn n value) e in
+          (own .value ∙ ap answerValue told, so .silent (ap receiverAnswer told));
+      no-other = λ not-2 not-0. other (eqb kind 1) refl not-2 not-0;
+    }
+  where
+    other : (one : Bool) → eqb kind 1 ≡ one → (kind ≡ 2 → ⊥) → (kind ≡ 0 → ⊥) → kind ≡ 1
+    other true e not-2 not-0 = eqb-true kind 1 e
+    other false e not-2 not-0 =
+        absurd (not-0 (own .kind ∙ rw (e, ne-eqb kind 2 not-2)))
 
 -- ---- one call of the sender
 
@@ -94,11 +124,11 @@ frame-refused body output number = ((λ e. go e (refused-so body output number (
   where
     go : frameDue body output ≡ writer.refused number → (number ≡ 7) ⊎ (number ≡ 8) → FrameWriterRefuses body output number
     go e (inl n) = inl (n, refused-7 body output .0 (e ∙ ap writer.refused n))
-    go e (inr n) = let c = refused-8 body output .0 (e ∙ ap writer.refused n) in inr (n, c .0, c .1, c .2)
+    go e (inr n) = inr (n, refused-8 body output .0 (e ∙ ap writer.refused n))
 
     back : FrameWriterRefuses body output number → frameDue body output ≡ writer.refused number
     back (inl h) = refused-7 body output .1 (h .1) ∙ ap writer.refused (sym (h .0))
-    back (inr h) = refused-8 body output .1 (h .1, h .2, h .3) ∙ ap writer.refused (sym (h .0))
+    back (inr h) = refused-8 body output .1 (h .1) ∙ ap writer.refused (sym (h .0))
 
 abbrev SendRefused : Bool → List ℕ → List ℕ → ℕ → Type 0
 SendRefused fit body buffer number =
@@ -118,15 +148,6 @@ send-refused false body buffer number = ((λ e. inl (cc, refl)), back)
     back (inl h) = ap writer.refused (sym (h .0))
     back (inr h) = no (h .0)
 
--- ---- one call of the linked writer
-
-written-refused : (due : WriterAnswer) (body output after : List ℕ) (given : OstrogoszWritten) → due ≡ frameDue body output
-    → WritingNumbers due (frame body) output given after → (given .refusal ≡ 0 → ⊥)
-    → ((given .refusal ≡ because.bodyLength) ⊎ (given .refusal ≡ because.outputLength)) × (given .length ≡ 0) × (after ≡ output)
-written-refused (writer.refused number) body output after given e w some =
-    rw (w .answers) (refused-so body output number e, refl, w .leaves)
-written-refused (writer.wrote octets) body output after given e w some = absurd (some (ap (λ (g : OstrogoszWritten). g .refusal) (w .answers)))
-
 table-numbers : TableNumbers
 table-numbers =
     record {
@@ -144,6 +165,7 @@ demand1 =
       writerRefuses8 = λ body output after r w. rw (w .answers) (refused-8 body output);
       writerRefuses = λ body output after r number w e.
           (refused-so body output number (sym e ∙ w .answers), w .leaves ∙ ap (outputAfter (frame body) output) e);
+      linkedWriterRefuses = linked-writer-refuses;
       refusalWritesNothing = λ due octets output after r number w e. w .leaves ∙ ap (outputAfter octets output) e;
       messageReaderRefuses = λ body r number d. along d (tabled-message (kindIn body) body number);
       messageReaderRefuses10 = λ body r d. along d (messages.exactly-10 body);
@@ -154,6 +176,8 @@ demand1 =
           along (w .answers) (message-refused (messageFits m payload) (messageBody m payload) output number);
       messageSendRefuses = λ m payload buffer after r number w.
           along (w .answers) (send-refused (messageFits m payload) (messageBody m payload) buffer number);
+      linkedMessagesRefuse = lent-refusals;
+      linkedIdRefuses = id-refuses;
       mavlinkReaderRefuses = λ input r number d e. tabled-mavlink input number (sym d ∙ e);
       mavlinkReaderRefuses20 = λ input r d. along d (mavlink.exactly-20 input);
       mavlinkReaderRefuses21 = λ input r d. along d (mavlink.exactly-21 input);
@@ -162,42 +186,30 @@ demand1 =
       mavlinkReaderRefuses24 = λ input r d. along d (mavlink.exactly-24 input);
       mavlinkReaderRefuses25 = λ input r d. along d (mavlink.exactly-25 input);
       mavlinkWriterRefuses = λ m h output after r number w. along (w .answers) (mavlink-refused m output number);
-      receiverRefuses = λ receiver store octet output given storeAfter outputThen number m e.
-          let p = answer-refusal _ number output (tabled _ octet (length output)) (sym (m .answers) ∙ e) in
-          (p .0, p .1, m .puts ∙ p .2);
-      receiverIsSilent = λ receiver store octet output given storeAfter outputThen m e.
-          m .puts ∙ answer-nothing (verdictDue (record { rest = receiver .rest; store = store }) octet (length output)) output (sym (m .answers) ∙ e);
-      flagClears = flag-clears;
-      sliceFlagClears = slice-flag-clears;
-      storeByHistory = store-by-history;
-      huntingStoresNothing = hunting-stores-nothing;
-      storeClean = store-clean;
-      laterOnly = later-only;
-      linkedReceiverIsLine = linked-lines;
-      linkedSlicesAreLine = linked-slice-lines;
-      linkedWriterIsWriter = linked-writer;
-      linkedReceiverRefuses = λ store line octet output kind value storeAfter lineAfter outputThen m e.
-          let told : receiver-answers.receiverAnswer (answerIn kind value) ≡ refusal value =
-          ap (λ (n : ℕ). receiver-answers.receiverAnswer (answerIn n value)) e in
-          let p = answer-refusal _ value output (tabled _ octet (length output)) (sym (m .received .answers) ∙ told) in
-          (p .0, p .1, m .received .puts ∙ p .2);
-      linkedReceiverIsSilent = λ store line octet output kind value storeAfter lineAfter outputThen m e.
-          let told : answerIn kind value ≡ Nothing = ap (λ (n : ℕ). answerIn n value) e in (
-            m .written .value ∙ ap answerValue told,
-            m .received .puts
-                ∙ answer-nothing (verdictDue (record { rest = restIn line; store = store }) octet (length output)) output
-                (sym (m .received .answers) ∙ ap receiver-answers.receiverAnswer told),
-          );
-      linkedWriterRefuses = λ body output after given w some. written-refused (frameDue body output) body output after given refl w some;
-      linkedMessagesRefuse = lent-refusals;
-      linkedIdRefuses = id-refuses;
       linkedMavlinkReadersRefuse = mavlink-reader-refuses;
       linkedMavlinkWritersRefuse = mavlink-writer-refuses;
       linkedMavlinkIdRefuses = mavlink-id-refuses;
+      receiverRefuses = λ receiver store octet output given storeAfter outputThen m.
+          no-body _ (tabled _ octet (length output)) (m .answers) (m .puts);
+      sliceRefuses = λ receiver store line output given storeAfter outputThen m.
+          no-body _ (tabled-slice _ _ line (length output)) (m .answers) (m .puts);
+      linkedReceiverRefuses = λ store line octet output kind value storeAfter lineAfter outputThen m.
+          linked-no-body (m .written) (no-body _ (tabled _ octet (length output)) (m .received .answers) (m .received .puts));
+      linkedSliceRefuses = λ store line octets output kind value taken storeAfter lineAfter outputThen m.
+          linked-no-body (m .written) (no-body _ (tabled-slice _ _ octets (length output)) (m .took .answers) (m .took .puts));
+      flagClears = flag-clears;
+      sliceFlagClears = slice-flag-clears;
       linkedFlagClears = linked-flag-clears;
       linkedSliceFlagClears = linked-slice-flag-clears;
+      storeByHistory = store-by-history;
+      huntingStoresNothing = hunting-stores-nothing;
+      storeClean = store-clean;
       linkedStoreByHistory = linked-store;
+      laterOnly = later-only;
       linkedLaterOnly = linked-later-only;
+      linkedReceiverIsLine = linked-lines;
+      linkedSlicesAreLine = linked-slice-lines;
+      linkedWriterIsWriter = linked-writer;
     }
 
 pub demand2 : Demand2
@@ -210,31 +222,34 @@ demand2 =
           (e, w .leaves ∙ ap (outputAfter (frame body) output) e, frame-length-longest body most);
       answersByHistory = answers;
       stretchIsAnswered = stretch-is-answered;
+      linkedAnswersByHistory = linked-answers;
+      linkedStretchIsAnswered = linked-stretch-is-answered;
+      slicesAreCalls = line-of-slices;
+      sliceEndsAsCall = slice-is-call;
+      linkedSliceEndsAsCall = linked-slice-is-call;
+      linkedSliceTakesAll = linked-slice-takes-all;
       deliveredIsFrame = put-out-is-frame;
       deliveredWritesBack = delivered-writes-back;
       frameIsDelivered = frame-is-put-out;
+      linkedDeliveredIsFrame = linked-put-out-is-frame;
+      linkedDeliveredWritesBack = linked-delivered-writes-back;
+      linkedFrameIsDelivered = linked-frame-is-put-out;
       countsByHistory = counts;
       everyOctetCounted = every-octet-counted;
-      slicesAreCalls = line-of-slices;
-      sliceEndsAsCall = slice-is-call;
-      linkedAnswersByHistory = linked-answers;
-      linkedDeliveredIsFrame = linked-put-out-is-frame;
-      linkedFrameIsDelivered = linked-frame-is-put-out;
       linkedCountsByHistory = linked-counts;
-      linkedSliceTakesAll = linked-slice-takes-all;
-      linkedSliceEndsAsCall = linked-slice-is-call;
       messageReadsBack = message-read.written-reads-back;
       messageWritesBack = message-write.accepted-writes-back;
       uplinkReadsBack = message-read.uplink-reads-back;
       messageReadIsTyped = read-is-typed;
-      lentMessagesReadAndWriteBack = lent-round-trips;
-      lentMessageSentIsDelivered = lent-sent-is-delivered;
-      sentIsDelivered = sent-is-delivered;
       mavlinkReadsBack = mavlink-trips.written-reads-back;
       mavlinkWritesBack = mavlink-trips.accepted-writes-back;
+      mavlinkReadIsTyped = mavlink-trips.read-is-typed;
+      lentMessagesReadAndWriteBack = lent-round-trips;
       lentMavlinkReadsBack = lent-mavlink-reads-back;
       lentMavlinkWritesBack = lent-mavlink-writes-back;
-      mavlinkReadIsTyped = mavlink-trips.read-is-typed;
+      sentIsDelivered = sent-is-delivered;
+      lentMessageSentIsDelivered = lent-sent-is-delivered;
+      linkedMessageSentIsDelivered = linked-sent-is-delivered;
     }
 
 receiver-lists : ReceiverLists
@@ -259,10 +274,13 @@ premises-tied =
     record {
       bodies = premises-met;
       lines = every-line;
+      linkedLines = every-linked-line;
       endsIn = ends-in-met;
+      stretches = stretch-met;
       sliceLine = slice-line-met;
       writerCalls = writer-call-met;
       ucpKinds = ucp-kinds.examples;
       mavlinkKinds = mavlink-kinds.examples;
       structs = struct-examples;
+      structPremises = struct-premises;
     }

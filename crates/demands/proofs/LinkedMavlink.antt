@@ -150,6 +150,7 @@ module _ (input : List ℕ) where
 
 pub mavlink-id-refuses : MavlinkIdRefuses
 mavlink-id-refuses input given e =
+    let own = numbers (refusalBeforeCheck (found input)) e in
     let r : given .refusal ≡ refusalBeforeCheck (found input) = ap (λ (o : OstrogoszMavlinkId). o .refusal) e ∙ numbered _ input in
     let b = before-check input (found input) refl in
     rw r (
@@ -158,7 +159,21 @@ mavlink-id-refuses input given e =
       chained (b 22 (omega arith) (omega arith)) (exactly-22 input),
       chained (b 23 (omega arith) (omega arith)) (exactly-23 input),
       to-23 input (found input) refl,
+      λ none. own .0 (r ∙ none),
+      λ some. own .1 (λ none. some (sym r ∙ none)),
     )
   where
+    numbers : (n : ℕ) → given ≡ idNumbers n input
+        → (given .refusal ≡ 0 → (given .id ≡ getD input 5 0) × (given .used ≡ getD input 1 0 + 8))
+        × ((given .refusal ≡ 0 → ⊥) → (given .id ≡ 0) × (given .used ≡ 0))
+    numbers zero d = (
+      λ none. (ap (λ (o : OstrogoszMavlinkId). o .id) d, ap (λ (o : OstrogoszMavlinkId). o .used) d),
+      λ some. absurd (some (ap (λ (o : OstrogoszMavlinkId). o .refusal) d)),
+    )
+    numbers (suc n) d = (
+      λ none. absurd (omega (arith, none, ap (λ (o : OstrogoszMavlinkId). o .refusal) d)),
+      λ some. (ap (λ (o : OstrogoszMavlinkId). o .id) d, ap (λ (o : OstrogoszMavlinkId). o .used) d),
+    )
+
     chained : {A B C : Type 0} → A ↔ B → B ↔ C → A ↔ C
     chained p q = (λ a. q .0 (p .0 a), λ c. p .1 (q .1 c))

@@ -1,6 +1,6 @@
 -- The receiver gives no refusal but 1 to 6. Assumes nothing.
 use mathlib.Core.Bool.{Bool, true, false, cond}
-use mathlib.Core.List.{List}
+use mathlib.Core.List.{List, [], _∷_}
 use Prim.Native.Nat.{ℕ, _≤_}
 use native.Mathlib.Omega.{arith}
 use lib.Dec.{eqb, ltb}
@@ -10,7 +10,9 @@ use Rattle.ucp_frame.specs.Frame.{flag}
 use Rattle.ucp_frame.specs.Stretch.{Verdict, silent, refused, delivered, storeOctets, withoutCheck, checkSent, atFlag}
 use Rattle.ucp_receiver.specs.declared.Phase.{Phase}
 use Rattle.ucp_receiver.specs.declared.Phase.the-variants.{Hunting, Reading, Escape, BadEscape, TooLong}
-use Rattle.ucp_receiver.specs.Octet.{State, closedIn, verdictDue}
+use Rattle.ucp_receiver.specs.Octet.{State, closedIn, stateAfter, verdictDue, countsAfter}
+use Rattle.ucp_receiver.specs.Slice.{SliceRun, sliceRun, endAt}
+use Rattle.ucp_receiver.specs.declared.Counts.{Counts}
 
 pub data Tabled : Verdict → Type 0 where
   quiet : Tabled silent
@@ -42,3 +44,15 @@ tabled-in TooLong s room = numbered 3 (omega arith) (omega arith)
 pub tabled : (s : State) (octet room : ℕ) → Tabled (verdictDue s octet room)
 unfolding verdictDue
 tabled s octet room = either (eqb octet flag) (tabled-in (s .rest .phase) s room) quiet
+
+-- of a slice: the verdict of the octet that ends it, or silence
+either-end : (v : Verdict) (ended goesOn : SliceRun) → Tabled (ended .verdict) → Tabled (goesOn .verdict) → Tabled (endAt v ended goesOn .verdict)
+either-end silent ended goesOn h k = k
+either-end (refused number) ended goesOn h k = h
+either-end (delivered octets) ended goesOn h k = h
+
+pub tabled-slice : (s : State) (c : Counts) (octets : List ℕ) (room : ℕ) → Tabled (sliceRun s c octets room .verdict)
+unfolding sliceRun
+tabled-slice s c [] room = quiet
+tabled-slice s c (x ∷ xs) room =
+    either-end (verdictDue s x room) _ _ (tabled s x room) (tabled-slice (stateAfter s x) (countsAfter c s x room) xs room)

@@ -1,15 +1,14 @@
--- The tender's demands 1 to 3, in one place. Each is a statement over what functions ensure of a call, or over the definitions that
--- their contracts cite. Of what C and Rust link, the clauses named `linked..` and `lent..` are over the contracts of
--- `ostrogosz_ucp_start`, `ostrogosz_ucp_receive`, `ostrogosz_ucp_receive_slice` and `ostrogosz_ucp_write_frame`; of
--- `ostrogosz_ucp_read_id` and, for every kind, `ostrogosz_ucp_read_..`, `ostrogosz_ucp_write_..`, `ostrogosz_ucp_send_..`; of
--- `ostrogosz_mavlink_read_id`, `ostrogosz_mavlink_read_..` and `ostrogosz_mavlink_write_..` for every kind. The other clauses are over public functions of the Rattle
--- crates, of which the programs call some: `WritesFrame` of `ucp_writer::write_frame`, `Receives` of `ucp_receiver::octet::receive` and
--- `Takes` of `receive_slice`; `Reads`, `WritesBody` and `Sends` of messages (ucp_messages, ucp_answers, ucp_send); `readDue` and
--- `writeDue` of MAVLink (mavlink_messages). No clause speaks of `ostrogosz_ucp_frame_check`, the meanings in feet and degrees,
--- `ostrogosz_mavlink_count_failures` and the interface's number: the tender says nothing of them besides
--- that they return, and their contracts fix their answers. That every call on every input returns, with no undefined step, is what
--- proving a Rattle function means; no call for C or Rust, and none that is named here, asks anything of its caller. Proved in
--- proofs/Demands.antt. Assumes nothing.
+-- The tender's demands 1 to 3, in one place. Each clause is over what functions ensure of a call, or over the definitions that their
+-- contracts cite. Those named `linked..` and `lent..` are of the calls that C and Rust link: `ostrogosz_ucp_start`,
+-- `ostrogosz_ucp_receive`, `ostrogosz_ucp_receive_slice` and `ostrogosz_ucp_write_frame`; `ostrogosz_ucp_read_id` and, for every kind,
+-- `ostrogosz_ucp_read_..`, `.._write_..` and `.._send_..`; `ostrogosz_mavlink_read_id` and, for every kind, `ostrogosz_mavlink_read_..`
+-- and `.._write_..`. The others are of public functions of the Rattle crates, of which the programs call some: `WritesFrame` of
+-- `ucp_writer::write_frame`, `Receives` of `ucp_receiver::octet::receive` and `Takes` of `receive_slice`; `Reads`, `WritesBody` and
+-- `Sends` of messages (ucp_messages, ucp_answers, ucp_send); `readDue` and `writeDue` of MAVLink (mavlink_messages). The tender asks
+-- nothing of `ostrogosz_ucp_frame_check`, of the meanings in feet and degrees, of `ostrogosz_mavlink_count_failures` and of the
+-- interface's number but that they return; their contracts fix their answers. That every call on every input returns, with no
+-- undefined step, is what proving a Rattle function means; no call for C or Rust, and none that is named here, asks anything of its
+-- caller. Proved in proofs/Demands.antt. Assumes nothing.
 use mathlib.Core.Path.{_≡_}
 use mathlib.Core.Bool.{true, false}
 use mathlib.Core.List.{List, [], _∷_, _++_, map}
@@ -26,6 +25,7 @@ use Rattle.ucp_frame.specs.Frame.{frame, longestBody, longestFrame}
 use Rattle.output_writing.specs.declared.Written.{Written}
 use Rattle.output_writing.specs.Writing.{WriterAnswer, refused, wrote, writerAnswer, Writing}
 use Rattle.ucp_writer.specs.Writes.{WritesFrame}
+use Rattle.ucp_writer.specs.Refusals.{WrongBodyLength, NoRoomForFrame, FrameWriterRefuses}
 use Rattle.mavlink_frame.specs.declared.Header.{Header}
 use Rattle.mavlink_messages.specs.declared.Message as mavlink
 use Rattle.mavlink_messages.specs.declared.Read.{Read as MavlinkRead}
@@ -35,16 +35,17 @@ use Rattle.mavlink_messages.specs.Refusals.{MavlinkShort, MavlinkWrongStart, Ma
 use Rattle.thm_mavlink_messages.specs.RoundTrips as mavlink-trips
 use Rattle.thm_c_mavlink.specs.RoundTrips.{LentMavlinkReadsBack, LentMavlinkWritesBack}
 use Rattle.thm_c_messages.specs.RoundTrips.{LentRoundTrips}
-use Rattle.thm_c_messages.specs.Delivery.{LentSentIsDelivered}
+use Rattle.thm_c_messages.specs.Delivery.{LentSentIsDelivered, DeliversOnLine}
 use Rattle.thm_c_messages.specs.Refusals.{LentRefusals, IdRefuses}
 use Rattle.thm_ucp_messages.specs.Delivery.{SentIsDelivered, DeliveredWritesBack}
 use Rattle.thm_ucp_messages.specs.RoundTrips as message-trips
 use Rattle.thm_ucp_messages.specs.Typed.{ReadIsTyped}
 use Rattle.ucp_receiver.specs.declared.Record.{Record}
 use Rattle.ucp_receiver.specs.declared.Received.{Received}
-use Rattle.ucp_receiver.specs.Answers as receiver-answers
-use Rattle.ucp_receiver.specs.Answers.{nothing, refusal}
+use Rattle.ucp_receiver.specs.declared.Taken.{Taken}
+use Rattle.ucp_receiver.specs.Answers.{ReceiverAnswer, nothing, refusal, receiverAnswer}
 use Rattle.ucp_receiver.specs.Octet.{Receives}
+use Rattle.ucp_receiver.specs.Slice.{Takes}
 use Rattle.ucp_history.specs.History.{answer}
 use Rattle.crc_gdl90_strength.specs.Strength.{TwoBodies, AtMostThreeBits, Within16Bits, Strength}
 use Rattle.ucp_messages.specs.declared.Message as ucp
@@ -56,20 +57,21 @@ use Rattle.ucp_messages.specs.Refusals.{UnknownId, WrongMessageLength, WrongFix
 use Rattle.ucp_answers.specs.Writes as Message
 use Rattle.ucp_send.specs.Sends.{Sends}
 use Rattle.crc_gdl90_strength.specs.Premises.{PremisesMet}
-use Rattle.thm_ucp_examples.specs.LinePremises.{EndsInMet, SliceLineMet, WriterCallMet}
+use Rattle.thm_ucp_examples.specs.LinePremises.{EndsInMet, StretchMet, SliceLineMet, WriterCallMet}
 use Rattle.thm_kind_examples.specs.Ucp.{UcpKindExamples}
 use Rattle.thm_kind_examples.specs.Mavlink.{MavlinkKindExamples}
 use Rattle.thm_c_examples.specs.Structs.{StructExamples}
+use Rattle.thm_c_examples.specs.Premises.{StructPremises}
 use Rattle.thm_ucp_writer.specs.Calls.{WriterLists}
 use Rattle.thm_ucp_receiver.specs.Line.{Observed, callOf, upTo, Line}
 use Rattle.thm_ucp_receiver.specs.Lines.{EveryLine}
 use Rattle.thm_ucp_receiver.specs.Slice.{LineOfSlices, SliceFlagClears, SliceIsCall}
-use Rattle.output_writing.specs.declared.OstrogoszWritten.{OstrogoszWritten}
-use Rattle.c_ucp_frames.specs.Frames.{WritesFrameNumbers}
-use Rattle.c_ucp_receiver.specs.Numbers.{ReceivesNumbers}
-use Rattle.thm_c_ucp.specs.Receiver.{LinkedLines, LinkedAnswersByHistory, LinkedCountsByHistory, LinkedStoreByHistory, LinkedFlagClears, LinkedLaterOnly, LinkedPutOutIsFrame, LinkedFrameIsPutOut, LinkedReceiverLists}
+use Rattle.c_ucp_receiver.specs.Numbers.{ReceivesNumbers, TakesNumbers}
+use Rattle.thm_c_ucp.specs.Receiver.{LinkedLines, LinkedAnswersByHistory, LinkedStretchIsAnswered, LinkedCountsByHistory, LinkedStoreByHistory, LinkedFlagClears, LinkedLaterOnly, LinkedPutOutIsFrame, LinkedFrameIsPutOut, LinkedReceiverLists}
 use Rattle.thm_c_ucp.specs.Slices.{LinkedSliceLines, LinkedSliceTakesAll, LinkedSliceFlagClears, LinkedSliceIsCall}
-use Rattle.thm_c_ucp.specs.Writer.{LinkedWriter, LinkedWriterLists}
+use Rattle.thm_c_ucp.specs.Writer.{LinkedWriter, LinkedWriterRefuses, LinkedWriterLists}
+use Rattle.thm_c_ucp.specs.Lines.{EveryLinkedLine}
+use Rattle.thm_c_ucp.specs.Delivery.{DeliversLinked, LinkedDeliveredWritesBack}
 use Rattle.demands.specs.LinkedMavlink.{MavlinkReaderRefuses, MavlinkWriterRefuses, MavlinkIdRefuses}
 use Rattle.thm_ucp_receiver.specs.Promises.{AnswersAs, AnswersByHistory, StretchIsAnswered, CountsByHistory, EveryOctetCounted, StoreClean, StoreByHistory, HuntingStoresNothing, FlagClears, LaterOnly, PutOutIsFrame, FrameIsPutOut, EndsIn, carrying}
 
@@ -84,34 +86,40 @@ pub record TableNumbers : Type 0 where
       (because.mavlinkShort ≡ 20) × (because.mavlinkStart ≡ 21) × (because.mavlinkUnknownId ≡ 22) × (because.mavlinkLength ≡ 23)
       × (because.mavlinkWrongCheck ≡ 24) × (because.mavlinkField ≡ 25)
 
--- when the frame writer refuses a body: rows 7 and 8 of the table, in that order
-abbrev pub FrameWriterRefuses : List ℕ → List ℕ → ℕ → Type 0
-FrameWriterRefuses body output number =
-    ((number ≡ because.bodyLength) × ((length body ≡ 0) ⊎ (longestBody < length body)))
-    ⊎ ((number ≡ because.outputLength) × (1 ≤ length body) × (length body ≤ longestBody) × (length output < length (frame body)))
+-- an answer of the receiver that is no body: a refusal's number is of 1 to 6, and neither a refusal nor silence changes the output
+pub record RefusalOrSilence (given : ReceiverAnswer) (output outputThen : List ℕ) : Type 0 where
+  pub refuses : (number : ℕ) → given ≡ refusal number → (1 ≤ number) × (number ≤ 6) × (outputThen ≡ output)
+  pub silent : given ≡ nothing → outputThen ≡ output
+
+-- the same in C's numbers: kind 2 is a refusal, by its number; 0 silence; and any other is 1, a body
+pub record LinkedRefusalOrSilence (kind value : ℕ) (output outputThen : List ℕ) : Type 0 where
+  pub refuses : kind ≡ 2 → (1 ≤ value) × (value ≤ 6) × (outputThen ≡ output)
+  pub silent : kind ≡ 0 → (value ≡ 0) × (outputThen ≡ output)
+  pub no-other : (kind ≡ 2 → ⊥) → (kind ≡ 0 → ⊥) → kind ≡ 1
 
 -- Demand 1. Each clause stands below the tender's sentence, in its words. "Every call on every input returns, with no undefined
--- step": see above. The calls that are linked are the others in C's numbers, so that what is said of lines and of the writer holds
--- of them.
+-- step": see above.
 pub record Demand1 : Type 0 where
-  -- "Bad input gets a numbered refusal under the conditions in document 01, or in a later change that adds to them, and no others": the
-  -- numbers; the frame writer; then the readers and writers of messages, whose conditions are spelled in their rooms'
-  -- specs/Refusals.antt; then the receiver, whose conditions are `answersByHistory` of demand 2
+  -- "Bad input gets a numbered refusal under the conditions in document 01, or in a later change that adds to them, and no others. A
+  -- refusal changes no byte of the lent output": the numbers; then each call, with the conditions that its room's specs/Refusals.antt
+  -- spells, each with those before it in the order of tests not met
   pub numbers : TableNumbers
+  -- ---- the frame writer: 7, then 8
   pub writerRefuses7 :
       (body output after : List ℕ) (r : Written) → WritesFrame body output r after
-      → (writerAnswer r ≡ refused because.bodyLength) ↔ ((length body ≡ 0) ⊎ (longestBody < length body))
+      → (writerAnswer r ≡ refused because.bodyLength) ↔ WrongBodyLength body
   pub writerRefuses8 :
       (body output after : List ℕ) (r : Written) → WritesFrame body output r after
-      → (writerAnswer r ≡ refused because.outputLength)
-      ↔ ((1 ≤ length body) × (length body ≤ longestBody) × (length output < length (frame body)))
+      → (writerAnswer r ≡ refused because.outputLength) ↔ NoRoomForFrame body output
   pub writerRefuses :
       (body output after : List ℕ) (r : Written) (number : ℕ) → WritesFrame body output r after → writerAnswer r ≡ refused number
       → ((number ≡ because.bodyLength) ⊎ (number ≡ because.outputLength)) × (after ≡ output)
-  -- "A refusal changes no byte of the lent output": of writers, whatever they write; of the others each clause says it beside
+  pub linkedWriterRefuses : LinkedWriterRefuses
+  -- any other writer too, whatever it writes
   pub refusalWritesNothing :
       (due : WriterAnswer) (octets output after : List ℕ) (r : Written) (number : ℕ) → Writing due octets output r after
       → writerAnswer r ≡ refused number → after ≡ output
+  -- ---- messages of the UCP line: readers, 10 to 13; writers, 13, then 8; sends, 13, then as the frame writer
   pub messageReaderRefuses :
       (body : List ℕ) (r : ucp-read.Read) (number : ℕ) → Reads.Reads body r
       → (Reads.readerAnswer r ≡ Reads.refused number)
@@ -134,12 +142,15 @@ pub record Demand1 : Type 0 where
       → (writerAnswer r ≡ refused number)
       ↔ (((number ≡ because.field) × (messageFits m payload ≡ false))
       ⊎ ((number ≡ because.outputLength) × (messageFits m payload ≡ true) × (length output < length (messageBody m payload))))
-  -- the message's body framed in one call: 13, then as the frame writer
   pub messageSendRefuses :
       (m : ucp.Message) (payload buffer after : List ℕ) (r : Written) (number : ℕ) → Sends m payload buffer r after
       → (writerAnswer r ≡ refused number)
       ↔ (((number ≡ because.field) × (messageFits m payload ≡ false))
       ⊎ ((messageFits m payload ≡ true) × FrameWriterRefuses (messageBody m payload) buffer number))
+  -- of the linked calls, for each kind, with what was lent; and of the call that gives a body's ID
+  pub linkedMessagesRefuse : LentRefusals
+  pub linkedIdRefuses : IdRefuses
+  -- ---- MAVLink: readers, 20 to 25; writers, 25, then 8
   pub mavlinkReaderRefuses :
       (input : List ℕ) (r : MavlinkRead) (number : ℕ) → MavlinkReads.mavlinkAnswer r ≡ readDue input
       → MavlinkReads.mavlinkAnswer r ≡ MavlinkReads.refused number → (20 ≤ number) × (number ≤ 25)
@@ -167,54 +178,44 @@ pub record Demand1 : Type 0 where
       → (writerAnswer r ≡ refused number)
       ↔ (((number ≡ because.mavlinkField) × (inRange m ≡ false))
       ⊎ ((number ≡ because.outputLength) × (inRange m ≡ true) × (length output < length (payloadOf m) + 8)))
+  pub linkedMavlinkReadersRefuse : MavlinkReaderRefuses
+  pub linkedMavlinkWritersRefuse : MavlinkWriterRefuses
+  pub linkedMavlinkIdRefuses : MavlinkIdRefuses
+  -- ---- the receiver, 1 to 6, by the octet and by the slice, from any record; when each is due: `answersByHistory` of demand 2
   pub receiverRefuses :
-      (receiver : Record) (store : List ℕ) (octet : ℕ) (output : List ℕ) (given : Received)
-      (storeAfter outputThen : List ℕ) (number : ℕ)
+      (receiver : Record) (store : List ℕ) (octet : ℕ) (output : List ℕ) (given : Received) (storeAfter outputThen : List ℕ)
       → Receives receiver store octet output given storeAfter outputThen
-      → receiver-answers.receiverAnswer (given .answer) ≡ refusal number → (1 ≤ number) × (number ≤ 6) × (outputThen ≡ output)
-  -- nor does a call without an answer
-  pub receiverIsSilent :
-      (receiver : Record) (store : List ℕ) (octet : ℕ) (output : List ℕ) (given : Received)
-      (storeAfter outputThen : List ℕ)
-      → Receives receiver store octet output given storeAfter outputThen
-      → receiver-answers.receiverAnswer (given .answer) ≡ nothing → outputThen ≡ output
+      → RefusalOrSilence (receiverAnswer (given .answer)) output outputThen
+  pub sliceRefuses :
+      (receiver : Record) (store line output : List ℕ) (given : Taken) (storeAfter outputThen : List ℕ)
+      → Takes receiver store line output given storeAfter outputThen
+      → RefusalOrSilence (receiverAnswer (given .answer)) output outputThen
+  pub linkedReceiverRefuses :
+      (store line : List ℕ) (octet : ℕ) (output : List ℕ) (kind value : ℕ) (storeAfter lineAfter outputThen : List ℕ)
+      → ReceivesNumbers store line octet output kind value storeAfter lineAfter outputThen
+      → LinkedRefusalOrSilence kind value output outputThen
+  pub linkedSliceRefuses :
+      (store line octets output : List ℕ) (kind value taken : ℕ) (storeAfter lineAfter outputThen : List ℕ)
+      → TakesNumbers store line octets output kind value taken storeAfter lineAfter outputThen
+      → LinkedRefusalOrSilence kind value output outputThen
   -- "At every flag, line counts excepted, the store is all zero, the rest of the receiver's record is one fixed value"
   pub flagClears : FlagClears
   pub sliceFlagClears : SliceFlagClears
+  pub linkedFlagClears : LinkedFlagClears
+  pub linkedSliceFlagClears : LinkedSliceFlagClears
   -- document 01 on the store: before the first flag nothing, then the open stretch unstuffed as far as its first fault, and zero behind
   pub storeByHistory : StoreByHistory
   pub huntingStoresNothing : HuntingStoresNothing
   pub storeClean : StoreClean
+  pub linkedStoreByHistory : LinkedStoreByHistory
   -- "and what the line answers from there on depends only on later bytes, for the same room lent"
   pub laterOnly : LaterOnly
-  -- of the linked calls: lists of them are lines, lines driven by slices, and the writer's lists
+  pub linkedLaterOnly : LinkedLaterOnly
+  -- ---- lists of linked calls are lines, lines driven by slices, and the writer's lists, in C's numbers: so all that is said of those
+  -- here holds of them
   pub linkedReceiverIsLine : LinkedLines
   pub linkedSlicesAreLine : LinkedSliceLines
   pub linkedWriterIsWriter : LinkedWriter
-  pub linkedReceiverRefuses :
-      (store line : List ℕ) (octet : ℕ) (output : List ℕ) (kind value : ℕ) (storeAfter lineAfter outputThen : List ℕ)
-      → ReceivesNumbers store line octet output kind value storeAfter lineAfter outputThen
-      → kind ≡ 2 → (1 ≤ value) × (value ≤ 6) × (outputThen ≡ output)
-  pub linkedReceiverIsSilent :
-      (store line : List ℕ) (octet : ℕ) (output : List ℕ) (kind value : ℕ) (storeAfter lineAfter outputThen : List ℕ)
-      → ReceivesNumbers store line octet output kind value storeAfter lineAfter outputThen
-      → kind ≡ 0 → (value ≡ 0) × (outputThen ≡ output)
-  pub linkedWriterRefuses :
-      (body output after : List ℕ) (given : OstrogoszWritten) → WritesFrameNumbers body output given after
-      → (given .refusal ≡ 0 → ⊥)
-      → ((given .refusal ≡ because.bodyLength) ⊎ (given .refusal ≡ because.outputLength)) × (given .length ≡ 0) × (after ≡ output)
-  -- of the linked calls for one kind of message, readers, writers and sends: each refusal exactly when, in the order of tests, and what
-  -- was lent is left; and of the call that gives a body's ID
-  pub linkedMessagesRefuse : LentRefusals
-  pub linkedIdRefuses : IdRefuses
-  -- and of those for one kind of MAVLink
-  pub linkedMavlinkReadersRefuse : MavlinkReaderRefuses
-  pub linkedMavlinkWritersRefuse : MavlinkWriterRefuses
-  pub linkedMavlinkIdRefuses : MavlinkIdRefuses
-  pub linkedFlagClears : LinkedFlagClears
-  pub linkedSliceFlagClears : LinkedSliceFlagClears
-  pub linkedStoreByHistory : LinkedStoreByHistory
-  pub linkedLaterOnly : LinkedLaterOnly
 
 -- Demand 2. "Frames, checks and messages are those of the GDL90 public document, the maker's UCP control document and its MAVLink
 -- pages, as document 01 states them."
@@ -226,7 +227,7 @@ pub record Demand2 : Type 0 where
       → (polynomial 0 (bitsOfOctets body) ≡ bitXor (timesGenerator 0 (quotient (bitsOfOctets body))) (frameCheck body))
       × (frameCheck body < degree16)
   pub x25IsCode : (octets : List ℕ) → Octets octets → crcCalculate octets ≡ x25 octets
-  -- a body of 1 to 436 octets with room for its frame is written, and that exactly
+  -- a body of 1 to 436 octets with room for its frame is written, and that exactly (of the linked call: `linkedWriterRefuses`)
   pub writes :
       (body output after : List ℕ) (r : Written) → WritesFrame body output r after
       → 1 ≤ length body → length body ≤ longestBody → length (frame body) ≤ length output
@@ -236,43 +237,43 @@ pub record Demand2 : Type 0 where
   -- every call of the receiver answers as the rules say of the history, and a flag that closes a stretch with an octet in it is answered
   pub answersByHistory : AnswersByHistory
   pub stretchIsAnswered : StretchIsAnswered
-  -- "each frame delivered writes back to the same bytes", and each frame written is delivered
-  pub deliveredIsFrame : PutOutIsFrame
-  pub deliveredWritesBack : DeliveredWritesBack
-  pub frameIsDelivered : FrameIsPutOut
-  -- "Every byte received on the UCP line is counted once, under the class its history gives"
-  pub countsByHistory : CountsByHistory
-  pub everyOctetCounted : EveryOctetCounted
+  pub linkedAnswersByHistory : LinkedAnswersByHistory
+  pub linkedStretchIsAnswered : LinkedStretchIsAnswered
   -- a line that is taken in slices is such a line of calls by the octet, with the same answers, outputs and records; a slice is taken
   -- up to the first octet that brings an answer, or whole
   pub slicesAreCalls : LineOfSlices
   pub sliceEndsAsCall : SliceIsCall
-  -- of the linked calls: their numbers are those of the answer and of the counts that the history gives
-  pub linkedAnswersByHistory : LinkedAnswersByHistory
-  pub linkedDeliveredIsFrame : LinkedPutOutIsFrame
-  pub linkedFrameIsDelivered : LinkedFrameIsPutOut
-  pub linkedCountsByHistory : LinkedCountsByHistory
-  pub linkedSliceTakesAll : LinkedSliceTakesAll
   pub linkedSliceEndsAsCall : LinkedSliceIsCall
-  -- "Each written message reads back equal", and each accepted one writes back to the same octets, on both lines; a message sent on
-  -- the UCP line is delivered, and means the same
+  pub linkedSliceTakesAll : LinkedSliceTakesAll
+  -- "each frame delivered writes back to the same bytes", and each frame written is delivered
+  pub deliveredIsFrame : PutOutIsFrame
+  pub deliveredWritesBack : DeliveredWritesBack
+  pub frameIsDelivered : FrameIsPutOut
+  pub linkedDeliveredIsFrame : LinkedPutOutIsFrame
+  pub linkedDeliveredWritesBack : LinkedDeliveredWritesBack
+  pub linkedFrameIsDelivered : LinkedFrameIsPutOut
+  -- "Every byte received on the UCP line is counted once, under the class its history gives"
+  pub countsByHistory : CountsByHistory
+  pub everyOctetCounted : EveryOctetCounted
+  pub linkedCountsByHistory : LinkedCountsByHistory
+  -- "Each written message reads back equal", and each accepted one writes back to the same octets, on both lines. What a message has
+  -- to be, to read back equal, is met by every one that is read: its numbers are those of its types
   pub messageReadsBack : message-trips.MessageReadsBack
   pub messageWritesBack : message-trips.MessageWritesBack
   pub uplinkReadsBack : message-trips.UplinkReadsBack
-  -- what a message has to be, to read back equal, is met by every one that is read: its numbers are those of its types
   pub messageReadIsTyped : ReadIsTyped
-  -- of the calls that C links for one kind, `ostrogosz_ucp_read_..`, `ostrogosz_ucp_write_..` and `ostrogosz_ucp_send_..`, by
-  -- `ReadsInto`, `WritesStructBody` and `SendsStruct` (c_lent)
-  pub lentMessagesReadAndWriteBack : LentRoundTrips
-  pub lentMessageSentIsDelivered : LentSentIsDelivered
-  pub sentIsDelivered : SentIsDelivered
   pub mavlinkReadsBack : mavlink-trips.MavlinkReadsBack
   pub mavlinkWritesBack : mavlink-trips.MavlinkWritesBack
-  -- of the calls that C links for one kind, `ostrogosz_mavlink_read_..` and `ostrogosz_mavlink_write_..`, by `ReadsMavlink` and
-  -- `WritesMavlinkForC` (c_mavlink)
+  pub mavlinkReadIsTyped : mavlink-trips.MavlinkReadIsTyped
+  -- of the linked calls, for each kind: by `ReadsInto` and `WritesStructBody` (c_lent), by `ReadsMavlink` and `WritesMavlinkForC`
+  pub lentMessagesReadAndWriteBack : LentRoundTrips
   pub lentMavlinkReadsBack : LentMavlinkReadsBack
   pub lentMavlinkWritesBack : LentMavlinkWritesBack
-  pub mavlinkReadIsTyped : mavlink-trips.MavlinkReadIsTyped
+  -- a message sent on the UCP line is delivered, and means the same: sent and received by the Rattle crates; sent by the linked call
+  -- (`SendsStruct` of c_lent) and received by either; and its linked reader gives the same struct
+  pub sentIsDelivered : SentIsDelivered
+  pub lentMessageSentIsDelivered : LentSentIsDelivered DeliversOnLine
+  pub linkedMessageSentIsDelivered : LentSentIsDelivered DeliversLinked
 
 -- The receiver's part of demand 3, one claim about whole lists: from a fresh receiver every call answers as the rules say, and
 -- where the list ends in the frame carrying one of two such bodies with the other's check, the last call answers 5.
@@ -284,7 +285,7 @@ ReceiverLists =
     × ((before : List Observed) (last : Observed) → calls ≡ before ++ last ∷ []
     → (a b : List ℕ) → TwoBodies a b → 1 ≤ length a → length a ≤ longestBody → AtMostThreeBits a b ⊎ Within16Bits a b
     → EndsIn (carrying a b) (upTo before last)
-    → receiver-answers.receiverAnswer (last .given .answer) ≡ refusal because.wrongCheck)
+    → receiverAnswer (last .given .answer) ≡ refusal because.wrongCheck)
 
 -- Demand 3.
 pub record Demand3 : Type 0 where
@@ -302,15 +303,19 @@ pub record Demand3 : Type 0 where
   pub linkedWriter : LinkedWriterLists
 
 -- What these demands suppose is met by some calls, and not by all: bodies at each edge of demand 3, a line that ends in a frame, a
--- line in slices of which one is answered, calls of the writer of which one is accepted; and every list of octets is a line. Each kind
--- of message has values that fit and values that do not, and octets that carry them; and each C struct has its fields, by name, at
--- their offsets.
+-- stretch that is open, a line in slices of which one is answered, calls of the writer of which one is accepted; every list of octets
+-- is a line and a linked line, and every list of octets and slices is one of linked calls. Each kind of message has values that fit
+-- and values that do not, and octets that carry them; each C struct has its fields, by name, at their offsets, and octets that its
+-- calls accept and refuse. (docs/ASSURANCE.md lists each premise and what ties it.)
 pub record PremisesTied : Type 0 where
   pub bodies : PremisesMet
   pub lines : EveryLine
+  pub linkedLines : EveryLinkedLine
   pub endsIn : EndsInMet
+  pub stretches : StretchMet
   pub sliceLine : SliceLineMet
   pub writerCalls : WriterCallMet
   pub ucpKinds : UcpKindExamples
   pub mavlinkKinds : MavlinkKindExamples
   pub structs : StructExamples
+  pub structPremises : StructPremises

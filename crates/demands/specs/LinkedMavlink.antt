@@ -50,7 +50,8 @@ MavlinkWriterRefuses =
     → WritesMavlinkForC message header output given after
     → WriterRefusals because.mavlinkField (inRange message) (length (payloadOf message) + 8) (messageFrame message header) output given after
 
--- of every call for the message ID: the same tests up to the frame's length, of any kind's ID
+-- of every call for the message ID: the same tests up to the frame's length, of any kind's ID; then that ID and how many octets the
+-- frame has, and beside a refusal neither
 abbrev pub MavlinkIdRefuses : Type 0
 MavlinkIdRefuses =
     (input : List ℕ) (given : OstrogoszMavlinkId) → given ≡ mavlinkIdDue input
@@ -59,3 +60,5 @@ MavlinkIdRefuses =
     × ((given .refusal ≡ because.mavlinkUnknownId) ↔ MavlinkUnknownId input)
     × ((given .refusal ≡ because.mavlinkLength) ↔ MavlinkWrongLength input)
     × ((given .refusal ≡ 0) ⊎ ((20 ≤ given .refusal) × (given .refusal ≤ 23)))
+    × (given .refusal ≡ 0 → (given .id ≡ getD input 5 0) × (given .used ≡ getD input 1 0 + 8))
+    × ((given .refusal ≡ 0 → ⊥) → (given .id ≡ 0) × (given .used ≡ 0))

@@ -1,7 +1,7 @@
 -- Message 201, the static data of an aircraft (document 001, "Static Message"), 19 octets. Assumes nothing.
 use mathlib.Core.List.{[], _∷_}
 use Rattle.mavlink_messages.specs.Ranges.{staticFits}
-use Rattle.field_format.specs.Format.{unsigned, Format, low, text, octet}
+use Rattle.field_format.specs.Format.{unsigned, part, Format, low, text, octet}
 use Rattle.mavlink_messages.specs.declared.Static.{Static}
 
 -- offset 0: ICAO address; 3: integrity; 4: stall speed; 6: callsign; 14: capability, where the callsign's 00 stands;
@@ -10,7 +10,7 @@ abbrev pub staticFormat : Format Static
 staticFormat = record {
   head = [];
   items =
-      low 3 unsigned (λ s. s .icao)
+      low 3 part (λ s. s .icao)
       ∷ octet (λ s. s .integrity)
       ∷ low 2 unsigned (λ s. s .«stall_speed»)
       ∷ text (λ s. s .callsign)

@@ -1,16 +1,12 @@
 -- A MAVLink message that a call for C wrote reads back equal, proved once for every kind. Assumes nothing.
 use mathlib.Core.Path.{_≡_, refl, sym, ap, _∙_, subst}
-use mathlib.Core.Bool.{Bool, true, false, cond, _&&_}
+use mathlib.Core.Bool.{Bool, true, false, cond}
 use mathlib.Core.List.{List, [], _∷_}
 use Prim.Native.Nat.{ℕ, _+_, _<_}
 use native.Mathlib.Omega.{arith}
-use borrow.Author.Tests.{ltb-true}
-use lib.Dec.{eqb, ltb, leb}
+use lib.Dec.{ltb}
 use lib.ListN.{length}
 use Rattle.crc_polynomial.specs.Polynomial.{Octets}
-use Rattle.field_layout.specs.Layout.{textOctets}
-use Rattle.field_codes.specs.Codes.{isEmitter, isSizeCode}
-use Rattle.field_texts.specs.Text.{isSpaced}
 use Rattle.field_format.specs.Format.{Row, made}
 use Rattle.output_writing.specs.declared.OstrogoszWritten.{OstrogoszWritten}
 use Rattle.output_writing.specs.declared.Written.the-variants.{Wrote}
@@ -18,14 +14,14 @@ use Rattle.output_writing.specs.Writing.{WriterAnswer, refused, wrote, outputAf
 use Rattle.mavlink_frame.specs.declared.Header.{Header}
 use Rattle.mavlink_messages.specs.declared.Message.{Message}
 use Rattle.mavlink_messages.specs.declared.Message.the-variants.{DataStream, Static, Dynamic, Status, Traffic}
-use Rattle.mavlink_messages.specs.Ranges.{staticFits}
 use Rattle.mavlink_messages.specs.Messages as read-as
 use Rattle.mavlink_messages.specs.Messages.{MavlinkAnswer, idOf, inRange, payloadOf, failuresOf, writeDue, messageFrame}
 use Rattle.c_lent.specs.Structs.{Struct, RightStruct, structColumns, structRowOf, structSize, stored, held, TypedIn}
-use Rattle.c_lent.proofs.Structs.{held-typed}
+use Rattle.c_lent.proofs.Structs.{held-stored, held-typed}
 use Rattle.c_mavlink.specs.Structs.{headerStruct, dataStreamStruct, staticStruct, dynamicStruct, statusStruct, trafficStruct, messageStored}
 use Rattle.c_mavlink.specs.Readers.{readNumber, headerLeft, messageLeft, ReadsMavlink, readAs}
 use Rattle.c_mavlink.specs.Writers.{WritesMavlinkForC}
+use Rattle.c_mavlink.proofs.Agree.{header-right}
 use Rattle.c_mavlink.proofs.OneKind.{one-kind}
 use Rattle.thm_mavlink_messages.specs.RoundTrips.{MavlinkTyped}
 use Rattle.thm_mavlink_messages.proofs.RoundTrips.{written-reads-back}
@@ -63,20 +59,25 @@ pub record SameKind {A : Type 0} (id : ℕ) (s : Struct A) (kind : A → Message
   pub named : (a : A) → idOf (kind a) ≡ id
   pub stores : (a : A) → messageStored (kind a) ≡ stored s a
   -- C's types are those of the fields
-  pub typed : (a : A) → TypedIn s a → inRange (kind a) ≡ true → MavlinkTyped (kind a)
+  pub typed : (a : A) → TypedIn s a → MavlinkTyped (kind a)
 
 struct-reads-back : {A : Type 0} (id : ℕ) (s : Struct A) (kind : A → Message) → SameKind id s kind → MavlinkStructReadsBack id s kind
 struct-reads-back {A} id s kind ok message header output after headerBefore messageBefore headerAfter messageAfter w r is n call none reading =
     let a : A = held s message in
     let h : Header = held headerStruct header in
     let l = accepted (kind a) h output w after call none in
-    let t = ok .typed a (held-typed s (ok .struct) (ok .again) message is n) (l .ranges) in
+    let c : TypedIn s a = held-typed s (ok .struct) (ok .again) message is n in
+    let t = ok .typed a c in
     let due = written-reads-back (kind a) h output after (w .length) t (l .written) in
     let read : readAs id after ≡ read-as.means h (w .length) (kind a) (failuresOf (kind a)) =
-    ap (λ (k : ℕ). readAs k after) (sym (ok .named a)) ∙ one-kind .named after h (w .length) (kind a) (failuresOf (kind a)) due .0 in (
+    ap (λ (k : ℕ). readAs k after) (sym (ok .named a)) ∙ one-kind .named after h (w .length) (kind a) (failuresOf (kind a)) due .0 in
+    let same-header : headerAfter ≡ stored headerStruct h = reading .leaves-header ∙ ap (headerLeft headerBefore) read in
+    let same : messageAfter ≡ stored s a = reading .leaves-message ∙ ap (messageLeft messageBefore) read ∙ ok .stores a in (
       reading .answers ∙ ap readNumber read,
-      reading .leaves-header ∙ ap (headerLeft headerBefore) read,
-      reading .leaves-message ∙ ap (messageLeft messageBefore) read ∙ ok .stores a,
+      same-header,
+      same,
+      ap (held s) same ∙ held-stored s (ok .struct) a c,
+      λ octets size. ap (held headerStruct) same-header ∙ held-stored headerStruct header-right h (held-typed headerStruct header-right (λ x. refl) header octets size),
     )
 
 -- ---- the kinds
@@ -86,28 +87,19 @@ data-stream-same = record {
   again = λ r. refl;
   named = λ a. refl;
   stores = λ a. refl;
-  typed = λ a t h. t .0;
+  typed = λ a t. t .0;
 }
 
--- an address has 24 bits where it is in range: the first of seven tests
-first-of-seven : (a b c d e f g : Bool) → (a && b && c && d && e && f && g) ≡ true → a ≡ true
-first-of-seven true b c d e f g h = refl
-first-of-seven false b c d e f g h = h
-
 pub static-same : SameKind 201 staticStruct Static
-unfolding staticFits
 static-same = record {
   struct = record { sound = omega arith; back = λ a. refl };
   again = λ r. refl;
   named = λ a. refl;
   stores = λ a. refl;
-  typed = λ a t h.
+  typed = λ a t.
       let u = t .0 in
-      let v = u .1 .1 .1 in (
-        ltb-true (a .icao) 0x1000000 (first-of-seven (ltb (a .icao) 0x1000000) (isSpaced (textOctets (a .callsign))) (eqb (a .capability) 0) (isEmitter (a .emitter))
-            (isSizeCode (a .«alw_encode»)) (leb (a .«gps_lat_offs») 7) (leb (a .«gps_lon_offs») 31) h),
-        (v .1 .1 .1 .1 .1 .0, (u .1 .0, (u .1 .1 .0, (v .0, (v .1 .0, (v .1 .1 .0, (v .1 .1 .1 .0, (v .1 .1 .1 .1 .0, tt)))))))),
-      );
+      let v = u .1 .1 .1 in
+      (tt, (v .1 .1 .1 .1 .1 .0, (u .1 .0, (u .1 .1 .0, (v .0, (v .1 .0, (v .1 .1 .0, (v .1 .1 .1 .0, (v .1 .1 .1 .1 .0, tt)))))))));
 }
 
 pub dynamic-same : SameKind 202 dynamicStruct Dynamic
@@ -116,7 +108,7 @@ dynamic-same = record {
   again = λ r. refl;
   named = λ a. refl;
   stores = λ a. refl;
-  typed = λ a t h. t .0;
+  typed = λ a t. t .0;
 }
 
 pub status-same : SameKind 203 statusStruct Status
@@ -125,7 +117,7 @@ status-same = record {
   again = λ r. refl;
   named = λ a. refl;
   stores = λ a. refl;
-  typed = λ a t h. t .0;
+  typed = λ a t. t .0;
 }
 
 pub traffic-same : SameKind 246 trafficStruct Traffic
@@ -134,7 +126,7 @@ traffic-same = record {
   again = λ r. refl;
   named = λ a. refl;
   stores = λ a. refl;
-  typed = λ a t h. t .0;
+  typed = λ a t. t .0;
 }
 
 pub lent-mavlink-reads-back : LentMavlinkReadsBack

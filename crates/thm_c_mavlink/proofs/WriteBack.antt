@@ -2,7 +2,7 @@
 use mathlib.Core.Path.{_≡_, refl, sym, ap, ap₂, _∙_, subst}
 use mathlib.Core.Bool.{Bool, true, false}
 use mathlib.Core.List.{List, [], _∷_, _++_}
-use Prim.Native.Nat.{ℕ, zero, suc, _≤_}
+use Prim.Native.Nat.{ℕ, zero, suc, _≤_, _<_}
 use native.Mathlib.Omega.{arith}
 use borrow.Author.Tests.{eqb-true, eqb-false}
 use lib.Dec.{eqb}
@@ -18,8 +18,9 @@ use Rattle.mavlink_messages.specs.declared.Message.{Message}
 use Rattle.mavlink_messages.specs.declared.Message.the-variants.{DataStream, Static, Dynamic, Status, Traffic}
 use Rattle.mavlink_messages.specs.Failures.{FailureAnswer}
 use Rattle.mavlink_messages.specs.Messages as read-as
-use Rattle.mavlink_messages.specs.Messages.{MavlinkAnswer, idOf, readDue, writeDue, messageFrame}
+use Rattle.mavlink_messages.specs.Messages.{MavlinkAnswer, idOf, inRange, readDue, writeDue, messageFrame}
 use Rattle.mavlink_messages.specs.Refusals.{HasHeader}
+use Rattle.mavlink_messages.proofs.Written.{address-fits}
 use Rattle.c_lent.specs.Structs.{Struct, stored, held, TypedIn}
 use Rattle.c_lent.proofs.Structs.{held-stored}
 use Rattle.c_mavlink.specs.Structs.{headerStruct, dataStreamStruct, staticStruct, dynamicStruct, statusStruct, trafficStruct, messageStored}
@@ -30,7 +31,7 @@ use Rattle.c_mavlink.proofs.Agree.{header-held-stored}
 use Rattle.c_mavlink.proofs.OneKind.{one-kind}
 use Rattle.thm_mavlink_messages.specs.RoundTrips.{MavlinkTyped}
 use Rattle.thm_mavlink_messages.proofs.Tabled.{tabled-mavlink}
-use Rattle.thm_mavlink_messages.proofs.RoundTrips.{accepted-writes-back, read-is-typed, header-read}
+use Rattle.thm_mavlink_messages.proofs.RoundTrips.{accepted-writes-back, read-typed-in-range, header-read}
 use Rattle.thm_c_mavlink.specs.RoundTrips.{MavlinkStructWritesBack, LentMavlinkWritesBack}
 use Rattle.thm_c_mavlink.proofs.ReadBack.{SameKind, data-stream-same, static-same, dynamic-same, status-same, traffic-same}
 
@@ -92,7 +93,7 @@ record BackKind {A : Type 0} (id : ℕ) (s : Struct A) (kind : A → Message) : 
   -- a message with the ID is one of the kind
   of-id : (m : Message) → idOf m ≡ id → Is kind m
   -- what has room in a payload has room in the struct
-  roomy : (a : A) → MavlinkTyped (kind a) → TypedIn s a
+  roomy : (a : A) → MavlinkTyped (kind a) → inRange (kind a) ≡ true → TypedIn s a
 
 struct-writes-back : {A : Type 0} (id : ℕ) (s : Struct A) (kind : A → Message) → BackKind id s kind → MavlinkStructWritesBack id s kind
 struct-writes-back {A} id s kind ok input headerBefore messageBefore header message output after w o reading room call =
@@ -100,10 +101,11 @@ struct-writes-back {A} id s kind ok input headerBefore messageBefore header mess
     let h : Header = k .header in
     let i = ok .of-id (k .message) (k .own) in
     let a : A = i .value in
-    let typed : MavlinkTyped (kind a) = subst MavlinkTyped (i .is) (read-is-typed input h (k .used) (k .message) (k .failures) o (k .whole)) in
+    let right = read-typed-in-range input h (k .used) (k .message) (k .failures) o (k .whole) in
+    let typed : TypedIn s a = ok .roomy a (subst MavlinkTyped (i .is) (right .0)) (ap inRange (sym (i .is)) ∙ right .1) in
     let message-is : held s message ≡ a =
     ap (held s) (reading .leaves-message ∙ ap (messageLeft messageBefore) (k .same) ∙ ap messageStored (i .is) ∙ ok .forth .stores a)
-    ∙ held-stored s (ok .forth .struct) a (ok .roomy a typed) in
+    ∙ held-stored s (ok .forth .struct) a typed in
     let sender : h ≡ headerAt input = header-read input h (k .used) (k .message) (k .failures) o (k .whole) .0 in
     let header-typed : TypedIn headerStruct h = subst (TypedIn headerStruct) (sym sender) ((o 2, (o 3, (o 4, tt))), refl) in
     let header-is : held headerStruct header ≡ h =
@@ -122,7 +124,7 @@ struct-writes-back {A} id s kind ok input headerBefore messageBefore header mess
 
 -- ---- the kinds
 data-stream-back : BackKind 66 dataStreamStruct DataStream
-data-stream-back = record { forth = data-stream-same; of-id = one; roomy = λ a t. (t, refl) }
+data-stream-back = record { forth = data-stream-same; of-id = one; roomy = λ a t r. (t, refl) }
   where
     one : (m : Message) → idOf m ≡ 66 → Is DataStream m
     one (DataStream d) e = record { value = d; is = refl }
@@ -135,9 +137,10 @@ static-back : BackKind 201 staticStruct Static
 static-back = record {
   forth = static-same;
   of-id = one;
-  roomy = λ a t.
+  roomy = λ a t r.
       let u = t .1 .1 .1 .1 in
-      ((omega (arith, t .0), (t .1 .1 .0, (t .1 .1 .1 .0, (u .0, (u .1 .0, (u .1 .1 .0, (u .1 .1 .1 .0, (u .1 .1 .1 .1 .0, (t .1 .0, tt))))))))), refl);
+      let address : a .icao < 0x1000000 = address-fits {m = Static a} {s = a} refl r in
+      ((omega arith, (t .1 .1 .0, (t .1 .1 .1 .0, (u .0, (u .1 .0, (u .1 .1 .0, (u .1 .1 .1 .0, (u .1 .1 .1 .1 .0, (t .1 .0, tt))))))))), refl);
 }
   where
     one : (m : Message) → idOf m ≡ 201 → Is Static m
@@ -148,7 +151,7 @@ static-back = record {
     one (Traffic t) e = absurd (omega (arith, e))
 
 dynamic-back : BackKind 202 dynamicStruct Dynamic
-dynamic-back = record { forth = dynamic-same; of-id = one; roomy = λ a t. (t, refl) }
+dynamic-back = record { forth = dynamic-same; of-id = one; roomy = λ a t r. (t, refl) }
   where
     one : (m : Message) → idOf m ≡ 202 → Is Dynamic m
     one (DataStream d) e = absurd (omega (arith, e))
@@ -158,7 +161,7 @@ dynamic-back = record { forth = dynamic-same; of-id = one; roomy = λ a t. (t, r
     one (Traffic t) e = absurd (omega (arith, e))
 
 status-back : BackKind 203 statusStruct Status
-status-back = record { forth = status-same; of-id = one; roomy = λ a t. (t, refl) }
+status-back = record { forth = status-same; of-id = one; roomy = λ a t r. (t, refl) }
   where
     one : (m : Message) → idOf m ≡ 203 → Is Status m
     one (DataStream d) e = absurd (omega (arith, e))
@@ -168,7 +171,7 @@ status-back = record { forth = status-same; of-id = one; roomy = λ a t. (t, ref
     one (Traffic t) e = absurd (omega (arith, e))
 
 traffic-back : BackKind 246 trafficStruct Traffic
-traffic-back = record { forth = traffic-same; of-id = one; roomy = λ a t. (t, refl) }
+traffic-back = record { forth = traffic-same; of-id = one; roomy = λ a t r. (t, refl) }
   where
     one : (m : Message) → idOf m ≡ 246 → Is Traffic m
     one (DataStream d) e = absurd (omega (arith, e))

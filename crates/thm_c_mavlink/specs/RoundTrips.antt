@@ -15,7 +15,7 @@ use Rattle.c_mavlink.specs.Ids.{mavlinkIdDue}
 use Rattle.c_mavlink.specs.Writers.{WritesMavlinkForC}
 
 -- the writer accepted the message and the header that two structs hold, and the kind's reader is given the output, with anything behind
--- the frame: it answers 0, and its structs hold the same, padding zero. (The struct's octets are octets, and as many as it has: as a
+-- the frame: it answers 0, and its structs hold the same and no more, padding zero. (A struct's octets are octets, and as many as it has: as a
 -- running program's are, and antt's numbers need not be.)
 abbrev pub MavlinkStructReadsBack : {A : Type 0} → ℕ → Struct A → (A → Message) → Type 0
 MavlinkStructReadsBack id s kind =
@@ -24,6 +24,8 @@ MavlinkStructReadsBack id s kind =
     → WritesMavlinkForC (kind (held s message)) (held headerStruct header) output w after → w .refusal ≡ 0
     → ReadsMavlink (readAs id after) headerBefore messageBefore r headerAfter messageAfter
     → (r ≡ 0) × (headerAfter ≡ stored headerStruct (held headerStruct header)) × (messageAfter ≡ stored s (held s message))
+    × (held s messageAfter ≡ held s message)
+    × (Octets header → length header ≡ structSize headerStruct → held headerStruct headerAfter ≡ held headerStruct header)
 
 -- the kind's reader accepted the frame at the start of an input, and the writer is given the structs that it left, and room for as many
 -- octets as the call for the ID says: it writes the frame's octets

@@ -2,7 +2,6 @@
 use mathlib.Core.Path.{_≡_, refl, sym, ap, ap₂, _∙_}
 use mathlib.Core.Bool.{Bool, true, false, cond, _&&_}
 use mathlib.Core.List.{List, [], _∷_, _++_}
-use mathlib.Core.Logic.{_⊎_, inl, inr}
 use Prim.Native.Nat.{ℕ, _≤_, _<_}
 use native.Mathlib.Omega.{arith}
 use borrow.Author.Tests.{le-ltb, lt-ltb, ltb-true, ltb-false, eqb-true, eq-eqb}
@@ -15,8 +14,10 @@ use Rattle.output_writing.specs.Writing.{WriterAnswer, refused, wrote, outputAf
 use Rattle.ucp_answers.specs.Writes.{bodyDue}
 use Rattle.ucp_frame.specs.Frame.{frame}
 use Rattle.ucp_writer.specs.Sends.{sendDue}
-use Rattle.ucp_writer.proofs.room.Due.{refused-so}
 use Rattle.c_lent.specs.Reads.{hasId, refusalAs, FillsStruct}
+use Rattle.thm_ucp_receiver.specs.Promises.{BodyLength}
+use Rattle.thm_c_messages.specs.Refusals.{SendRefusals}
+use Rattle.thm_c_messages.proofs.Refusals.{send-refusals}
 
 -- ---- a writer's call
 -- no refusal: the fields fit, and the body is there
@@ -46,29 +47,27 @@ writes {fits} {body} {output} {w} {after} same f e room call =
     (call .answers ∙ ap writtenNumbers due, call .leaves ∙ ap₂ (λ (b : List ℕ) (a : WriterAnswer). outputAfter b output a) e due)
 
 -- ---- a send
--- no refusal: a frame was written
-module _ (fits : Bool) (body buffer : List ℕ) (w : OstrogoszWritten) where
-  sent-as : (a : WriterAnswer) → sendDue fits body buffer ≡ a → w ≡ writtenNumbers a → w .refusal ≡ 0 → a ≡ wrote (w .length)
-  unfolding sendDue
-  sent-as (wrote octets) e is none = ap wrote (sym (ap (λ (o : OstrogoszWritten). o .length) is))
-  sent-as (refused number) e is none = absurd (not-zero fits e)
-    where
-      zero-refused : number ≡ 0
-      zero-refused = sym (ap (λ (o : OstrogoszWritten). o .refusal) is) ∙ none
+-- no refusal: the fields fit, and the body's frame is there
+pub record Sent (fits : Bool) (body : List ℕ) (w : OstrogoszWritten) (after : List ℕ) : Type 0 where
+  pub fit : fits ≡ true
+  pub long : BodyLength body
+  pub whole : frame body ≡ take (w .length) after
 
-      some : (number ≡ 7) ⊎ (number ≡ 8) → ⊥
-      some (inl s) = omega (arith, zero-refused)
-      some (inr e) = omega (arith, zero-refused)
-
-      not-zero : (f : Bool) → sendDue f body buffer ≡ refused number → ⊥
-      not-zero true h = some (refused-so body buffer number (sym h))
-      not-zero false h = let n : 13 ≡ number = cc in omega (arith, n, zero-refused)
-
-  pub sent-accepted : {after : List ℕ} → WritingNumbers (sendDue fits body buffer) (frame body) buffer w after → w .refusal ≡ 0
-      → (sendDue fits body buffer ≡ wrote (w .length)) × (after ≡ outputAfter (frame body) buffer (wrote (w .length)))
-  sent-accepted call none =
-      let e = sent-as (sendDue fits body buffer) refl (call .answers) none in
-      (e, call .leaves ∙ ap (outputAfter (frame body) buffer) e)
+pub sent : (fits : Bool) (body buffer : List ℕ) {w : OstrogoszWritten} {after : List ℕ}
+    → WritingNumbers (sendDue fits body buffer) (frame body) buffer w after → w .refusal ≡ 0 → Sent fits body w after
+sent fits body buffer {w} {after} call none = go fits (send-refusals fits body buffer w after call)
+  where
+    go : (f : Bool) → SendRefusals f body buffer w after → Sent f body w after
+    go false so = absurd (omega (arith, none, so .refuses13 .1 refl))
+    go true so =
+        let r = so .frames refl in
+        let due = r .accepts .0 none in
+        let written = r .writes none in
+        record {
+          fit = refl;
+          long = record { least = due .0; most = due .1 };
+          whole = sym (ap₂ take (written .0) (written .1) ∙ take-append-seam (frame body) (drop (length (frame body)) buffer));
+        }
 
 -- ---- a reader's call
 -- no refusal is due, and then the struct is filled

@@ -3,3 +3,4 @@ pub mod Structs
 pub mod EachKind
 pub mod Tests
 pub mod Refusals
+pub mod Delivery

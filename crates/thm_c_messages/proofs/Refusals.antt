@@ -14,34 +14,22 @@ use Rattle.output_writing.specs.declared.OstrogoszWritten.{OstrogoszWritten}
 use Rattle.output_writing.specs.Writing.{WriterAnswer, refused, wrote, outputAfter, writtenNumbers, WritingNumbers}
 use Rattle.ucp_answers.specs.Refusals.{refusalOf}
 use Rattle.ucp_answers.specs.Writes.{bodyDue}
-use Rattle.ucp_frame.specs.Frame.{frame, longestBody}
-use Rattle.ucp_writer.specs.Room.{frameDue}
+use Rattle.ucp_frame.specs.Frame.{frame}
 use Rattle.ucp_writer.specs.Sends.{sendDue}
-use Rattle.ucp_writer.proofs.room.Due.{accepted-so, refused-so, refused-7, refused-8}
-use Rattle.ucp_messages.specs.Heartbeat0.{heartbeatFormat}
 use Rattle.ucp_messages.specs.Uplink7.{uplinkFits, uplinkBody}
-use Rattle.ucp_messages.specs.Report10.{reportFormat}
-use Rattle.ucp_messages.specs.GeometricAltitude11.{geometricFormat}
-use Rattle.ucp_messages.specs.Request44.{requestFormat}
-use Rattle.ucp_messages.specs.Control45.{controlFormat}
-use Rattle.ucp_messages.specs.Initialization117.{initializationFormat}
 use Rattle.ucp_messages.specs.declared.Kind.{Kind}
-use Rattle.ucp_messages.specs.declared.Kind.the-variants.{Heartbeat, Uplink, Ownship, GeometricAltitude, Traffic, Request, Control, Initialization, Unknown}
-use Rattle.ucp_messages.specs.Kinds.{kindIn}
-use Rattle.ucp_messages.specs.Kinds.{isKnown, kindLength, fixedOctets}
-use Rattle.ucp_messages.specs.Refusals.{UnknownId, fieldsInRange}
+use Rattle.ucp_messages.specs.declared.Kind.the-variants.{Uplink, Unknown}
+use Rattle.ucp_messages.specs.Kinds.{isSome, isKnown, kindIn}
+use Rattle.ucp_messages.specs.Refusals.{UnknownId}
 use Rattle.c_lent.specs.Structs.{Struct}
 use Rattle.c_lent.specs.Reads.{hasId, refusalAs, FillsStruct}
-use Rattle.c_ucp_heartbeat.specs.Struct.{heartbeatStruct}
-use Rattle.c_ucp_report.specs.Struct.{reportStruct}
-use Rattle.c_ucp_geometric_altitude.specs.Struct.{geometricStruct}
-use Rattle.c_ucp_request.specs.Struct.{requestStruct}
-use Rattle.c_ucp_control.specs.Struct.{controlStruct}
-use Rattle.c_ucp_initialization.specs.Struct.{initializationStruct}
 use Rattle.c_ucp_ids.specs.declared.OstrogoszId.{OstrogoszId}
 use Rattle.c_ucp_ids.specs.Ids.{idDue}
-use Rattle.thm_c_messages.specs.Refusals.{OfAnotherId, OfItsId, ReaderRefusals, WriterRefusals, SendRefusals, StructRefuses, UplinkRefuses, LentRefusals, IdRefuses}
-use Rattle.thm_c_messages.proofs.Tests.{Is, is, unknown-so, no, Tested, tested-format, tested-uplink, exact}
+use Rattle.thm_c_ucp.proofs.Writer.{frame-refusals}
+use Rattle.thm_c_messages.specs.Refusals.{OfAnotherId, OfItsId, ReaderRefusals, WriterRefusals, SendRefusals, StructRefuses, UplinkRefuses, IdRefuses}
+use Rattle.thm_c_messages.proofs.Tests.{Is, is, is-lawful, unknown-so, no, Tested, tested-format, tested-uplink, exact}
+use Rattle.ucp_messages.specs.declared.Message.{Message}
+use Rattle.ucp_messages.proofs.Formats.{LawfulFormat, Lawful, formatted, uplink, unknown, lawful}
 
 -- ---- reading
 module _ (id : ℕ) (body : List ℕ) where
@@ -148,133 +136,69 @@ unfolding bodyDue
 body-refusals fit body output given after call = writer-refusals 13 (omega arith) fit (length body) body output given after call
 
 -- ---- sending
-module _ (body buffer : List ℕ) (given : OstrogoszWritten) (after : List ℕ) where
-  abbrev WrongLength : Type 0
-  WrongLength = (length body ≡ 0) ⊎ (longestBody < length body)
+pub send-refusals : (fit : Bool) (body buffer : List ℕ) (given : OstrogoszWritten) (after : List ℕ)
+    → WritingNumbers (sendDue fit body buffer) (frame body) buffer given after → SendRefusals fit body buffer given after
+unfolding sendDue
+send-refusals true body buffer given after call =
+    let so = frame-refusals body buffer given after call in
+    record {
+      refuses13 = (λ h. not-13 (so .no-other) h, λ h. no (sym h));
+      leaves = λ h. no (sym h);
+      frames = λ h. so;
+    }
+  where
+    not-13 : {C : Type 0} → (given .refusal ≡ 0) ⊎ ((given .refusal ≡ 7) ⊎ (given .refusal ≡ 8)) → given .refusal ≡ 13 → C
+    not-13 (inl e) h = absurd (omega arith)
+    not-13 (inr (inl e)) h = absurd (omega arith)
+    not-13 (inr (inr e)) h = absurd (omega arith)
+send-refusals false body buffer given after call = record {
+  refuses13 = (λ h. refl, λ h. ap (λ (o : OstrogoszWritten). o .refusal) (call .answers));
+  leaves = λ h. (ap (λ (o : OstrogoszWritten). o .length) (call .answers), call .leaves);
+  frames = λ h. no h;
+}
 
-  clash : {C : Type 0} → WrongLength → 1 ≤ length body → length body ≤ longestBody → C
-  clash (inl none) least most = absurd (omega arith)
-  clash (inr many) least most = absurd (omega arith)
-
-  framed : (due : WriterAnswer) → frameDue body buffer ≡ due → given ≡ writtenNumbers due → after ≡ outputAfter (frame body) buffer due
-      → SendRefusals true body buffer given after
-  framed (refused number) e a l = go (refused-so body buffer number (sym e))
-    where
-      is-refused : given .refusal ≡ number
-      is-refused = ap (λ (o : OstrogoszWritten). o .refusal) a
-
-      go : (number ≡ 7) ⊎ (number ≡ 8) → SendRefusals true body buffer given after
-      go (inl n) =
-          let r : given .refusal ≡ 7 = is-refused ∙ n in
-          let c = refused-7 body buffer .0 (e ∙ ap refused n) in
-          record {
-            refuses13 = (λ h. absurd (omega arith), λ h. no (sym h));
-            refuses7 = (λ h. (refl, c), λ h. r);
-            refuses8 = (λ h. absurd (omega arith), λ h. clash c (h .1) (h .2));
-            accepts = (λ h. absurd (omega arith), λ h. clash c (h .1) (h .2));
-            no-other = inr (inl r);
-            writes = λ h. absurd (omega arith);
-            leaves = λ h. (ap (λ (o : OstrogoszWritten). o .length) a, l);
-          }
-      go (inr n) =
-          let r : given .refusal ≡ 8 = is-refused ∙ n in
-          let c = refused-8 body buffer .0 (e ∙ ap refused n) in
-          record {
-            refuses13 = (λ h. absurd (omega arith), λ h. no (sym h));
-            refuses7 = (λ h. absurd (omega arith), λ h. clash (h .1) (c .0) (c .1));
-            refuses8 = (λ h. (refl, c .0, c .1, c .2), λ h. r);
-            accepts = (λ h. absurd (omega arith), λ h. absurd (omega (arith, h .3, c .2)));
-            no-other = inr (inr (inl r));
-            writes = λ h. absurd (omega arith);
-            leaves = λ h. (ap (λ (o : OstrogoszWritten). o .length) a, l);
-          }
-  framed (wrote octets) e a l =
-      let r : given .refusal ≡ 0 = ap (λ (o : OstrogoszWritten). o .refusal) a in
-      let c = accepted-so body buffer octets (sym e) in
-      record {
-        refuses13 = (λ h. absurd (omega arith), λ h. no (sym h));
-        refuses7 = (λ h. absurd (omega arith), λ h. clash (h .1) (c .least) (c .most));
-        refuses8 = (λ h. absurd (omega arith), λ h. absurd (omega (arith, h .3, c .room)));
-        accepts = (λ h. (refl, c .least, c .most, c .room), λ h. r);
-        no-other = inl r;
-        writes = λ h. rw (c .exact) (ap (λ (o : OstrogoszWritten). o .length) a, l);
-        leaves = λ h. absurd (h r);
-      }
-
-  send-refusals : (fit : Bool) → WritingNumbers (sendDue fit body buffer) (frame body) buffer given after
-      → SendRefusals fit body buffer given after
-  unfolding sendDue
-  send-refusals true call = framed (frameDue body buffer) refl (call .answers) (call .leaves)
-  send-refusals false call =
-      let r : given .refusal ≡ 13 = ap (λ (o : OstrogoszWritten). o .refusal) (call .answers) in
-      record {
-        refuses13 = (λ h. refl, λ h. r);
-        refuses7 = (λ h. absurd (omega arith), λ h. no (h .0));
-        refuses8 = (λ h. absurd (omega arith), λ h. no (h .0));
-        accepts = (λ h. absurd (omega arith), λ h. no (h .0));
-        no-other = inr (inr (inr r));
-        writes = λ h. absurd (omega arith);
-        leaves = λ h. (ap (λ (o : OstrogoszWritten). o .length) (call .answers), call .leaves);
-      }
-
--- ---- the three calls of a kind whose format has its ID, its length, its fixed octets and its ranges
-struct-refuses : {A : Type 0} (k : Kind) (f : Format A) (s : Struct A) → bodySize f ≡ kindLength k → drop 1 (f .head) ≡ fixedOctets k
-    → ((body : List ℕ) → f .ranges (valueIn f body) ≡ fieldsInRange k body) → StructRefuses (getD (f .head) 0 0) k f s
-struct-refuses k f s size head ranges = (
+-- ---- the three calls of a kind that has a format
+pub struct-refuses : {A : Type 0} {k : Kind} (f : Format A) (s : Struct A) {message : A → Message} → LawfulFormat k f message
+    → StructRefuses (getD (f .head) 0 0) k f s
+struct-refuses {k = k} f s l = (
   λ body before after answer call.
-      reads-so (reader-refusals (getD (f .head) 0 0) body k (refusalOf f body) (tested-format f k body size head (ranges body))) call,
+      reads-so
+      (reader-refusals (getD (f .head) 0 0) body k (refusalOf f body) (tested-format f k body (l .size-is) (l .fixed-is) (l .ranges-are body))) call,
   λ a output after given call. body-refusals (fits f a) (bodyOf f a) output given after call,
-  λ a buffer after given call. send-refusals (bodyOf f a) buffer given after (fits f a) call,
+  λ a buffer after given call. send-refusals (fits f a) (bodyOf f a) buffer given after call,
 )
 
-uplink-refuses : UplinkRefuses
+pub uplink-refuses : UplinkRefuses
 uplink-refuses = (
   λ body before after answer call. reads-so (reader-refusals 7 body Uplink _ (tested-uplink body)) call,
   λ payload output after given call. body-refusals (uplinkFits payload) (uplinkBody payload) output given after call,
-  λ payload buffer after given call. send-refusals (uplinkBody payload) buffer given after (uplinkFits payload) call,
+  λ payload buffer after given call. send-refusals (uplinkFits payload) (uplinkBody payload) buffer given after call,
 )
-
-pub lent-refusals : LentRefusals
-lent-refusals = record {
-  heartbeat = struct-refuses Heartbeat heartbeatFormat heartbeatStruct refl refl (λ body. refl);
-  uplink = uplink-refuses;
-  ownship = struct-refuses Ownship (reportFormat 10) reportStruct refl refl (λ body. refl);
-  geometricAltitude = struct-refuses GeometricAltitude geometricFormat geometricStruct refl refl (λ body. refl);
-  traffic = struct-refuses Traffic (reportFormat 20) reportStruct refl refl (λ body. refl);
-  request = struct-refuses Request requestFormat requestStruct refl refl (λ body. refl);
-  control = struct-refuses Control controlFormat controlStruct refl refl (λ body. refl);
-  initialization = struct-refuses Initialization initializationFormat initializationStruct refl refl (λ body. refl);
-}
 
 -- ---- the call for the ID
 abbrev Decided : Kind → Type 0
 Decided k = ((k ≡ Unknown) × (isKnown k ≡ false)) ⊎ (Is k × (isKnown k ≡ true))
 
-decided : (k : Kind) → Decided k
-decided Heartbeat = inr (is Heartbeat (omega arith), refl)
-decided Uplink = inr (is Uplink (omega arith), refl)
-decided Ownship = inr (is Ownship (omega arith), refl)
-decided GeometricAltitude = inr (is GeometricAltitude (omega arith), refl)
-decided Traffic = inr (is Traffic (omega arith), refl)
-decided Request = inr (is Request (omega arith), refl)
-decided Control = inr (is Control (omega arith), refl)
-decided Initialization = inr (is Initialization (omega arith), refl)
-decided Unknown = inl (refl, refl)
+decided : {k : Kind} → Lawful k → Decided k
+decided (formatted f message l) = inr (is-lawful l, ap isSome (l .id-is))
+decided uplink = inr (is Uplink (omega arith), refl)
+decided unknown = inl (refl, refl)
 
 pub id-refuses : IdRefuses
 unfolding idDue
-id-refuses body given e = go (decided (kindIn body))
+id-refuses body given e = go (decided (lawful (kindIn body)))
   where
     go : Decided (kindIn body)
         → ((given .refusal ≡ 10) ↔ UnknownId body)
         × ((given .refusal ≡ 0) ↔ (UnknownId body → ⊥))
         × ((given .refusal ≡ 0) ⊎ (given .refusal ≡ 10))
         × (given .refusal ≡ 0 → given .id ≡ getD body 0 0)
+        × ((given .refusal ≡ 0 → ⊥) → given .id ≡ 0)
     go (inl u) =
         let d : given ≡ record { refusal = 10; id = 0 } = e ∙ rw (u .1) in
         let r : given .refusal ≡ 10 = ap (λ (o : OstrogoszId). o .refusal) d in
         let so = unknown-so body .0 (u .0) in
-        ((λ h. so, λ h. r), (λ h. absurd (omega arith), λ h. absurd (h so)), inr r, λ h. absurd (omega arith))
+        ((λ h. so, λ h. r), (λ h. absurd (omega arith), λ h. absurd (h so)), inr r, λ h. absurd (omega arith), λ h. ap (λ (o : OstrogoszId). o .id) d)
     go (inr k) =
         let d : given ≡ record { refusal = 0; id = getD body 0 0 } = e ∙ rw (k .1) in
         let r : given .refusal ≡ 0 = ap (λ (o : OstrogoszId). o .refusal) d in (
@@ -282,4 +206,5 @@ id-refuses body given e = go (decided (kindIn body))
           (λ h u. k .0 (unknown-so body .1 u), λ h. r),
           inl r,
           λ h. ap (λ (o : OstrogoszId). o .id) d,
+          λ h. absurd (h r),
         )

@@ -13,10 +13,10 @@ use Rattle.ucp_answers.proofs.RoundTrips.{none-due, body-accepted, accepted-wri
 use Rattle.c_lent.specs.Structs.{Struct, RightStruct, structColumns, structRowOf, structSize, stored, held, TypedIn}
 use Rattle.c_lent.proofs.Structs.{held-stored, held-typed}
 use Rattle.c_lent.specs.Reads.{ReadsInto}
-use Rattle.thm_ucp_messages.proofs.Delivery.{sent-body, put-out}
-use Rattle.thm_c_messages.specs.RoundTrips.{StructReadsBack, StructWritesBack, StructRoundTrips}
-use Rattle.thm_c_messages.specs.Delivery.{StructSentIsDelivered}
-use Rattle.thm_c_messages.proofs.Accepted.{accepted, writes, sent-accepted, fills, of-kind, kind-of}
+use Rattle.thm_c_messages.specs.RoundTrips.{ReadsSame, StructReadsBack, StructWritesBack, StructRoundTrips}
+use Rattle.thm_c_messages.specs.Delivery.{OnEitherLine, StructSentIsDelivered}
+use Rattle.thm_c_messages.proofs.Accepted.{accepted, writes, sent, fills, of-kind, kind-of}
+use Rattle.thm_c_messages.proofs.Delivery.{DeliversFrames}
 use borrow.Author.Tests.{eqb-true}
 
 -- a kind's format and its struct are right, and of the same values
@@ -43,15 +43,17 @@ id-of (x ∷ xs) body h e = e
 module _ {A : Type 0} (f : Format A) (s : Struct A) (ok : SameValues f s) where
   -- what a struct holds, where it fits, is read back from its body
   body-reads-back : (message before left : List ℕ) (r : ℕ) → Octets message → length message ≡ structSize s → fits f (held s message) ≡ true
-      → ReadsInto f s (bodyOf f (held s message)) before r left → (r ≡ 0) × (left ≡ stored s (held s message))
+      → ReadsInto f s (bodyOf f (held s message)) before r left → ReadsSame s message r left
   unfolding bodyOf
   body-reads-back message before left r is n fit reading =
       let a : A = held s message in
-      let t : TypedAs f a = ok .typed a (held-typed s (ok .struct) (ok .again) message is n) in
+      let c : TypedIn s a = held-typed s (ok .struct) (ok .again) message is n in
+      let t : TypedAs f a = ok .typed a c in
       let h = head-first (f .head) _ (ok .some-id) in
       let due = of-kind (getD (f .head) 0 0) (bodyOf f a) (refusalOf f (bodyOf f a)) (h .0) (h .1) (body-accepted f (ok .format) a t fit) in
       let k = fills reading due in
-      (k .0, k .1 ∙ ap (stored s) (value-back f (ok .format) a t (room f (ok .format) a t fit)))
+      let same : left ≡ stored s a = k .1 ∙ ap (stored s) (value-back f (ok .format) a t (room f (ok .format) a t fit)) in
+      (k .0, ap (held s) same ∙ held-stored s (ok .struct) a c, same)
 
   struct-reads-back : StructReadsBack f s
   struct-reads-back message output after before left w r is n call none reading =
@@ -74,9 +76,12 @@ module _ {A : Type 0} (f : Format A) (s : Struct A) (ok : SameValues f s) where
   pub struct-round-trips : StructRoundTrips f s
   struct-round-trips = (struct-reads-back, struct-writes-back)
 
-  pub struct-sent-is-delivered : StructSentIsDelivered f s
-  struct-sent-is-delivered message buffer after w is n call none before later o line ends enough =
+  -- on either line, where that delivers every frame
+  pub struct-sent-is-delivered : (Delivers : OnEitherLine) → DeliversFrames Delivers → StructSentIsDelivered Delivers f s
+  struct-sent-is-delivered Delivers delivers message buffer after w is n call none =
       let body : List ℕ = bodyOf f (held s message) in
-      let e = sent-accepted (fits f (held s message)) body buffer w call none in
-      let d = sent-body (fits f (held s message)) body buffer (e .0) (e .1) before later o line ends enough in
-      (d .1, λ lent left r reading. body-reads-back message lent left r is n (d .0) (rw (put-out body o (d .1)) at reading))
+      let e = sent (fits f (held s message)) body buffer call none in
+      subst (λ (octets : List ℕ). Delivers octets body (λ (b : List ℕ). (lent left : List ℕ) (r : ℕ) → ReadsInto f s b lent r left → ReadsSame s message r left))
+      (e .whole)
+      (delivers body (λ (b : List ℕ). (lent left : List ℕ) (r : ℕ) → ReadsInto f s b lent r left → ReadsSame s message r left) (e .long)
+      (λ lent left r reading. body-reads-back message lent left r is n (e .fit) reading))

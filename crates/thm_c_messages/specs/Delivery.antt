@@ -1,5 +1,5 @@
 -- A message that is sent by its call for C is delivered, and reads back equal (the tender, demand 2), over what the send, the receiver
--- and the reader ensure. Assumes nothing.
+-- (of either line: Rattle's, or the linked) and the reader ensure. Assumes nothing.
 use mathlib.Core.Path.{_≡_}
 use mathlib.Core.List.{List, _∷_, _++_}
 use Prim.Native.Nat.{ℕ, _≤_}
@@ -9,55 +9,44 @@ use Rattle.field_format.specs.Format.{Format, bodyOf}
 use Rattle.output_writing.specs.declared.OstrogoszWritten.{OstrogoszWritten}
 use Rattle.ucp_frame.specs.Frame.{longestBody}
 use Rattle.ucp_frame.specs.Stretch.{delivered}
-use Rattle.ucp_messages.specs.Heartbeat0.{heartbeatFormat}
 use Rattle.ucp_messages.specs.Uplink7.{uplinkBody}
-use Rattle.ucp_messages.specs.Report10.{reportFormat}
-use Rattle.ucp_messages.specs.GeometricAltitude11.{geometricFormat}
-use Rattle.ucp_messages.specs.Request44.{requestFormat}
-use Rattle.ucp_messages.specs.Control45.{controlFormat}
-use Rattle.ucp_messages.specs.Initialization117.{initializationFormat}
-use Rattle.c_lent.specs.Structs.{Struct, structSize, stored, held}
+use Rattle.c_lent.specs.Structs.{Struct, structSize, held}
 use Rattle.c_lent.specs.Reads.{ReadsInto}
 use Rattle.c_lent.specs.Sends.{SendsStruct}
-use Rattle.c_ucp_heartbeat.specs.Struct.{heartbeatStruct}
 use Rattle.c_ucp_uplink.specs.Uplink.{ReadsUplink, SendsUplink}
-use Rattle.c_ucp_report.specs.Struct.{reportStruct}
-use Rattle.c_ucp_geometric_altitude.specs.Struct.{geometricStruct}
-use Rattle.c_ucp_request.specs.Struct.{requestStruct}
-use Rattle.c_ucp_control.specs.Struct.{controlStruct}
-use Rattle.c_ucp_initialization.specs.Struct.{initializationStruct}
 use Rattle.thm_ucp_receiver.specs.Line.{Observed, upTo, Line}
 use Rattle.thm_ucp_receiver.specs.Promises.{AnswersAs, EndsIn}
+use Rattle.thm_c_messages.specs.RoundTrips.{ReadsSame}
+use Rattle.thm_c_messages.specs.EachKind.{OfEachKind}
 
--- where a line, whatever it brought before, ends in the octets that an accepted send wrote, and the room is 436 octets or more: the
--- last call delivers the body, and a reader that is given it answers 0 and leaves a struct that holds the same, padding zero
-abbrev pub StructSentIsDelivered : {A : Type 0} → Format A → Struct A → Type 0
-StructSentIsDelivered f s =
+-- where a line, whatever it brought before, ends in these octets, and the room is 436 octets or more: the last call delivers this
+-- body, and the octets that it put out meet `Use`. (`DeliversLinked` of thm_c_ucp is the same of a linked line.)
+abbrev pub DeliversOnLine : List ℕ → List ℕ → (List ℕ → Type 0) → Type 0
+DeliversOnLine octets body Use =
+    (before later : List Observed) (o : Observed) → Line (before ++ o ∷ later)
+    → EndsIn octets (upTo before o) → longestBody ≤ length (o .output)
+    → AnswersAs (delivered body) o × Use (take (length body) (o .outputThen))
+
+-- either line
+abbrev pub OnEitherLine : Type 1
+OnEitherLine = List ℕ → List ℕ → (List ℕ → Type 0) → Type 0
+
+-- what an accepted send wrote is delivered, and a reader that is given the body put out answers 0 and leaves a struct that holds what
+-- was sent, padding zero
+abbrev pub StructSentIsDelivered : OnEitherLine → {A : Type 0} → Format A → Struct A → Type 0
+StructSentIsDelivered Delivers f s =
     (message buffer after : List ℕ) (w : OstrogoszWritten) → Octets message → length message ≡ structSize s
     → SendsStruct f (held s message) buffer w after → w .refusal ≡ 0
-    → (before later : List Observed) (o : Observed) → Line (before ++ o ∷ later)
-    → EndsIn (take (w .length) after) (upTo before o) → longestBody ≤ length (o .output)
-    → AnswersAs (delivered (bodyOf f (held s message))) o
-    × ((lent left : List ℕ) (r : ℕ) → ReadsInto f s (take (length (bodyOf f (held s message))) (o .outputThen)) lent r left
-    → (r ≡ 0) × (left ≡ stored s (held s message)))
+    → Delivers (take (w .length) after) (bodyOf f (held s message))
+    (λ (body : List ℕ). (lent left : List ℕ) (r : ℕ) → ReadsInto f s body lent r left → ReadsSame s message r left)
 
 -- the same of an uplink, whose payload is lent
-abbrev pub UplinkSentIsDelivered : Type 0
-UplinkSentIsDelivered =
+abbrev pub UplinkSentIsDelivered : OnEitherLine → Type 0
+UplinkSentIsDelivered Delivers =
     (payload buffer after : List ℕ) (w : OstrogoszWritten) → SendsUplink payload buffer w after → w .refusal ≡ 0
-    → (before later : List Observed) (o : Observed) → Line (before ++ o ∷ later)
-    → EndsIn (take (w .length) after) (upTo before o) → longestBody ≤ length (o .output)
-    → AnswersAs (delivered (uplinkBody payload)) o
-    × ((lent left : List ℕ) (r : ℕ) → ReadsUplink (take (length (uplinkBody payload)) (o .outputThen)) lent r left
-    → (r ≡ 0) × (left ≡ payload))
+    → Delivers (take (w .length) after) (uplinkBody payload)
+    (λ (body : List ℕ). (lent left : List ℕ) (r : ℕ) → ReadsUplink body lent r left → (r ≡ 0) × (left ≡ payload))
 
 -- every kind of the UCP line
-pub record LentSentIsDelivered : Type 0 where
-  pub heartbeat : StructSentIsDelivered heartbeatFormat heartbeatStruct
-  pub uplink : UplinkSentIsDelivered
-  pub ownship : StructSentIsDelivered (reportFormat 10) reportStruct
-  pub geometricAltitude : StructSentIsDelivered geometricFormat geometricStruct
-  pub traffic : StructSentIsDelivered (reportFormat 20) reportStruct
-  pub request : StructSentIsDelivered requestFormat requestStruct
-  pub control : StructSentIsDelivered controlFormat controlStruct
-  pub initialization : StructSentIsDelivered initializationFormat initializationStruct
+abbrev pub LentSentIsDelivered : OnEitherLine → Type 0
+LentSentIsDelivered Delivers = OfEachKind (λ A id k f s. StructSentIsDelivered Delivers f s) (UplinkSentIsDelivered Delivers)

@@ -10,30 +10,19 @@ use lib.ListN.{length, getD, drop}
 use Rattle.refusals.specs.Numbers as because
 use Rattle.field_format.specs.Format.{Format, fits, bodyOf}
 use Rattle.output_writing.specs.declared.OstrogoszWritten.{OstrogoszWritten}
-use Rattle.ucp_frame.specs.Frame.{frame, longestBody}
 use Rattle.ucp_messages.specs.declared.Kind.{Kind}
 use Rattle.ucp_messages.specs.declared.Kind.the-variants as kind
 use Rattle.ucp_messages.specs.Refusals.{UnknownId, HasKindLength, HasFixedOctets, fieldsInRange}
-use Rattle.ucp_messages.specs.Heartbeat0.{heartbeatFormat}
 use Rattle.ucp_messages.specs.Uplink7.{uplinkFits, uplinkBody}
-use Rattle.ucp_messages.specs.Report10.{reportFormat}
-use Rattle.ucp_messages.specs.GeometricAltitude11.{geometricFormat}
-use Rattle.ucp_messages.specs.Request44.{requestFormat}
-use Rattle.ucp_messages.specs.Control45.{controlFormat}
-use Rattle.ucp_messages.specs.Initialization117.{initializationFormat}
 use Rattle.c_lent.specs.Structs.{Struct}
 use Rattle.c_lent.specs.Reads.{ReadsInto}
 use Rattle.c_lent.specs.Writes.{WritesStructBody}
 use Rattle.c_lent.specs.Sends.{SendsStruct}
-use Rattle.c_ucp_heartbeat.specs.Struct.{heartbeatStruct}
 use Rattle.c_ucp_uplink.specs.Uplink.{ReadsUplink, WritesUplink, SendsUplink}
-use Rattle.c_ucp_report.specs.Struct.{reportStruct}
-use Rattle.c_ucp_geometric_altitude.specs.Struct.{geometricStruct}
-use Rattle.c_ucp_request.specs.Struct.{requestStruct}
-use Rattle.c_ucp_control.specs.Struct.{controlStruct}
-use Rattle.c_ucp_initialization.specs.Struct.{initializationStruct}
 use Rattle.c_ucp_ids.specs.declared.OstrogoszId.{OstrogoszId}
 use Rattle.c_ucp_ids.specs.Ids.{idDue}
+use Rattle.thm_c_ucp.specs.Writer.{FrameRefusals}
+use Rattle.thm_c_messages.specs.EachKind.{OfEachKind}
 
 -- ---- reading
 -- no octet, or another first octet than the kind's ID; and the other way
@@ -76,21 +65,11 @@ WriterRefuses {A} fit body Call =
     (a : A) (output after : List ℕ) (given : OstrogoszWritten) → Call a output given after
     → WriterRefusals because.field (fit a) (length (body a)) (body a) output given after
 
--- ---- sending: 13, then what the frame writer answers to the body: 7, then 8
+-- ---- sending: 13, then what the frame writer for C answers to the body and leaves, `FrameRefusals`: 7, then 8
 pub record SendRefusals (fit : Bool) (body buffer : List ℕ) (given : OstrogoszWritten) (after : List ℕ) : Type 0 where
   pub refuses13 : (given .refusal ≡ because.field) ↔ (fit ≡ false)
-  pub refuses7 : (given .refusal ≡ because.bodyLength) ↔ ((fit ≡ true) × ((length body ≡ 0) ⊎ (longestBody < length body)))
-  pub refuses8 :
-      (given .refusal ≡ because.outputLength)
-      ↔ ((fit ≡ true) × (1 ≤ length body) × (length body ≤ longestBody) × (length buffer < length (frame body)))
-  pub accepts :
-      (given .refusal ≡ 0)
-      ↔ ((fit ≡ true) × (1 ≤ length body) × (length body ≤ longestBody) × (length (frame body) ≤ length buffer))
-  pub no-other :
-      (given .refusal ≡ 0)
-      ⊎ ((given .refusal ≡ because.bodyLength) ⊎ ((given .refusal ≡ because.outputLength) ⊎ (given .refusal ≡ because.field)))
-  pub writes : given .refusal ≡ 0 → (given .length ≡ length (frame body)) × (after ≡ frame body ++ drop (length (frame body)) buffer)
-  pub leaves : (given .refusal ≡ 0 → ⊥) → (given .length ≡ 0) × (after ≡ buffer)
+  pub leaves : fit ≡ false → (given .length ≡ 0) × (after ≡ buffer)
+  pub frames : fit ≡ true → FrameRefusals body buffer given after
 
 abbrev pub SendRefuses : {A : Type 0} → (A → Bool) → (A → List ℕ) → (A → List ℕ → OstrogoszWritten → List ℕ → Type 0) → Type 0
 SendRefuses {A} fit body Call =
@@ -110,17 +89,10 @@ UplinkRefuses =
     × SendRefuses uplinkFits uplinkBody SendsUplink
 
 -- every kind of the UCP line
-pub record LentRefusals : Type 0 where
-  pub heartbeat : StructRefuses 0 kind.Heartbeat heartbeatFormat heartbeatStruct
-  pub uplink : UplinkRefuses
-  pub ownship : StructRefuses 10 kind.Ownship (reportFormat 10) reportStruct
-  pub geometricAltitude : StructRefuses 11 kind.GeometricAltitude geometricFormat geometricStruct
-  pub traffic : StructRefuses 20 kind.Traffic (reportFormat 20) reportStruct
-  pub request : StructRefuses 44 kind.Request requestFormat requestStruct
-  pub control : StructRefuses 45 kind.Control controlFormat controlStruct
-  pub initialization : StructRefuses 117 kind.Initialization initializationFormat initializationStruct
+abbrev pub LentRefusals : Type 0
+LentRefusals = OfEachKind (λ A id k f s. StructRefuses id k f s) UplinkRefuses
 
--- ---- the call that gives a body's ID: 10 for no octet or an ID of no kind, and no other refusal
+-- ---- the call that gives a body's ID: 10 for no octet or an ID of no kind, no other refusal, and beside it no ID
 abbrev pub IdRefuses : Type 0
 IdRefuses =
     (body : List ℕ) (given : OstrogoszId) → given ≡ idDue body
@@ -128,3 +100,4 @@ IdRefuses =
     × ((given .refusal ≡ 0) ↔ (UnknownId body → ⊥))
     × ((given .refusal ≡ 0) ⊎ (given .refusal ≡ because.unknownId))
     × (given .refusal ≡ 0 → given .id ≡ getD body 0 0)
+    × ((given .refusal ≡ 0 → ⊥) → given .id ≡ 0)

@@ -7,32 +7,24 @@ use lib.ListN.{length, take, drop}
 use Rattle.crc_polynomial.specs.Polynomial.{Octets}
 use Rattle.field_format.specs.Format.{Format}
 use Rattle.output_writing.specs.declared.OstrogoszWritten.{OstrogoszWritten}
-use Rattle.ucp_messages.specs.Heartbeat0.{heartbeatFormat}
-use Rattle.ucp_messages.specs.Report10.{reportFormat}
-use Rattle.ucp_messages.specs.GeometricAltitude11.{geometricFormat}
-use Rattle.ucp_messages.specs.Request44.{requestFormat}
-use Rattle.ucp_messages.specs.Control45.{controlFormat}
-use Rattle.ucp_messages.specs.Initialization117.{initializationFormat}
 use Rattle.c_lent.specs.Structs.{Struct, structSize, stored, held}
 use Rattle.c_lent.specs.Reads.{ReadsInto}
 use Rattle.c_lent.specs.Writes.{WritesStructBody}
-use Rattle.c_ucp_heartbeat.specs.Struct.{heartbeatStruct}
 use Rattle.c_ucp_uplink.specs.Uplink.{ReadsUplink, WritesUplink}
-use Rattle.c_ucp_report.specs.Struct.{reportStruct}
-use Rattle.c_ucp_geometric_altitude.specs.Struct.{geometricStruct}
-use Rattle.c_ucp_request.specs.Struct.{requestStruct}
-use Rattle.c_ucp_control.specs.Struct.{controlStruct}
-use Rattle.c_ucp_initialization.specs.Struct.{initializationStruct}
+use Rattle.thm_c_messages.specs.EachKind.{OfEachKind}
 
--- the writer accepted the message that a struct holds, and the reader is given the octets written: it answers 0, and its struct
--- holds the same, padding zero. (The struct's octets are octets, and as many as it has: as a running program's are, and antt's numbers
+-- a reader answered 0, and the struct that it left holds what the other does; with padding zero, that is all that it holds
+abbrev pub ReadsSame : {A : Type 0} → Struct A → List ℕ → ℕ → List ℕ → Type 0
+ReadsSame s message r left = (r ≡ 0) × (held s left ≡ held s message) × (left ≡ stored s (held s message))
+
+-- the writer accepted the message that a struct holds, and the reader is given the octets written: its struct holds the same. (The struct's octets are octets, and as many as it has: as a running program's are, and antt's numbers
 -- need not be.)
 abbrev pub StructReadsBack : {A : Type 0} → Format A → Struct A → Type 0
 StructReadsBack f s =
     (message output after before left : List ℕ) (w : OstrogoszWritten) (r : ℕ) → Octets message → length message ≡ structSize s
     → WritesStructBody f (held s message) output w after → w .refusal ≡ 0
     → ReadsInto f s (take (w .length) after) before r left
-    → (r ≡ 0) × (left ≡ stored s (held s message))
+    → ReadsSame s message r left
 
 -- the reader accepted a body, and the writer is given the struct that it left, and room: it writes the same octets
 abbrev pub StructWritesBack : {A : Type 0} → Format A → Struct A → Type 0
@@ -56,12 +48,5 @@ UplinkRoundTrips =
     → (w ≡ record { refusal = 0; length = length body }) × (after ≡ body ++ drop (length body) output))
 
 -- every kind of the UCP line
-pub record LentRoundTrips : Type 0 where
-  pub heartbeat : StructRoundTrips heartbeatFormat heartbeatStruct
-  pub uplink : UplinkRoundTrips
-  pub ownship : StructRoundTrips (reportFormat 10) reportStruct
-  pub geometricAltitude : StructRoundTrips geometricFormat geometricStruct
-  pub traffic : StructRoundTrips (reportFormat 20) reportStruct
-  pub request : StructRoundTrips requestFormat requestStruct
-  pub control : StructRoundTrips controlFormat controlStruct
-  pub initialization : StructRoundTrips initializationFormat initializationStruct
+abbrev pub LentRoundTrips : Type 0
+LentRoundTrips = OfEachKind (λ A id k f s. StructRoundTrips f s) UplinkRoundTrips

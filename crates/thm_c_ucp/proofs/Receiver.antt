@@ -1,27 +1,26 @@
 -- A linked line is a line in numbers, and what holds of lines is carried over. Assumes nothing.
 use mathlib.Core.Path.{_≡_, refl, sym, ap, subst, _∙_}
 use mathlib.Core.List.{List, [], _∷_, _++_, map, map-append, append-assoc}
-use Prim.Native.Nat.{ℕ}
+use Prim.Native.Nat.{ℕ, _≤_}
 use native.Mathlib.Omega.{arith}
-use lib.ListN.{getD, take}
+use lib.ListN.{length, getD, take}
 use Rattle.refusals.specs.Numbers as because
 use Rattle.ucp_frame.specs.Frame.{frame}
 use Rattle.ucp_frame.specs.Stretch.{Verdict, silent, refused, delivered}
-use Rattle.ucp_history.specs.History.{Call, answer}
+use Rattle.ucp_history.specs.History.{Call, cutAtFlags, openStretch, answer}
 use Rattle.ucp_receiver.specs.declared.Answer.{Answer}
-use Rattle.ucp_receiver.specs.declared.Answer.the-variants.{Nothing, Delivered, Refused}
 use Rattle.ucp_receiver.specs.declared.Record.{Record}
 use Rattle.ucp_receiver.specs.declared.Rest.{Rest}
-use Rattle.ucp_receiver.specs.Answers.{ReceiverAnswer, nothing, refusal, body, receiverAnswer, answerFor}
+use Rattle.ucp_receiver.specs.Answers.{refusal, receiverAnswer, answerFor}
 use Rattle.ucp_receiver.specs.Octet.{freshRecord, noOctets, Receives}
 use Rattle.crc_gdl90_strength.proofs.Caught.{strength}
-use Rattle.c_ucp_receiver.specs.Numbers.{phaseNumber, recordIn, recordNumbers, answerIn, answerKind, answerValue, OwnNumbers}
+use Rattle.c_ucp_receiver.specs.Numbers.{phaseNumber, recordIn, recordNumbers, answerIn, kindTold, valueTold, answerKind, answerValue, OwnNumbers}
 use Rattle.c_ucp_receiver.proofs.Numbers.{record-back, answer-back, receives}
 use Rattle.thm_ucp_receiver.specs.Line.{Observed, callOf, Runs, Line}
 use Rattle.thm_ucp_receiver.specs.Promises.{AnswersAs, CountsAs, StoreAs, putOut, Seen, seen, EndsIn, BodyLength, carrying}
-use Rattle.thm_ucp_receiver.proofs.Promises.{answers, counts, store-by-history, flag-clears, later-only}
+use Rattle.thm_ucp_receiver.proofs.Promises.{answers, stretch-is-answered, counts, store-by-history, flag-clears, later-only}
 use Rattle.thm_ucp_receiver.proofs.Frames.{put-out-is-frame, frame-is-put-out, wrong-check-refused}
-use Rattle.thm_c_ucp.specs.Receiver.{LinkedCall, LinkedRuns, LinkedLine, inNumbers, LinkedLines, linkedCallOf, kindDue, valueDue, LinkedAnswersAs, LinkedAnswersByHistory, LinkedCountsByHistory, LinkedStoreByHistory, LinkedFlagClears, LinkedSeen, linkedSeen, LinkedLaterOnly, LinkedPutOutIsFrame, LinkedFrameIsPutOut, LinkedReceiverLists}
+use Rattle.thm_c_ucp.specs.Receiver.{LinkedCall, LinkedRuns, LinkedLine, inNumbers, LinkedLines, linkedCallOf, LinkedAnswersAs, LinkedAnswersByHistory, LinkedStretchIsAnswered, LinkedCountsByHistory, LinkedStoreByHistory, LinkedFlagClears, LinkedSeen, linkedSeen, LinkedLaterOnly, LinkedPutOutIsFrame, LinkedFrameIsPutOut, LinkedReceiverLists}
 
 -- ---- the calls that the numbers stand for
 
@@ -107,45 +106,24 @@ history : (cs : List LinkedCall) → map callOf (map observedIn cs) ≡ map link
 history [] = refl
 history (c ∷ cs) = ap (λ (h : List Call). linkedCallOf c ∷ h) (history cs)
 
--- the numbers of an answer that says this
-abbrev pub kindTold : ReceiverAnswer → ℕ
-kindTold nothing = 0
-kindTold (body octets) = 1
-kindTold (refusal number) = 2
-
-abbrev valueTold : ReceiverAnswer → ℕ
-valueTold nothing = 0
-valueTold (body octets) = octets
-valueTold (refusal number) = number
-
-pub told : (a : Answer) → (answerKind a ≡ kindTold (receiverAnswer a)) × (answerValue a ≡ valueTold (receiverAnswer a))
-told Nothing = (refl, refl)
-told (Delivered octets) = (refl, refl)
-told (Refused number) = (refl, refl)
-
-told-due : (v : Verdict) → (kindTold (answerFor v) ≡ kindDue v) × (valueTold (answerFor v) ≡ valueDue v)
-told-due silent = (refl, refl)
-told-due (delivered octets) = (refl, refl)
-told-due (refused number) = (refl, refl)
-
 pub answer-numbers : (a b : Answer) → receiverAnswer a ≡ receiverAnswer b → (answerKind a ≡ answerKind b) × (answerValue a ≡ answerValue b)
-answer-numbers a b e =
-    (told a .0 ∙ ap kindTold e ∙ sym (told b .0), told a .1 ∙ ap valueTold e ∙ sym (told b .1))
+answer-numbers a b e = (ap kindTold e, ap valueTold e)
 
 linked-as : (c : LinkedCall) (v : Verdict) → OwnNumbers (c .lineAfter) (c .kind) (c .value) → AnswersAs v (observedIn c) → LinkedAnswersAs v c
 linked-as c v own a =
-    let t = told (answerIn (c .kind) (c .value)) in
-    record {
-      kind = own .kind ∙ t .0 ∙ ap kindTold (a .tells) ∙ told-due v .0;
-      value = own .value ∙ t .1 ∙ ap valueTold (a .tells) ∙ told-due v .1;
-      puts = a .puts;
-    }
+    record { kind = own .kind ∙ ap kindTold (a .tells); value = own .value ∙ ap valueTold (a .tells); puts = a .puts }
 
 pub linked-answers : LinkedAnswersByHistory
 linked-answers before after c l =
     linked-as c _ (own-numbers before after c (l .store) (l .line) (l .runs))
     (subst (λ (h : List Call). AnswersAs (answer h (linkedCallOf c)) (observedIn c)) (history before)
     (answers (map observedIn before) (map observedIn after) (observedIn c) (split-line before after c l)))
+
+pub linked-stretch-is-answered : LinkedStretchIsAnswered
+linked-stretch-is-answered before after c l e some quiet =
+    stretch-is-answered (map observedIn before) (map observedIn after) (observedIn c) (split-line before after c l) e
+    (subst (λ (h : List Call). 1 ≤ length (openStretch (cutAtFlags h .flags))) (sym (history before)) some)
+    (ap (λ (n : ℕ). receiverAnswer (answerIn n (c .value))) quiet)
 
 pub linked-counts : LinkedCountsByHistory
 linked-counts before after c l =
@@ -181,8 +159,8 @@ seen-told c =
     let a : Answer = answerIn (c .kind) (c .value) in
     λ i.
     record {
-      kind = told a .0 i;
-      value = told a .1 i;
+      kind = answerKind a;
+      value = answerValue a;
       octets = putOut (receiverAnswer (answer-back a i)) (c .outputThen);
     }
 

@@ -13,14 +13,14 @@ use Rattle.ucp_receiver.specs.declared.Rest.{Rest}
 use Rattle.ucp_receiver.specs.Answers.{nothing, receiverAnswer, answerFor, outputAtFlag}
 use Rattle.ucp_receiver.specs.Octet.{State, stateAfter, verdictDue, countsAfter, freshRecord, noOctets, Receives}
 use Rattle.ucp_receiver.specs.Slice.{SliceRun, sliceRun, endAt, Takes}
-use Rattle.c_ucp_receiver.specs.Numbers.{phaseNumber, recordIn, recordNumbers, answerIn, answerKind, answerValue, OwnNumbers}
+use Rattle.c_ucp_receiver.specs.Numbers.{phaseNumber, recordIn, recordNumbers, answerIn, kindTold, answerKind, answerValue, OwnNumbers}
 use Rattle.c_ucp_receiver.proofs.Numbers.{record-back, takes}
 use Rattle.thm_ucp_receiver.specs.Line.{Observed}
 use Rattle.thm_ucp_receiver.specs.Slice.{ObservedSlice, SlicesRun, SliceLine, gathered, sliceOctets, roomsOf, AllSilent, EndsAsSlice}
 use Rattle.thm_ucp_receiver.proofs.Slice.{slice-is-octets, silence-due, slice-flag-clears, slice-is-call}
 use Rattle.thm_c_ucp.specs.Receiver.{LinkedCall, LinkedLine, inNumbers}
 use Rattle.thm_c_ucp.specs.Slices.{LinkedSlice, LinkedTake, byOctet, bySlice, LinkedTakes, LinkedSliceLine, sliceInNumbers, asSlice, LinkedSliceLines, LinkedSliceTakesAll, LinkedSliceFlagClears, linkedTaken, linkedRooms, AllLinkedSilent, LinkedSliceIsCall}
-use Rattle.thm_c_ucp.proofs.Receiver.{linked-lines, kindTold, told, answer-numbers}
+use Rattle.thm_c_ucp.proofs.Receiver.{linked-lines, answer-numbers}
 
 -- ---- an octet is a slice of one
 
@@ -185,7 +185,7 @@ map-numbers f (o ∷ os) = ap (λ (l : List ℕ). f (inNumbers o) ∷ l) (map-nu
 
 silent-numbers : (os : List Observed) → AllSilent os → AllLinkedSilent (map inNumbers os)
 silent-numbers [] a = tt
-silent-numbers (o ∷ os) a = (told (o .given .answer) .0 ∙ ap kindTold (a .0), silent-numbers os (a .1))
+silent-numbers (o ∷ os) a = (ap kindTold (a .0), silent-numbers os (a .1))
 
 pub linked-slice-is-call : LinkedSliceIsCall
 linked-slice-is-call before after t l some =

@@ -2,21 +2,23 @@
 use mathlib.Core.Path.{_≡_, refl, sym, ap, ap₂, _∙_}
 use mathlib.Core.List.{List, [], _∷_, _++_, map}
 use mathlib.Core.Logic.{_⊎_, inl, inr}
-use Prim.Native.Nat.{ℕ}
+use Prim.Native.Nat.{ℕ, _≤_}
 use native.Mathlib.Omega.{arith}
 use borrow.Author.Tests.{ne-eqb}
+use lib.ListN.{length}
 use Rattle.output_writing.specs.declared.Written.{Written}
 use Rattle.output_writing.specs.declared.Written.the-variants.{Wrote, Refused}
 use Rattle.output_writing.specs.declared.OstrogoszWritten.{OstrogoszWritten}
-use Rattle.output_writing.specs.Writing.{WriterAnswer, refused, wrote, writerAnswer, outputAfter, writtenNumbers}
-use Rattle.ucp_frame.specs.Frame.{frame, framesOf}
+use Rattle.output_writing.specs.Writing.{WriterAnswer, refused, wrote, writerAnswer, outputAfter, writtenNumbers, WritingNumbers}
+use Rattle.ucp_frame.specs.Frame.{frame, framesOf, longestBody}
 use Rattle.ucp_writer.specs.Room.{frameDue}
 use Rattle.ucp_writer.specs.Writes.{WritesFrame}
-use Rattle.ucp_writer.proofs.room.Due.{refused-so}
+use Rattle.ucp_writer.specs.Refusals.{WrongBodyLength}
+use Rattle.ucp_writer.proofs.room.Due.{accepted-so, refused-so, refused-7, refused-8}
 use Rattle.c_ucp_frames.specs.Frames.{WritesFrameNumbers}
 use Rattle.thm_ucp_writer.specs.Calls.{WriterCall, adds, accepts, lineOctets, acceptedBodies}
 use Rattle.thm_ucp_writer.proofs.Calls.{writer-lists}
-use Rattle.thm_c_ucp.specs.Writer.{LinkedWrite, LinkedWrites, writeInNumbers, AreWrites, LinkedWriter, linkedAdds, linkedAccepts, linkedOctets, linkedBodies, LinkedWriterLists}
+use Rattle.thm_c_ucp.specs.Writer.{LinkedWrite, LinkedWrites, writeInNumbers, AreWrites, LinkedWriter, linkedAdds, linkedAccepts, linkedOctets, linkedBodies, FrameRefusals, LinkedWriterRefuses, LinkedWriterLists}
 
 -- ---- the calls that the numbers stand for
 
@@ -122,6 +124,63 @@ answered : (before after : List LinkedWrite) (w : LinkedWrite) → LinkedWrites 
     → w .given ≡ writtenNumbers (frameDue (w .body) (w .output))
 answered [] after w m = m .0 .answers
 answered (b ∷ before) after w m = answered before after w (m .1)
+
+-- ---- one call
+
+module _ (body output : List ℕ) (given : OstrogoszWritten) (after : List ℕ) where
+  clash : {C : Type 0} → WrongBodyLength body → 1 ≤ length body → length body ≤ longestBody → C
+  clash (inl none) least most = absurd (omega arith)
+  clash (inr many) least most = absurd (omega arith)
+
+  framed : (due : WriterAnswer) → frameDue body output ≡ due → given ≡ writtenNumbers due → after ≡ outputAfter (frame body) output due
+      → FrameRefusals body output given after
+  framed (refused number) e a l = go (refused-so body output number (sym e))
+    where
+      is-refused : given .refusal ≡ number
+      is-refused = ap (λ (o : OstrogoszWritten). o .refusal) a
+
+      go : (number ≡ 7) ⊎ (number ≡ 8) → FrameRefusals body output given after
+      go (inl n) =
+          let r : given .refusal ≡ 7 = is-refused ∙ n in
+          let c = refused-7 body output .0 (e ∙ ap refused n) in
+          record {
+            refuses7 = (λ h. c, λ h. r);
+            refuses8 = (λ h. absurd (omega arith), λ h. clash c (h .0) (h .1));
+            accepts = (λ h. absurd (omega arith), λ h. clash c (h .0) (h .1));
+            no-other = inr (inl r);
+            writes = λ h. absurd (omega arith);
+            leaves = λ h. (ap (λ (o : OstrogoszWritten). o .length) a, l);
+          }
+      go (inr n) =
+          let r : given .refusal ≡ 8 = is-refused ∙ n in
+          let c = refused-8 body output .0 (e ∙ ap refused n) in
+          record {
+            refuses7 = (λ h. absurd (omega arith), λ h. clash h (c .0) (c .1));
+            refuses8 = (λ h. c, λ h. r);
+            accepts = (λ h. absurd (omega arith), λ h. absurd (omega (arith, h .2, c .2)));
+            no-other = inr (inr r);
+            writes = λ h. absurd (omega arith);
+            leaves = λ h. (ap (λ (o : OstrogoszWritten). o .length) a, l);
+          }
+  framed (wrote octets) e a l =
+      let r : given .refusal ≡ 0 = ap (λ (o : OstrogoszWritten). o .refusal) a in
+      let c = accepted-so body output octets (sym e) in
+      record {
+        refuses7 = (λ h. absurd (omega arith), λ h. clash h (c .least) (c .most));
+        refuses8 = (λ h. absurd (omega arith), λ h. absurd (omega (arith, h .2, c .room)));
+        accepts = (λ h. (c .least, c .most, c .room), λ h. r);
+        no-other = inl r;
+        writes = λ h. rw (c .exact) (ap (λ (o : OstrogoszWritten). o .length) a, l);
+        leaves = λ h. absurd (h r);
+      }
+
+  pub frame-refusals : WritingNumbers (frameDue body output) (frame body) output given after → FrameRefusals body output given after
+  frame-refusals call = framed (frameDue body output) refl (call .answers) (call .leaves)
+
+pub linked-writer-refuses : LinkedWriterRefuses
+linked-writer-refuses body output after given call = frame-refusals body output given after call
+
+-- ---- whole lists
 
 pub linked-writer-lists : LinkedWriterLists
 linked-writer-lists =

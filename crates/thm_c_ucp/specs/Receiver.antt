@@ -8,12 +8,12 @@ use Prim.Native.Nat.{ℕ, _<_, _≤_}
 use lib.ListN.{length, getD, take}
 use Rattle.refusals.specs.Numbers as because
 use Rattle.ucp_frame.specs.Frame.{flag, frame, longestBody}
-use Rattle.ucp_frame.specs.Stretch.{Verdict, silent, refused, delivered}
-use Rattle.ucp_history.specs.History.{Call, answer}
-use Rattle.ucp_receiver.specs.Answers.{receiverAnswer, outputAtFlag}
+use Rattle.ucp_frame.specs.Stretch.{Verdict, refused}
+use Rattle.ucp_history.specs.History.{Call, cutAtFlags, openStretch, answer}
+use Rattle.ucp_receiver.specs.Answers.{receiverAnswer, answerFor, outputAtFlag}
 use Rattle.ucp_receiver.specs.Octet.{noOctets}
 use Rattle.crc_gdl90_strength.specs.Strength.{TwoBodies, AtMostThreeBits, Within16Bits}
-use Rattle.c_ucp_receiver.specs.Numbers.{restIn, countsIn, recordNumbers, answerIn, answerKind, answerValue, ReceivesNumbers, StartsNumbers}
+use Rattle.c_ucp_receiver.specs.Numbers.{restIn, countsIn, recordNumbers, answerIn, kindTold, valueTold, answerKind, answerValue, ReceivesNumbers, StartsNumbers}
 use Rattle.thm_ucp_receiver.specs.Line.{Observed, Line}
 use Rattle.thm_ucp_receiver.specs.Promises.{CountsAs, StoreAs, putOut, EndsIn, BodyLength, frameAnswer, carrying}
 
@@ -78,20 +78,10 @@ linkedCallOf c = record { octet = c .octet; room = length (c .output) }
 abbrev pub linkedUpTo : List LinkedCall → LinkedCall → List Call
 linkedUpTo before c = map linkedCallOf before ++ (linkedCallOf c ∷ [])
 
--- the two numbers of the answer that is due
-abbrev pub kindDue : Verdict → ℕ
-kindDue silent = 0
-kindDue (delivered body) = 1
-kindDue (refused number) = 2
-
-abbrev pub valueDue : Verdict → ℕ
-valueDue silent = 0
-valueDue (delivered body) = length body
-valueDue (refused number) = number
-
+-- the two numbers of the answer that is due, and its output
 pub record LinkedAnswersAs (v : Verdict) (c : LinkedCall) : Type 0 where
-  pub kind : c .kind ≡ kindDue v
-  pub value : c .value ≡ valueDue v
+  pub kind : c .kind ≡ kindTold (answerFor v)
+  pub value : c .value ≡ valueTold (answerFor v)
   pub puts : c .outputThen ≡ outputAtFlag v (c .output)
 
 -- every call answers as the rules say of the calls before it
@@ -99,6 +89,12 @@ abbrev pub LinkedAnswersByHistory : Type 0
 LinkedAnswersByHistory =
     (before after : List LinkedCall) (c : LinkedCall) → LinkedLine (before ++ c ∷ after)
     → LinkedAnswersAs (answer (map linkedCallOf before) (linkedCallOf c)) c
+
+-- a flag that closes a stretch with an octet in it is answered
+abbrev pub LinkedStretchIsAnswered : Type 0
+LinkedStretchIsAnswered =
+    (before after : List LinkedCall) (c : LinkedCall) → LinkedLine (before ++ c ∷ after) → c .octet ≡ flag
+    → 1 ≤ length (openStretch (cutAtFlags (map linkedCallOf before) .flags)) → c .kind ≡ 0 → ⊥
 
 -- after every call the five counts among the line's numbers are the history's
 abbrev pub LinkedCountsByHistory : Type 0

@@ -3,13 +3,16 @@
 use mathlib.Core.Path.{_≡_}
 use mathlib.Core.Bool.{cond}
 use mathlib.Core.List.{List, [], _∷_, _++_, map}
+use mathlib.Core.Logic.{_⊎_, _↔_}
 use Prim.Native.Nat.{ℕ}
 use lib.Dec.{eqb}
-use lib.ListN.{take}
+use lib.ListN.{length, take, drop}
+use Rattle.refusals.specs.Numbers as because
 use Rattle.output_writing.specs.declared.OstrogoszWritten.{OstrogoszWritten}
 use Rattle.output_writing.specs.Writing.{writerAnswer, writtenNumbers}
-use Rattle.ucp_frame.specs.Frame.{framesOf}
+use Rattle.ucp_frame.specs.Frame.{frame, framesOf}
 use Rattle.ucp_writer.specs.Room.{frameDue}
+use Rattle.ucp_writer.specs.Refusals.{WrongBodyLength, NoRoomForFrame, RoomForFrame}
 use Rattle.c_ucp_frames.specs.Frames.{WritesFrameNumbers}
 use Rattle.thm_ucp_writer.specs.Calls.{WriterCall, DifferInNumberOrOctet}
 
@@ -55,6 +58,22 @@ linkedOctets (w ∷ ws) = linkedAdds (w .given) (w .after) ++ linkedOctets ws
 abbrev pub linkedBodies : List LinkedWrite → List (List ℕ)
 linkedBodies [] = []
 linkedBodies (w ∷ ws) = linkedAccepts (w .given) (w .body) ++ linkedBodies ws
+
+-- ---- one call: 7, then 8, each exactly when and no other; a refusal's number, no length and the output as it was, or the frame
+
+pub record FrameRefusals (body output : List ℕ) (given : OstrogoszWritten) (after : List ℕ) : Type 0 where
+  pub refuses7 : (given .refusal ≡ because.bodyLength) ↔ WrongBodyLength body
+  pub refuses8 : (given .refusal ≡ because.outputLength) ↔ NoRoomForFrame body output
+  pub accepts : (given .refusal ≡ 0) ↔ RoomForFrame body output
+  pub no-other : (given .refusal ≡ 0) ⊎ ((given .refusal ≡ because.bodyLength) ⊎ (given .refusal ≡ because.outputLength))
+  pub writes : given .refusal ≡ 0 → (given .length ≡ length (frame body)) × (after ≡ frame body ++ drop (length (frame body)) output)
+  pub leaves : (given .refusal ≡ 0 → ⊥) → (given .length ≡ 0) × (after ≡ output)
+
+abbrev pub LinkedWriterRefuses : Type 0
+LinkedWriterRefuses =
+    (body output after : List ℕ) (given : OstrogoszWritten) → WritesFrameNumbers body output given after → FrameRefusals body output given after
+
+-- ---- whole lists
 
 -- demand 3, the writer, one claim about whole lists of linked calls, as `WriterLists` is of the frame writer's
 pub record LinkedWriterLists : Type 0 where

@@ -4,7 +4,7 @@ use mathlib.Core.Bool.{Bool, true, false, cond}
 use mathlib.Core.List.{List, [], _∷_, _++_}
 use Prim.Native.Nat.{ℕ, zero, suc, _+_, _-_, _≤_}
 use native.Mathlib.Omega.{arith}
-use borrow.Author.Tests.{eqb-true, eq-eqb, le-ltb}
+use borrow.Author.Tests.{eqb-true, eq-eqb, le-ltb, lt-ltb}
 use lib.Dec.{eqb, ltb}
 use lib.ListN.{length, take, drop}
 use lib.Seq.{take-at, getD-drop}
@@ -35,6 +35,7 @@ use Rattle.mavlink_messages.specs.Messages.{MavlinkAnswer, idOf, payloadOf, inR
 use Rattle.thm_mavlink_messages.specs.RoundTrips.{MavlinkTyped, MavlinkReadIsTyped, MavlinkReadsBack, MavlinkWritesBack}
 use Rattle.thm_mavlink_messages.proofs.Frames.{whole, whole-is, frame-found, frame-payload, accepted-frame, payload-length, frame-length}
 use Rattle.field_format.proofs.Formats.{value-back, value-typed, body-again}
+use Rattle.mavlink_messages.proofs.Written.{address-fits}
 use Rattle.mavlink_messages.proofs.Formats.{dataStream-right, static-right, dynamic-right, status-right, traffic-right}
 
 -- ---- the kind of a message, as the table has it
@@ -73,16 +74,17 @@ frame-is : (m : Message) (h : Header) → messageFrame m h ≡ mavlinkFrame (kin
 frame-is m h = ap (λ l. frameBy l h (payloadOf m)) (ap mavlinkKind (sym (same-id m)) ∙ in-table m)
 
 -- ---- a written frame reads back equal
-payload-back : (m : Message) (h : Header) (used : ℕ) → MavlinkTyped m → payloadRead (idOf m) h used (payloadOf m) ≡ messageJudged h used m
-payload-back (DataStream d) h used t = ap (λ x. messageJudged h used (DataStream x)) (value-back dataStreamFormat dataStream-right d t refl)
-payload-back (Static s) h used t = ap (λ x. messageJudged h used (Static x)) (value-back staticFormat static-right s t refl)
-payload-back (Dynamic d) h used t = ap (λ x. messageJudged h used (Dynamic x)) (value-back dynamicFormat dynamic-right d t refl)
-payload-back (Status s) h used t = ap (λ x. messageJudged h used (Status x)) (value-back statusFormat status-right s t refl)
-payload-back (Traffic t) h used e = ap (λ x. messageJudged h used (Traffic x)) (value-back trafficFormat traffic-right t e refl)
+payload-back : (m : Message) (h : Header) (used : ℕ) → MavlinkTyped m → inRange m ≡ true → payloadRead (idOf m) h used (payloadOf m) ≡ messageJudged h used m
+payload-back (DataStream d) h used t r = ap (λ x. messageJudged h used (DataStream x)) (value-back dataStreamFormat dataStream-right d t refl)
+payload-back (Static s) h used t r =
+    ap (λ x. messageJudged h used (Static x)) (value-back staticFormat static-right s t (lt-ltb (s .icao) 0x1000000 (address-fits {m = Static s} {s = s} refl r)))
+payload-back (Dynamic d) h used t r = ap (λ x. messageJudged h used (Dynamic x)) (value-back dynamicFormat dynamic-right d t refl)
+payload-back (Status s) h used t r = ap (λ x. messageJudged h used (Status x)) (value-back statusFormat status-right s t refl)
+payload-back (Traffic t) h used e r = ap (λ x. messageJudged h used (Traffic x)) (value-back trafficFormat traffic-right t e refl)
 
-frame-back : (m : Message) (h : Header) (rest : List ℕ) → MavlinkTyped m
+frame-back : (m : Message) (h : Header) (rest : List ℕ) → MavlinkTyped m → inRange m ≡ true
     → readDue (messageFrame m h ++ rest) ≡ messageJudged h (kindFor m .length + 8) m
-frame-back m h rest t =
+frame-back m h rest t r =
     let k = kindFor m in
     let p = payloadOf m in
     let n : k .length + 8 - 8 ≡ k .length = omega arith in
@@ -90,7 +92,7 @@ frame-back m h rest t =
     ∙ ap (λ f. readBy f (whole k h p rest (in-table m) (octets-length m))) (frame-found k h p rest (in-table m) (octets-length m))
     ∙ ap₂ (λ (id : ℕ) (q : List ℕ). payloadRead id h (k .length + 8) q) (same-id m)
     (ap (λ (j : ℕ). payloadAt j (whole k h p rest (in-table m) (octets-length m))) n ∙ frame-payload k h p rest (in-table m) (octets-length m))
-    ∙ payload-back m h (k .length + 8) t
+    ∙ payload-back m h (k .length + 8) t r
 
 -- an accepted call: the message is in range, and the answer is the frame's length
 accepted-call : (t : Bool) (octets : ℕ) (output : List ℕ) (n : ℕ)
@@ -106,7 +108,7 @@ pub written-reads-back : MavlinkReadsBack
 written-reads-back m h output after n t w =
     let a = accepted-call (inRange m) (length (payloadOf m) + 8) output n (w .answers) in
     let e : kindFor m .length + 8 ≡ n = ap (λ (k : ℕ). k + 8) (sym (octets-length m)) ∙ sym (a .1) in
-    ap readDue (w .leaves) ∙ frame-back m h (drop n output) t ∙ ap (λ (k : ℕ). messageJudged h k m) e ∙ rw (a .0)
+    ap readDue (w .leaves) ∙ frame-back m h (drop n output) t (a .0) ∙ ap (λ (k : ℕ). messageJudged h k m) e ∙ rw (a .0)
 
 -- ---- an accepted frame writes back to the same octets
 record Carried (id : ℕ) (p : List ℕ) (h : Header) (used : ℕ) (h′ : Header) (used′ : ℕ) (m : Message) : Type 0 where
@@ -230,13 +232,19 @@ accepted-writes-back s h used m f o e = go (found s) refl e
     go (found-as.refused number) q d = let z : _≡_ {A = ℕ} 0 1 = cc in absurd (omega arith)
     go (found-as.frame id h₀ used₀) q d = written-again s h used m f o id h₀ used₀ (accepted s id h₀ used₀ q) d
 
--- ---- what the reader gives is a value of its type
-pub read-is-typed : MavlinkReadIsTyped
-read-is-typed s h used m f o e = go (found s) refl e
+-- ---- what the reader gives is a value of its type, and in range
+pub read-typed-in-range : (s : List ℕ) (h : Header) (used : ℕ) (m : Message) (f : FailureAnswer) → Octets s
+    → readDue s ≡ read-as.means h used m f → MavlinkTyped m × (inRange m ≡ true)
+read-typed-in-range s h used m f o e = go (found s) refl e
   where
-    go : (l : FrameAnswer) → found s ≡ l → readBy l s ≡ read-as.means h used m f → MavlinkTyped m
+    go : (l : FrameAnswer) → found s ≡ l → readBy l s ≡ read-as.means h used m f → MavlinkTyped m × (inRange m ≡ true)
     go (found-as.refused number) q d = let z : _≡_ {A = ℕ} 0 1 = cc in absurd (omega arith)
-    go (found-as.frame id h₀ used₀) q d = is-carried s h used m f o id h₀ used₀ (accepted s id h₀ used₀ q) d .typed
+    go (found-as.frame id h₀ used₀) q d =
+        let c = is-carried s h used m f o id h₀ used₀ (accepted s id h₀ used₀ q) d in
+        (c .typed, c .ranges)
+
+pub read-is-typed : MavlinkReadIsTyped
+read-is-typed s h used m f o e = read-typed-in-range s h used m f o e .0
 
 -- ---- its header is that of the frame, which is there
 pub header-read : (s : List ℕ) (h : Header) (used : ℕ) (m : Message) (f : FailureAnswer) → Octets s → readDue s ≡ read-as.means h used m f

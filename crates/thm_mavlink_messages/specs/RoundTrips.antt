@@ -20,8 +20,7 @@ use Rattle.mavlink_messages.specs.Status203.{statusFormat}
 use Rattle.mavlink_messages.specs.Traffic246.{trafficFormat}
 use Rattle.mavlink_messages.specs.Messages.{failuresOf, readDue, writeDue, messageFrame}
 
--- the fields are values of their types: as a running program's are, and antt's numbers need not be. (That an address of
--- 201 has 24 bits its type does not say; the writer refuses any other.)
+-- the fields are values of their types: as a running program's are, and antt's numbers need not be
 abbrev pub MavlinkTyped : Message → Type 0
 MavlinkTyped (DataStream d) = TypedAs dataStreamFormat d
 MavlinkTyped (Static s) = TypedAs staticFormat s

@@ -1,20 +1,17 @@
 // What holds of MAVLink's reader and writers together, and worked examples: stated in specs/, proved in proofs/. The functions do
-// nothing: their contracts say that every message in range that a program holds meets what the theorems ask of it.
+// nothing: their contracts say that every message that a program holds meets what the theorems ask of it.
 use mavlink_messages::DataStream;
 use mavlink_messages::Dynamic;
 use mavlink_messages::Message;
 use mavlink_messages::Static;
 use mavlink_messages::Status;
 use mavlink_messages::Traffic;
-ghost use mathlib.Core.Path.{_≡_};
-ghost use mathlib.Core.Bool.{true};
 ghost use Rattle.field_format.specs.Format.{TypedAs};
 ghost use Rattle.mavlink_messages.specs.DataStream66.{dataStreamFormat};
 ghost use Rattle.mavlink_messages.specs.Static201.{staticFormat};
 ghost use Rattle.mavlink_messages.specs.Dynamic202.{dynamicFormat};
 ghost use Rattle.mavlink_messages.specs.Status203.{statusFormat};
 ghost use Rattle.mavlink_messages.specs.Traffic246.{trafficFormat};
-ghost use Rattle.mavlink_messages.specs.Messages.{inRange};
 ghost use Rattle.thm_mavlink_messages.specs.RoundTrips.{MavlinkTyped};
 
 // ---- one kind
@@ -23,9 +20,8 @@ fn data_stream_typed(data_stream: DataStream)
     ensures { λ r. ⌜ TypedAs dataStreamFormat data_stream ⌝ }
 {}
 
-// An address of 201 has 24 bits by its range, not by its type.
 fn static_typed(static_data: Static)
-    ensures { λ r. ⌜ (staticFormat .ranges static_data ≡ true → TypedAs staticFormat static_data) ⌝ }
+    ensures { λ r. ⌜ TypedAs staticFormat static_data ⌝ }
 {}
 
 fn dynamic_typed(dynamic: Dynamic)
@@ -40,9 +36,9 @@ fn traffic_typed(traffic: Traffic)
     ensures { λ r. ⌜ TypedAs trafficFormat traffic ⌝ }
 {}
 
-// Every message that is in range is a value of its type.
+// Every message is a value of its type.
 pub fn typed(message: Message)
-    ensures { λ r. ⌜ (inRange message ≡ true → MavlinkTyped message) ⌝ }
+    ensures { λ r. ⌜ MavlinkTyped message ⌝ }
 {
     match message {
         Message::DataStream(data_stream) => data_stream_typed(data_stream),

@@ -8,7 +8,7 @@ use Rattle.crc_polynomial.specs.Polynomial.{bitsOfOctets, bitsOf, divided, step
 use Rattle.crc_gdl90.specs.Check.{frameCheck}
 use Rattle.ucp_frame.specs.Frame.{escaped, stuffed, frame}
 use Rattle.ucp_frame.specs.Stretch.{unstuffed, atFlag, judged, verdict}
-use Rattle.ucp_history.specs.History.{cutAtFlags, closingVerdict, answer}
+use Rattle.ucp_history.specs.History.{cutAtFlags, openStretch, answer}
 use Rattle.ucp_receiver.specs.Octet.{storing, stateAfter, verdictDue, countsAfter}
 use Rattle.ucp_receiver.specs.Slice.{sliceRun}
 use Rattle.output_writing.specs.declared.Written.{Written}
@@ -18,7 +18,7 @@ use Rattle.ucp_writer.specs.Writes.{WritesFrame}
 use Rattle.crc_gdl90_strength.proofs.Premises.{octets}
 use Rattle.thm_ucp_receiver.proofs.Lines.{every-line}
 use Rattle.thm_ucp_writer.specs.Calls.{WriterCall, lineOctets, acceptedBodies}
-use Rattle.thm_ucp_examples.specs.LinePremises.{shortBody, beforeFrame, shortFrame, writerOutput, firstSlice, secondSlice, EndsInMet, SliceLineMet, WriterCallMet}
+use Rattle.thm_ucp_examples.specs.LinePremises.{shortBody, beforeFrame, shortFrame, writerOutput, firstSlice, secondSlice, EndsInMet, StretchMet, SliceLineMet, WriterCallMet}
 
 -- ---- the last octet of a line
 
@@ -33,10 +33,14 @@ last-behind (x ∷ []) y ys = refl
 last-behind (x ∷ z ∷ zs) y ys = last-behind (z ∷ zs) y ys
 
 pub ends-in-met : EndsInMet
-unfolding bitsOfOctets bitsOf divided step reduced frameCheck escaped stuffed frame unstuffed atFlag judged verdict cutAtFlags closingVerdict answer
+unfolding bitsOfOctets bitsOf divided step reduced frameCheck escaped stuffed frame unstuffed atFlag judged verdict cutAtFlags openStretch answer
 ends-in-met =
     record {
       bodyLength = record { least = omega arith; most = omega arith };
+      shortest = record { least = omega arith; most = omega arith };
+      longest = record { least = omega arith; most = omega arith };
+      notEmpty = λ b. omega (arith, b .least);
+      notLonger = λ b. omega (arith, b .most);
       ends = record { earlier = beforeFrame; parts = refl };
       line = every-line _ (octets (beforeFrame ++ frame shortBody) refl);
       answered = refl;
@@ -47,6 +51,10 @@ ends-in-met =
       wrongCheck = refl;
     }
 
+pub stretch-met : StretchMet
+unfolding cutAtFlags openStretch
+stretch-met = record { hunts = refl; hunted = refl; twoOctets = refl; oneOctet = refl; noOctet = refl }
+
 pub slice-line-met : SliceLineMet
 unfolding bitsOfOctets bitsOf divided step reduced frameCheck atFlag sliceRun stateAfter verdictDue countsAfter storing
 slice-line-met =
@@ -55,6 +63,7 @@ slice-line-met =
         (octets (firstSlice .line) refl, record { state = refl; account = refl; taken = refl; answers = refl; puts = refl }),
         ((octets (secondSlice .line) refl, record { state = refl; account = refl; taken = refl; answers = refl; puts = refl }), tt),
       );
+      endsInFlag = refl;
       notAlone = λ l. let z : _≡_ {A = ℕ} 3 4 = l .0 .1 .taken in omega arith;
     }
 

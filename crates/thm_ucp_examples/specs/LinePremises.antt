@@ -3,12 +3,12 @@
 use mathlib.Core.Path.{_≡_}
 use mathlib.Core.List.{List, [], _∷_, _++_, map}
 use Prim.Native.Nat.{ℕ, _-_}
-use lib.ListN.{length, replicate}
+use lib.ListN.{length, take, replicate}
 use Rattle.refusals.specs.Numbers as because
 use Rattle.output_writing.specs.declared.Written.the-variants.{Wrote, Refused as NotWritten}
 use Rattle.ucp_frame.specs.Frame.{frame}
 use Rattle.ucp_frame.specs.Stretch.{delivered, refused, storeOctets}
-use Rattle.ucp_history.specs.History.{answer}
+use Rattle.ucp_history.specs.History.{cutAtFlags, openStretch, answer}
 use Rattle.ucp_receiver.specs.declared.Answer.{Answer}
 use Rattle.ucp_receiver.specs.declared.Answer.the-variants.{Nothing, Delivered}
 use Rattle.ucp_receiver.specs.declared.Counts.{Counts}
@@ -35,6 +35,10 @@ handedOctet x = record { octet = x; output = replicate 436 0 }
 
 pub record EndsInMet : Type 0 where
   pub bodyLength : BodyLength shortBody
+  pub shortest : BodyLength (0x00 ∷ [])
+  pub longest : BodyLength (replicate 436 0x00)
+  pub notEmpty : BodyLength [] → ⊥
+  pub notLonger : BodyLength (replicate 437 0x00) → ⊥
   pub ends : EndsIn (frame shortBody) (map call (beforeFrame ++ frame shortBody))
   pub line : LineOver (map handedOctet (beforeFrame ++ frame shortBody))
   pub answered : answer (map call (beforeFrame ++ (0x7E ∷ 0x2C ∷ 0x01 ∷ 0x01 ∷ 0x2C ∷ []))) (call 0x7E) ≡ delivered shortBody
@@ -43,6 +47,17 @@ pub record EndsInMet : Type 0 where
   -- the frame that carries 2C 01 with the check of 2C 00, as demand 3 has it
   pub carries : EndsIn (carrying shortBody (0x2C ∷ 0x00 ∷ [])) (map call (0x7E ∷ 0x2C ∷ 0x01 ∷ 0x00 ∷ 0x2C ∷ 0x7E ∷ []))
   pub wrongCheck : answer (map call (0x7E ∷ 0x2C ∷ 0x01 ∷ 0x00 ∷ 0x2C ∷ [])) (call 0x7E) ≡ refused because.wrongCheck
+
+-- ---- the stretch that is open
+
+pub record StretchMet : Type 0 where
+  -- before the first flag there is none, and no flag
+  pub hunts : cutAtFlags (map call (0x55 ∷ 0x01 ∷ [])) .flags ≡ []
+  pub hunted : openStretch (cutAtFlags (map call (0x55 ∷ 0x01 ∷ [])) .flags) ≡ []
+  -- behind two flags that have an octet between them: two octets, one, none
+  pub twoOctets : openStretch (cutAtFlags (map call (0x7E ∷ 0x02 ∷ 0x7E ∷ 0x7D ∷ 0x5E ∷ [])) .flags) ≡ 0x7D ∷ 0x5E ∷ []
+  pub oneOctet : openStretch (cutAtFlags (map call (0x7E ∷ 0x02 ∷ 0x7E ∷ 0x01 ∷ [])) .flags) ≡ 0x01 ∷ []
+  pub noOctet : openStretch (cutAtFlags (map call (0x7E ∷ 0x02 ∷ 0x7E ∷ [])) .flags) ≡ []
 
 -- ---- a line driven by slices
 
@@ -74,6 +89,8 @@ secondSlice =
 
 pub record SliceLineMet : Type 0 where
   pub line : SliceLine (firstSlice ∷ secondSlice ∷ [])
+  -- the octets that the second took end in a flag
+  pub endsInFlag : take (secondSlice .given .taken) (secondSlice .line) ≡ (0x01 ∷ 0x2C ∷ []) ++ 0x7E ∷ []
   -- the second slice is no line by itself: it is answered from what the first left
   pub notAlone : SliceLine (secondSlice ∷ []) → ⊥
 

@@ -2,7 +2,7 @@
 use mathlib.Core.Path.{_≡_, refl, ap, ap₂, subst, _∙_}
 use mathlib.Core.List.{List, [], _∷_, _++_, map, append-assoc, append-nil}
 use Prim.Native.Nat.{ℕ}
-use Rattle.ucp_history.specs.History.{Call, cutAtFlags, overClosed, sinceLast, account}
+use Rattle.ucp_history.specs.History.{Call, cutAtFlags, openStretch, overClosed, account}
 use Rattle.ucp_receiver.specs.declared.Counts.{Counts}
 use Rattle.ucp_receiver.specs.Account.{zeroCounts}
 use Rattle.ucp_receiver.specs.Octet.{State, fresh, stateAfter, countsAfter}
@@ -24,7 +24,7 @@ pub record Keeps (h : List Call) (s : State) (c : Counts) : Type 0 where
   pub tally : c ≡ accountCounts (account h)
 
 pub keeps-fresh : Keeps [] fresh zeroCounts
-unfolding cutAtFlags overClosed sinceLast
+unfolding cutAtFlags overClosed openStretch
 keeps-fresh = record { stands = stands-fresh; tally = refl }
 
 keeps-next : (h : List Call) (s : State) (c : Counts) (x : ℕ) → Keeps h s c

@@ -1,6 +1,7 @@
--- Whole lists of calls of `text_ucp_listing::list_some`, each with the record and the store as the last one left them, and then the
--- closing line: however an input is cut into slices and wherever a text was full, what they put is the input's listing. Rests on
--- the contracts of text_ucp_listing alone. Assumes nothing.
+-- Whole lists of calls of `text_ucp_listing::list_some`, the first from a fresh record and each other with the record and the store as
+-- the last one left them, and then the closing line of the counts that the last one left: what they put is the listing of the octets
+-- that they took, however these were cut into slices and wherever a text was full. So a caller that offers again what a call did not
+-- take lists its whole input. Over the contracts of `list_some` and of the closing line. Assumes nothing.
 use mathlib.Core.Path.{_≡_}
 use mathlib.Core.List.{List, [], _∷_, _++_}
 use Prim.Native.Nat.{ℕ, _≤_}

@@ -9,14 +9,14 @@ use lib.Dec.{eqb, ltb}
 use lib.ListN.{length, take, length-append}
 use borrow.Author.Tests.{eqb-true, eqb-false}
 use Rattle.ucp_frame.specs.Frame.{flag}
-use Rattle.ucp_frame.specs.Stretch.{Ending, whole, escapeLast, badEscape, Unstuffed, unstuffed, Verdict, silent, refused, delivered, storeOctets}
-use Rattle.ucp_history.specs.History.{Call, Segment, cutAtFlags, closingVerdict, ifDelivered, ifRefused, overClosed, sinceLast, Account, account}
+use Rattle.ucp_frame.specs.Stretch.{Ending, whole, escapeLast, badEscape, Unstuffed, unstuffed, Verdict, silent, refused, delivered, storeOctets, verdict}
+use Rattle.ucp_history.specs.History.{Call, Segment, cutAtFlags, openStretch, ifDelivered, ifRefused, overClosed, Account, account}
 use Rattle.ucp_receiver.specs.declared.Phase.the-variants.{Hunting, TooLong}
 use Rattle.ucp_receiver.specs.declared.Counts.{Counts}
 use Rattle.ucp_receiver.specs.Account.{countedFlag, countedOpen}
 use Rattle.ucp_receiver.specs.Octet.{State, countedOctet, countsAfter}
 use Rattle.thm_ucp_receiver.proofs.Reached.{holding, phaseAt, reached}
-use Rattle.thm_ucp_receiver.proofs.Cut.{segment, flags-flag, hunted-flag, flags-octet, hunted-octet, read-more, hunted-more, since-last, closed-same, closed-more}
+use Rattle.thm_ucp_receiver.proofs.Cut.{segment, flags-flag, hunted-flag, flags-octet, hunted-octet, read-more, hunted-more, open-last, closed-same, closed-more}
 use Rattle.thm_ucp_receiver.proofs.Record.{Stands, hunts, reads, stands-closed}
 
 abbrev wrapped : ℕ → ℕ
@@ -67,19 +67,19 @@ flag-counted v a = go v
     go (delivered body) = fields (wrapped-more (a .flags)) (all (a .delivered)) (none (a .refused))
 
 module _ (h : List Call) (c : Call) where
-  account-flag : c .octet ≡ flag → account (h ++ (c ∷ [])) ≡ flagged (closingVerdict (cutAtFlags h .flags) (c .room)) (account h)
+  account-flag : c .octet ≡ flag → account (h ++ (c ∷ [])) ≡ flagged (verdict (openStretch (cutAtFlags h .flags)) (c .room)) (account h)
   account-flag e =
       λ i. record {
         flags = (ap length (flags-flag h c e) ∙ length-append (cutAtFlags h .flags) (segment (c .room) [] ∷ [])) i;
         delivered = closed ifDelivered refl i;
         refused = closed ifRefused refl i;
         skipped = length (hunted-flag h c e i);
-        openOctets = (ap sinceLast (flags-flag h c e) ∙ since-last (cutAtFlags h .flags) (segment (c .room) [])) i;
+        openOctets = ap length (ap openStretch (flags-flag h c e) ∙ open-last (cutAtFlags h .flags) (segment (c .room) [])) i;
       }
     where
       closed : (f : Verdict → ℕ → ℕ) → f silent 0 ≡ 0
           → overClosed f (cutAtFlags (h ++ (c ∷ [])) .flags)
-          ≡ overClosed f (cutAtFlags h .flags) + f (closingVerdict (cutAtFlags h .flags) (c .room)) (sinceLast (cutAtFlags h .flags))
+          ≡ overClosed f (cutAtFlags h .flags) + f (verdict (openStretch (cutAtFlags h .flags)) (c .room)) (length (openStretch (cutAtFlags h .flags)))
       closed f z = ap (overClosed f) (flags-flag h c e) ∙ closed-more f z (cutAtFlags h .flags) (segment (c .room) [])
 
   -- ---- an octet before the first flag, and one of a stretch
@@ -92,7 +92,7 @@ module _ (h : List Call) (c : Call) where
         delivered = wrapped (overClosed ifDelivered (same i));
         refused = wrapped (overClosed ifRefused (same i));
         skipped = (wrapped-more (length (cutAtFlags h .hunted)) ∙ ap wrapped longer) i;
-        unclosed = wrapped (sinceLast (same i));
+        unclosed = wrapped (length (openStretch (same i)));
       }
     where
       same : cutAtFlags h .flags ≡ cutAtFlags (h ++ (c ∷ [])) .flags
@@ -110,7 +110,7 @@ module _ (h : List Call) (c : Call) where
         delivered = wrapped (same ifDelivered i);
         refused = wrapped (same ifRefused i);
         skipped = wrapped (length (same-hunted i));
-        unclosed = (wrapped-more (sinceLast (cutAtFlags h .flags)) ∙ ap wrapped longer) i;
+        unclosed = (wrapped-more (length (openStretch (cutAtFlags h .flags))) ∙ ap wrapped longer) i;
       }
     where
       more : List ℕ
@@ -128,8 +128,8 @@ module _ (h : List Call) (c : Call) where
       same : (f : Verdict → ℕ → ℕ) → overClosed f (cutAtFlags h .flags) ≡ overClosed f (cutAtFlags (h ++ (c ∷ [])) .flags)
       same f = ap (overClosed f) q ∙ closed-same f done room raw more ∙ ap (overClosed f) (sym after)
 
-      longer : sinceLast (cutAtFlags h .flags) + 1 ≡ sinceLast (cutAtFlags (h ++ (c ∷ [])) .flags)
-      longer = simp (q, after, since-last, length-append)
+      longer : length (openStretch (cutAtFlags h .flags)) + 1 ≡ length (openStretch (cutAtFlags (h ++ (c ∷ [])) .flags))
+      longer = simp (q, after, open-last, length-append)
 
 reached-counted : (u : Unstuffed) (c : Counts) → countedOctet (reached u .rest .phase) c ≡ countedOpen c
 unfolding reached
@@ -156,7 +156,7 @@ stands-counts h s c = go (eqb (c .octet) flag) refl
         → countsAfter (counted (account h)) s (c .octet) (c .room) ≡ counted (account (h ++ (c ∷ [])))
     go true e st =
         rw e (ap (λ (v : Verdict). countedFlag v (counted (account h))) (stands-closed h s c st)
-        ∙ flag-counted (closingVerdict (cutAtFlags h .flags) (c .room)) (account h)
+        ∙ flag-counted (verdict (openStretch (cutAtFlags h .flags)) (c .room)) (account h)
         ∙ ap counted (sym (account-flag h c (eqb-true (c .octet) flag e))))
     go false e (hunts p q) = rw e (in-phase p ∙ account-hunted h c (eqb-false (c .octet) flag e) q)
     go false e (reads done room raw p q) =

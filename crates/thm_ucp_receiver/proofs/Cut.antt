@@ -10,7 +10,7 @@ use borrow.Author.Tests.{eqb-true, eqb-false, eq-eqb, ne-eqb}
 use Rattle.ucp_frame.specs.Frame.{flag}
 use Rattle.ucp_frame.specs.Stretch.{Verdict, silent, refused, delivered, verdict}
 use Rattle.ucp_frame.proofs.Stuffing.{FlagFree, flag-free-cons}
-use Rattle.ucp_history.specs.History.{Call, Segment, Cut, cutAtFlags, closingVerdict, ifDelivered, ifRefused, overClosed, sinceLast, account}
+use Rattle.ucp_history.specs.History.{Call, Segment, Cut, cutAtFlags, openStretch, ifDelivered, ifRefused, overClosed, account}
 use Rattle.thm_ucp_receiver.specs.Promises.{sum}
 use Rattle.thm_ucp_receiver.proofs.Stretch.{verdict-answers}
 
@@ -94,17 +94,11 @@ pub hunted-more : (done : List Segment) (s : Segment) (hunted : List ℕ) (x : �
 hunted-more [] s hunted x = refl
 hunted-more (d ∷ ds) s hunted x = refl
 
-pub closing-last : (done : List Segment) (s : Segment) (room : ℕ) → closingVerdict (done ++ (s ∷ [])) room ≡ verdict (s .octets) room
-unfolding closingVerdict
-closing-last [] s room = refl
-closing-last (d ∷ []) s room = refl
-closing-last (d ∷ e ∷ es) s room = closing-last (e ∷ es) s room
-
-pub since-last : (done : List Segment) (s : Segment) → sinceLast (done ++ (s ∷ [])) ≡ length (s .octets)
-unfolding sinceLast
-since-last [] s = refl
-since-last (d ∷ []) s = refl
-since-last (d ∷ e ∷ es) s = since-last (e ∷ es) s
+pub open-last : (done : List Segment) (s : Segment) → openStretch (done ++ (s ∷ [])) ≡ s .octets
+unfolding openStretch
+open-last [] s = refl
+open-last (d ∷ []) s = refl
+open-last (d ∷ e ∷ es) s = open-last (e ∷ es) s
 
 -- a sum over the closed stretches: the open one is no part of it, and a flag closes one more
 module _ (f : Verdict → ℕ → ℕ) where
@@ -117,8 +111,8 @@ module _ (f : Verdict → ℕ → ℕ) where
       ap (λ (n : ℕ). f (verdict (d .octets) (e .room)) (length (d .octets)) + n) (closed-same (e ∷ es) room raw other)
 
   pub closed-more : (f silent 0 ≡ 0) → (flags : List Segment) (s : Segment)
-      → overClosed f (flags ++ (s ∷ [])) ≡ overClosed f flags + f (closingVerdict flags (s .room)) (sinceLast flags)
-  unfolding overClosed closingVerdict sinceLast
+      → overClosed f (flags ++ (s ∷ [])) ≡ overClosed f flags + f (verdict (openStretch flags) (s .room)) (length (openStretch flags))
+  unfolding overClosed openStretch verdict
   closed-more z [] s = omega arith
   closed-more z (d ∷ []) s = omega arith
   closed-more z (d ∷ e ∷ es) s = omega (arith, closed-more z (e ∷ es) s)
@@ -193,8 +187,8 @@ octetsIn [] = 0
 octetsIn (s ∷ ss) = length (s .octets) + octetsIn ss
 
 in-stretches : (flags : List Segment)
-    → overClosed ifDelivered flags + overClosed ifRefused flags + sinceLast flags ≡ octetsIn flags
-unfolding overClosed sinceLast octetsIn
+    → overClosed ifDelivered flags + overClosed ifRefused flags + length (openStretch flags) ≡ octetsIn flags
+unfolding overClosed openStretch octetsIn
 in-stretches [] = omega arith
 in-stretches (s ∷ []) = omega arith
 in-stretches (s ∷ t ∷ ss) = omega (arith, in-stretches (t ∷ ss), by-answer (s .octets) (t .room))

@@ -16,14 +16,14 @@ use Rattle.ucp_frame.specs.Stretch.{Verdict, silent, refused, delivered, verdic
 use Rattle.ucp_frame.proofs.Stuffing.{FlagFree, stuffed-flag-free}
 use Rattle.ucp_frame.proofs.Frame.{append-injective}
 use Rattle.ucp_frame.proofs.Unstuffing.{octets-cons}
-use Rattle.ucp_history.specs.History.{Call, Segment, closingVerdict, answer}
+use Rattle.ucp_history.specs.History.{Call, openStretch, answer}
 use Rattle.ucp_receiver.specs.declared.Record.{Record}
 use Rattle.ucp_receiver.specs.Answers.{body, answerFor, outputAtFlag}
 use Rattle.ucp_receiver.specs.Octet.{noOctets, freshRecord}
 use Rattle.thm_ucp_receiver.specs.Line.{Observed, callOf, Runs}
 use Rattle.thm_ucp_receiver.specs.Promises.{AnswersAs, EndsIn, BodyLength, HistoryDeliversFrame, HistoryFrameDelivered, frameAnswer, PutOutIsFrame, FrameIsPutOut, carrying, WrongCheckRefused}
 use Rattle.thm_ucp_receiver.proofs.Stretch.{delivered-answers, carried, is-frame}
-use Rattle.thm_ucp_receiver.proofs.Cut.{octetsOf, segment, closing-last, cut-last, LastFlag, none, at, last-flag}
+use Rattle.thm_ucp_receiver.proofs.Cut.{octetsOf, segment, open-last, cut-last, LastFlag, none, at, last-flag}
 use Rattle.thm_ucp_receiver.proofs.Promises.{answers}
 
 -- ---- the stretch that a flag closes
@@ -34,7 +34,7 @@ unfolding answer
 closes before c earlier raw p f e =
     let l = cut-last before earlier raw p f in
     rw (eq-eqb (c .octet) flag e)
-    (ap (λ (fs : List Segment). closingVerdict fs (c .room)) (l .parts) ∙ closing-last (l .done) (segment (l .room) raw) (c .room))
+    (ap (λ (octets : List ℕ). verdict octets (c .room)) (ap openStretch (l .parts) ∙ open-last (l .done) (segment (l .room) raw)))
 
 last-octet : (before : List Call) (c : Call) → octetsOf (before ++ (c ∷ [])) ≡ octetsOf before ++ (c .octet ∷ [])
 last-octet before c = map-append (λ (d : Call). d .octet) before (c ∷ [])
@@ -48,7 +48,7 @@ octets-after earlier raw line p o i =
     omega (arith, o (length earlier + suc i))
 
 pub history-delivers-frame : HistoryDeliversFrame
-unfolding answer closingVerdict
+unfolding answer openStretch verdict
 history-delivers-frame before c b o = by-octet (eqb (c .octet) flag) refl
   where
     by-last : c .octet ≡ flag → LastFlag before → answer before c ≡ delivered b

@@ -11,21 +11,21 @@ use Rattle.ucp_receiver.specs.declared.Counts.{Counts}
 use Rattle.ucp_receiver.specs.Account.{zeroCounts}
 use Rattle.ucp_receiver.specs.Answers.{receiverAnswer, answerFor, outputAtFlag}
 use Rattle.ucp_receiver.specs.Octet.{State, fresh, stateAfter, verdictDue, countsAfter}
-use Rattle.thm_ucp_receiver.specs.Line.{Observed, Runs}
+use Rattle.thm_ucp_receiver.specs.Line.{Observed, Meets, Runs}
 use Rattle.thm_ucp_receiver.specs.Lines.{Handed, handedTo, EveryLine}
 
-abbrev answerGiven : Verdict → Answer
+abbrev pub answerGiven : Verdict → Answer
 answerGiven silent = Nothing
 answerGiven (refused number) = Refused number
 answerGiven (delivered octets) = Delivered (length octets)
 
-answer-same : (v : Verdict) → receiverAnswer (answerGiven v) ≡ answerFor v
+pub answer-same : (v : Verdict) → receiverAnswer (answerGiven v) ≡ answerFor v
 answer-same silent = refl
 answer-same (refused number) = refl
 answer-same (delivered octets) = refl
 
 -- the call that the contract asks for
-abbrev called : State → Counts → Handed → Observed
+abbrev pub called : State → Counts → Handed → Observed
 called s c h =
     record {
       octet = h .octet;
@@ -42,11 +42,15 @@ abbrev run : State → Counts → List Handed → List Observed
 run s c [] = []
 run s c (h ∷ hs) = called s c h ∷ run (stateAfter s (h .octet)) (countsAfter c s (h .octet) (length (h .output))) hs
 
+pub called-receives : (s : State) (c : Counts) (h : Handed) → Meets (record { rest = s .rest; counts = c }) (s .store) (called s c h)
+called-receives s c h =
+    record { state = refl; account = refl; answers = answer-same (verdictDue s (h .octet) (length (h .output))); puts = refl }
+
 runs : (s : State) (c : Counts) (hs : List Handed) → Octets (map (λ (h : Handed). h .octet) hs) → Runs (record { rest = s .rest; counts = c }) (s .store) (run s c hs)
 runs s c [] o = tt
 runs s c (h ∷ hs) o = (
   o 0,
-  record { state = refl; account = refl; answers = answer-same (verdictDue s (h .octet) (length (h .output))); puts = refl },
+  called-receives s c h,
   runs (stateAfter s (h .octet)) (countsAfter c s (h .octet) (length (h .output))) hs (λ i. o (suc i)),
 )
 

@@ -10,13 +10,13 @@ use lib.Seq.{take-append-seam}
 use borrow.Author.Tests.{eq-eqb}
 use Rattle.ucp_frame.specs.Frame.{flag}
 use Rattle.ucp_frame.specs.Stretch.{unstuffed, Verdict, silent, refused, delivered, storeOctets, verdict}
-use Rattle.ucp_history.specs.History.{Call, Segment, cutAtFlags, closingVerdict, answer, overClosed, sinceLast, Account, account}
+use Rattle.ucp_history.specs.History.{Call, Segment, cutAtFlags, openStretch, answer, overClosed, Account, account}
 use Rattle.ucp_receiver.specs.declared.Counts.{Counts}
 use Rattle.ucp_receiver.specs.declared.Record.{Record}
 use Rattle.ucp_receiver.specs.Answers.{ReceiverAnswer, nothing, answerFor, outputAtFlag}
 use Rattle.ucp_receiver.specs.Octet.{State, afterFlag, stateAfter, verdictDue, countsAfter}
 use Rattle.thm_ucp_receiver.specs.Line.{Observed, callOf, upTo, Meets, Runs, Line}
-use Rattle.thm_ucp_receiver.specs.Promises.{AnswersByHistory, StretchIsAnswered, CountsByHistory, EveryOctetCounted, StoreClean, openStretch, StoreByHistory, HuntingStoresNothing, FlagClears, putOut, Seen, seen, LaterOnly}
+use Rattle.thm_ucp_receiver.specs.Promises.{AnswersByHistory, StretchIsAnswered, CountsByHistory, EveryOctetCounted, StoreClean, StoreByHistory, HuntingStoresNothing, FlagClears, putOut, Seen, seen, LaterOnly}
 use Rattle.thm_ucp_receiver.proofs.Stretch.{verdict-answers}
 use Rattle.thm_ucp_receiver.proofs.Slice.{silence-due}
 use Rattle.thm_ucp_receiver.proofs.Cut.{account-sum}
@@ -54,7 +54,7 @@ come h (o ∷ before) os a r =
     rw append-assoc at (come (h ++ (callOf o ∷ [])) before os (next h o a (r .1)) (r .2))
 
 arrive : (before os : List Observed) → Line (before ++ os) → Come (map callOf before) os
-unfolding cutAtFlags overClosed sinceLast
+unfolding cutAtFlags overClosed openStretch
 arrive before os = come [] before os (record { stands = stands-fresh; tally = refl })
 
 -- ---- answers, counts, store
@@ -68,24 +68,18 @@ answers before after o l =
       puts = k .runs .1 .puts ∙ ap (λ (v : Verdict). outputAtFlag v (o .output)) due;
     }
 
--- the open stretch of some flags, closed with this room
-closing-answers : (flags : List Segment) (room : ℕ) → 1 ≤ length (openStretch flags) → closingVerdict flags room ≡ silent → ⊥
-unfolding openStretch closingVerdict
+-- a stretch with an octet in it, closed with this room
+closing-answers : (octets : List ℕ) (room : ℕ) → 1 ≤ length octets → verdict octets room ≡ silent → ⊥
 closing-answers [] room some = absurd (omega (arith, some))
-closing-answers (s ∷ []) room some = go (s .octets) some
-  where
-    go : (octets : List ℕ) → 1 ≤ length octets → verdict octets room ≡ silent → ⊥
-    go [] some = absurd (omega (arith, some))
-    go (x ∷ xs) some = verdict-answers x xs room
-closing-answers (s ∷ t ∷ ss) room some = closing-answers (t ∷ ss) room some
+closing-answers (x ∷ xs) room some = verdict-answers x xs room
 
 pub stretch-is-answered : StretchIsAnswered
 unfolding answer
 stretch-is-answered before after o l e some quiet =
-    closing-answers (cutAtFlags (map callOf before) .flags) (length (o .output)) some
+    closing-answers (openStretch (cutAtFlags (map callOf before) .flags)) (length (o .output)) some
     (sym due ∙ silence-due (answer (map callOf before) (callOf o)) (sym (answers before after o l .tells) ∙ quiet))
   where
-    due : answer (map callOf before) (callOf o) ≡ closingVerdict (cutAtFlags (map callOf before) .flags) (length (o .output))
+    due : answer (map callOf before) (callOf o) ≡ verdict (openStretch (cutAtFlags (map callOf before) .flags)) (length (o .output))
     due = rw (eq-eqb (o .octet) flag e)
 
 after-call : (before after : List Observed) (o : Observed) → Line (before ++ o ∷ after)

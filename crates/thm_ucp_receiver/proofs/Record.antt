@@ -10,14 +10,14 @@ use lib.ListN.{length, take, getD, replicate, length-append, length-replicate, l
 use lib.Seq.{take-all}
 use borrow.Author.Tests.{eqb-true, eqb-false, ltb-false}
 use Rattle.ucp_frame.specs.Frame.{flag}
-use Rattle.ucp_frame.specs.Stretch.{Unstuffed, unstuffed, Verdict, silent, storeOctets}
-use Rattle.ucp_history.specs.History.{Call, Segment, cutAtFlags, closingVerdict, answer}
+use Rattle.ucp_frame.specs.Stretch.{Unstuffed, unstuffed, Verdict, silent, storeOctets, verdict}
+use Rattle.ucp_history.specs.History.{Call, Segment, cutAtFlags, openStretch, answer}
 use Rattle.ucp_receiver.specs.declared.Phase.{Phase}
 use Rattle.ucp_receiver.specs.declared.Phase.the-variants.{Hunting, TooLong}
 use Rattle.ucp_receiver.specs.Octet.{State, fresh, stateAfter, verdictDue}
-use Rattle.thm_ucp_receiver.specs.Promises.{CleanBeyond, openStretch, StoreAs}
+use Rattle.thm_ucp_receiver.specs.Promises.{CleanBeyond, StoreAs}
 use Rattle.thm_ucp_receiver.proofs.Reached.{advanced, closed, holding, phaseAt, reached, reached-more, reached-closed}
-use Rattle.thm_ucp_receiver.proofs.Cut.{segment, flags-flag, flags-octet, read-more, closing-last}
+use Rattle.thm_ucp_receiver.proofs.Cut.{segment, flags-flag, flags-octet, read-more, open-last}
 
 pub data Stands (h : List Call) (s : State) : Type 0 where
   hunts : s ≡ fresh → cutAtFlags h .flags ≡ [] → Stands h s
@@ -40,12 +40,12 @@ module _ (h : List Call) (s : State) (c : Call) where
           rw e (reads done room (raw ++ (c .octet ∷ [])) (ap (advanced (c .octet)) p ∙ reached-more raw (c .octet))
           (flags-octet h c (eqb-false (c .octet) flag e) q ∙ read-more done (segment room raw) (c .octet)))
 
-  pub stands-closed : Stands h s → closed (c .room) s ≡ closingVerdict (cutAtFlags h .flags) (c .room)
-  unfolding closingVerdict
-  stands-closed (hunts p q) = ap (closed (c .room)) p ∙ ap (λ (fs : List Segment). closingVerdict fs (c .room)) (sym q)
+  pub stands-closed : Stands h s → closed (c .room) s ≡ verdict (openStretch (cutAtFlags h .flags)) (c .room)
+  unfolding openStretch verdict
+  stands-closed (hunts p q) = ap (closed (c .room)) p ∙ ap (λ (fs : List Segment). verdict (openStretch fs) (c .room)) (sym q)
   stands-closed (reads done room raw p q) =
-      ap (closed (c .room)) p ∙ reached-closed raw (c .room) ∙ sym (closing-last done (segment room raw) (c .room))
-      ∙ ap (λ (fs : List Segment). closingVerdict fs (c .room)) (sym q)
+      ap (closed (c .room)) p ∙ reached-closed raw (c .room)
+      ∙ ap (λ (octets : List ℕ). verdict octets (c .room)) (sym (ap openStretch q ∙ open-last done (segment room raw)))
 
   pub stands-answer : Stands h s → verdictDue s (c .octet) (c .room) ≡ answer h c
   unfolding verdictDue answer
@@ -83,12 +83,6 @@ stands-clean h s (hunts p q) = subst Clean (sym p) (clean Hunting [] (omega arit
 stands-clean h s (reads done room raw p q) = subst Clean (sym p) (reached-clean (unstuffed raw))
 
 -- ---- the store by the history
-
-open-last : (done : List Segment) (s : Segment) → openStretch (done ++ (s ∷ [])) ≡ s .octets
-unfolding openStretch
-open-last [] s = refl
-open-last (d ∷ []) s = refl
-open-last (d ∷ e ∷ es) s = open-last (e ∷ es) s
 
 -- this stretch is held, as far as it is read and the store goes, and zero behind
 record Holds (raw : List ℕ) (s : State) : Type 0 where

@@ -11,7 +11,7 @@ use Rattle.crc_gdl90.specs.Check.{frameCheck, frameCheckOctets}
 use Rattle.refusals.specs.Numbers as because
 use Rattle.ucp_frame.specs.Frame.{flag, stuffed, frame, longestBody}
 use Rattle.ucp_frame.specs.Stretch.{unstuffed, Verdict, refused, delivered, storeOctets}
-use Rattle.ucp_history.specs.History.{Call, Segment, cutAtFlags, answer, Account, account}
+use Rattle.ucp_history.specs.History.{Call, cutAtFlags, openStretch, answer, Account, account}
 use Rattle.ucp_receiver.specs.declared.Counts.{Counts}
 use Rattle.ucp_receiver.specs.declared.Record.{Record}
 use Rattle.ucp_receiver.specs.declared.Received.{Received}
@@ -30,12 +30,6 @@ abbrev pub AnswersByHistory : Type 0
 AnswersByHistory =
     (before after : List Observed) (o : Observed) → Line (before ++ o ∷ after)
     → AnswersAs (answer (map callOf before) (callOf o)) o
-
--- the octets since the last of these flags; before the first flag there are none
-unfoldable pub openStretch : List Segment → List ℕ
-openStretch [] = []
-openStretch (s ∷ []) = s .octets
-openStretch (s ∷ t ∷ ss) = openStretch (t ∷ ss)
 
 -- a flag that closes a stretch with an octet in it is answered
 abbrev pub StretchIsAnswered : Type 0

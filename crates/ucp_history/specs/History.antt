@@ -31,16 +31,15 @@ cutAtFlags (c ∷ cs) =
     (record { hunted = []; flags = (record { room = c .room; octets = cutAtFlags cs .hunted }) ∷ cutAtFlags cs .flags })
     (record { hunted = c .octet ∷ cutAtFlags cs .hunted; flags = cutAtFlags cs .flags })
 
--- ---- the answer to a call, after the calls before it
+-- the stretch that is open: the octets since the last of these flags. Before the first flag the line hunts, and it has none
+unfoldable pub openStretch : List Segment → List ℕ
+openStretch [] = []
+openStretch (s ∷ []) = s .octets
+openStretch (s ∷ t ∷ ss) = openStretch (t ∷ ss)
 
--- the stretch that is open after the last of these flags is closed with this room; with no flag before it the line hunts
-unfoldable pub closingVerdict : List Segment → ℕ → Verdict
-closingVerdict [] room = silent
-closingVerdict (s ∷ []) room = verdict (s .octets) room
-closingVerdict (s ∷ t ∷ ss) room = closingVerdict (t ∷ ss) room
-
+-- ---- the answer to a call, after the calls before it: a flag closes the open stretch, with the room lent to its call
 unfoldable pub answer : List Call → Call → Verdict
-answer before c = cond (eqb (c .octet) flag) (closingVerdict (cutAtFlags before .flags) (c .room)) silent
+answer before c = cond (eqb (c .octet) flag) (verdict (openStretch (cutAtFlags before .flags)) (c .room)) silent
 
 -- ---- the byte account, in line octets
 
@@ -61,11 +60,6 @@ overClosed f [] = 0
 overClosed f (s ∷ []) = 0
 overClosed f (s ∷ t ∷ ss) = f (verdict (s .octets) (t .room)) (length (s .octets)) + overClosed f (t ∷ ss)
 
-unfoldable pub sinceLast : List Segment → ℕ
-sinceLast [] = 0
-sinceLast (s ∷ []) = length (s .octets)
-sinceLast (s ∷ t ∷ ss) = sinceLast (t ∷ ss)
-
 pub record Account : Type 0 where
   pub flags : ℕ
   pub delivered : ℕ
@@ -80,5 +74,5 @@ account calls =
       delivered = overClosed ifDelivered (cutAtFlags calls .flags);
       refused = overClosed ifRefused (cutAtFlags calls .flags);
       skipped = length (cutAtFlags calls .hunted);
-      openOctets = sinceLast (cutAtFlags calls .flags);
+      openOctets = length (openStretch (cutAtFlags calls .flags));
     }

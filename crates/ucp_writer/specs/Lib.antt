@@ -1,4 +1,5 @@
 pub mod Steps
 pub mod Writes
 pub mod Room
+pub mod Refusals
 pub mod Sends

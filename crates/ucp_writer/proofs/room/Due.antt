@@ -11,6 +11,7 @@ use borrow.Author.Tests.{eqb-true, eqb-false, ltb-true, ltb-false, eq-eqb, ne-eq
 use Rattle.ucp_frame.specs.Frame.{frame, longestBody}
 use Rattle.output_writing.specs.Writing.{WriterAnswer, refused, wrote}
 use Rattle.ucp_writer.specs.Room.{frameDue, refusalNumber}
+use Rattle.ucp_writer.specs.Refusals.{WrongBodyLength, NoRoomForFrame}
 
 data Due (body output : List ℕ) : WriterAnswer → Type 0 where
   empty : length body ≡ 0 → Due body output (refused 7)
@@ -62,37 +63,33 @@ refused-so body output number = go (frameDue body output) (due body output)
     go a (accepted least most room) e = let z : _≡_ {A = ℕ} 0 1 = cc in absurd (omega arith)
 
 -- 7 exactly where the body has no octet or too many, 8 exactly where it has neither and its frame no room
-pub refused-7 : (body output : List ℕ) → (frameDue body output ≡ refused 7) ↔ ((length body ≡ 0) ⊎ (longestBody < length body))
+pub refused-7 : (body output : List ℕ) → (frameDue body output ≡ refused 7) ↔ WrongBodyLength body
 unfolding frameDue
 refused-7 body output = (go (frameDue body output) (due body output), back)
   where
-    go : (a : WriterAnswer) → Due body output a → a ≡ refused 7 → (length body ≡ 0) ⊎ (longestBody < length body)
+    go : (a : WriterAnswer) → Due body output a → a ≡ refused 7 → WrongBodyLength body
     go a (empty h) e = inl h
     go a (tooLong h) e = inr h
     go a (short least most h) e = let z : _≡_ {A = ℕ} 8 7 = cc in absurd (omega arith)
     go a (accepted least most room) e = let z : _≡_ {A = ℕ} 0 1 = cc in absurd (omega arith)
 
-    back : (length body ≡ 0) ⊎ (longestBody < length body) → frameDue body output ≡ refused 7
+    back : WrongBodyLength body → frameDue body output ≡ refused 7
     back (inl h) = rw (eq-eqb (length body) 0 h)
     back (inr h) =
         let some : length body ≡ 0 → ⊥ = omega arith in
         rw (ne-eqb (length body) 0 some, lt-ltb longestBody (length body) h)
 
-pub refused-8 : (body output : List ℕ)
-    → (frameDue body output ≡ refused 8)
-    ↔ ((1 ≤ length body) × (length body ≤ longestBody) × (length output < length (frame body)))
+pub refused-8 : (body output : List ℕ) → (frameDue body output ≡ refused 8) ↔ NoRoomForFrame body output
 unfolding frameDue
 refused-8 body output = (go (frameDue body output) (due body output), back)
   where
-    go : (a : WriterAnswer) → Due body output a → a ≡ refused 8
-        → (1 ≤ length body) × (length body ≤ longestBody) × (length output < length (frame body))
+    go : (a : WriterAnswer) → Due body output a → a ≡ refused 8 → NoRoomForFrame body output
     go a (empty h) e = let z : _≡_ {A = ℕ} 7 8 = cc in absurd (omega arith)
     go a (tooLong h) e = let z : _≡_ {A = ℕ} 7 8 = cc in absurd (omega arith)
     go a (short least most h) e = (least, most, h)
     go a (accepted least most room) e = let z : _≡_ {A = ℕ} 0 1 = cc in absurd (omega arith)
 
-    back : (1 ≤ length body) × (length body ≤ longestBody) × (length output < length (frame body))
-        → frameDue body output ≡ refused 8
+    back : NoRoomForFrame body output → frameDue body output ≡ refused 8
     back h =
         let some : length body ≡ 0 → ⊥ = omega arith in
         rw (ne-eqb (length body) 0 some, le-ltb longestBody (length body) (h .1), lt-ltb (length output) (length (frame body)) (h .2))
