@@ -54,6 +54,12 @@ pub static KINDS: [&Kind; 8] = [
     &initialization::INITIALIZATION,
 ];
 
+/// The kind with this ID.
+pub fn kind(id: u8) -> &'static Kind {
+    let found = KINDS.into_iter().find(|kind| kind.head[0] == id);
+    found.expect("a kind of the table")
+}
+
 /// The names of the kinds of which this holds.
 pub fn names(of: impl Fn(&Kind) -> bool) -> Vec<&'static str> {
     let kinds = KINDS.into_iter().filter(|kind| of(kind));
