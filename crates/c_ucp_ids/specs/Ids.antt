@@ -1,25 +1,11 @@
 -- The ID of a body's kind, in numbers (document 01, "Message kinds on the UCP line", and the table's row 10). Assumes nothing.
-use mathlib.Core.Bool.{Bool, true, false, cond}
+use mathlib.Core.Bool.{cond}
 use mathlib.Core.List.{List}
 use Prim.Native.Nat.{ℕ}
 use lib.ListN.{getD}
 use Rattle.refusals.specs.Numbers as because
-use Rattle.ucp_messages.specs.declared.Kind.{Kind}
-use Rattle.ucp_messages.specs.declared.Kind.the-variants.{Heartbeat, Uplink, Ownship, GeometricAltitude, Traffic, Request, Control, Initialization, Unknown}
-use Rattle.ucp_messages.specs.Kinds.{kindIn}
+use Rattle.ucp_messages.specs.Kinds.{isKnown, kindIn}
 use Rattle.c_ucp_ids.specs.declared.OstrogoszId.{OstrogoszId}
-
--- one of the eight
-abbrev pub isKnown : Kind → Bool
-isKnown Heartbeat = true
-isKnown Uplink = true
-isKnown Ownship = true
-isKnown GeometricAltitude = true
-isKnown Traffic = true
-isKnown Request = true
-isKnown Control = true
-isKnown Initialization = true
-isKnown Unknown = false
 
 -- one call, whole: the first octet of a body of a known kind, else 10
 unfoldable pub idDue : List ℕ → OstrogoszId

@@ -28,8 +28,8 @@ use Rattle.thm_mavlink_messages.proofs.Tabled.{tabled-mavlink}
 use Rattle.thm_mavlink_messages.proofs.RoundTrips as mavlink-trips
 use Rattle.thm_c_mavlink.proofs.ReadBack.{lent-mavlink-reads-back}
 use Rattle.thm_c_mavlink.proofs.WriteBack.{lent-mavlink-writes-back}
-use Rattle.thm_c_messages.proofs.EachKind.{lent-round-trips, lent-sent-is-delivered, linked-sent-is-delivered}
-use Rattle.thm_c_messages.proofs.Refusals.{lent-refusals, id-refuses}
+use Rattle.thm_c_messages.proofs.EachKind.{lent-round-trips, lent-refusals, lent-sent-is-delivered, linked-sent-is-delivered}
+use Rattle.thm_c_messages.proofs.Refusals.{id-refuses}
 use Rattle.thm_c_messages.proofs.Tests.{no}
 use Rattle.thm_ucp_messages.proofs.Delivery.{sent-is-delivered, delivered-writes-back}
 use Rattle.thm_ucp_messages.proofs.ReadBack as message-read

@@ -9,7 +9,8 @@ use borrow.Author.Tests.{ltb-true, lt-ltb}
 use lib.Dec.{ltb}
 use lib.ListN.{length}
 use Rattle.ucp_answers.specs.Refusals.{refusalOf, reads, refusalBy}
-use Rattle.ucp_messages.specs.Messages.{Reading, format, uplink, unknown, readingOf, meansUnlessRefused, refusalIn, answerAs}
+use Rattle.ucp_messages.specs.Kinds.{Reading, format, uplink, unknown, readingOf}
+use Rattle.ucp_messages.specs.Messages.{meansUnlessRefused, refusalIn, answerAs}
 use Rattle.output_writing.specs.Writing.{refused, wrote}
 use Rattle.ucp_messages.specs.declared.Kind.{Kind}
 use Rattle.ucp_messages.specs.declared.Message.{Message}

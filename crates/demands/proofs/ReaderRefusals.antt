@@ -5,19 +5,14 @@ use mathlib.Core.List.{List}
 use mathlib.Core.Logic.{_↔_}
 use Prim.Native.Nat.{ℕ, _≤_}
 use native.Mathlib.Omega.{arith}
-use Rattle.ucp_messages.specs.Heartbeat0.{heartbeatFormat}
-use Rattle.ucp_messages.specs.Report10.{reportFormat}
-use Rattle.ucp_messages.specs.GeometricAltitude11.{geometricFormat}
-use Rattle.ucp_messages.specs.Request44.{requestFormat}
-use Rattle.ucp_messages.specs.Control45.{controlFormat}
-use Rattle.ucp_messages.specs.Initialization117.{initializationFormat}
 use Rattle.ucp_messages.specs.declared.Kind.{Kind}
-use Rattle.ucp_messages.specs.declared.Kind.the-variants.{Heartbeat, Uplink, Ownship, GeometricAltitude, Traffic, Request, Control, Initialization, Unknown}
+use Rattle.ucp_messages.specs.declared.Kind.the-variants.{Uplink, Unknown}
 use Rattle.ucp_messages.specs.Kinds.{kindIn}
 use Rattle.ucp_messages.specs.Messages as Reads
 use Rattle.ucp_messages.specs.Messages.{refusalIn, answerAs}
 use Rattle.ucp_messages.specs.Refusals.{UnknownId, HasKindLength, WrongMessageLength, HasFixedOctets, WrongFixedOctet, fieldsInRange, FieldOutsideRange}
-use Rattle.thm_c_messages.proofs.Tests.{Is, is, unknown-so, Tested, tested-format, tested-uplink, exact}
+use Rattle.thm_c_messages.proofs.Tests.{Is, is, is-lawful, unknown-so, Tested, tested-lawful, tested-uplink, exact}
+use Rattle.ucp_messages.proofs.Formats.{Lawful, formatted, uplink, unknown, lawful}
 use Rattle.demands.proofs.MessageRefusals.{tabled-message}
 
 -- ---- the refusal of a body as a message of a kind
@@ -37,19 +32,11 @@ by-tests k body known t =
       (λ h. let c = e .3 .0 h in (known, c .0, c .1, c .2), λ h. e .3 .1 (h .1, h .2, h .3)),
     )
 
-kind-exact : (k : Kind) (body : List ℕ) → KindExact k body
+kind-exact : {k : Kind} → Lawful k → (body : List ℕ) → KindExact k body
 unfolding refusalIn
-kind-exact Heartbeat body = by-tests Heartbeat body (is Heartbeat (omega arith)) (tested-format heartbeatFormat Heartbeat body refl refl refl)
-kind-exact Uplink body = by-tests Uplink body (is Uplink (omega arith)) (tested-uplink body)
-kind-exact Ownship body = by-tests Ownship body (is Ownship (omega arith)) (tested-format (reportFormat 10) Ownship body refl refl refl)
-kind-exact GeometricAltitude body =
-    by-tests GeometricAltitude body (is GeometricAltitude (omega arith)) (tested-format geometricFormat GeometricAltitude body refl refl refl)
-kind-exact Traffic body = by-tests Traffic body (is Traffic (omega arith)) (tested-format (reportFormat 20) Traffic body refl refl refl)
-kind-exact Request body = by-tests Request body (is Request (omega arith)) (tested-format requestFormat Request body refl refl refl)
-kind-exact Control body = by-tests Control body (is Control (omega arith)) (tested-format controlFormat Control body refl refl refl)
-kind-exact Initialization body =
-    by-tests Initialization body (is Initialization (omega arith)) (tested-format initializationFormat Initialization body refl refl refl)
-kind-exact Unknown body = (
+kind-exact {k} (formatted f message l) body = by-tests k body (is-lawful l) (tested-lawful l body)
+kind-exact uplink body = by-tests Uplink body (is Uplink (omega arith)) (tested-uplink body)
+kind-exact unknown body = (
   (λ h. refl, λ h. refl),
   (λ h. absurd (omega arith), λ h. absurd (h .0 refl)),
   (λ h. absurd (omega arith), λ h. absurd (h .0 refl)),
@@ -67,28 +54,28 @@ module _ (body : List ℕ) where
   exactly-10 =
       let a = answered (kindIn body) body 10 (omega arith) (omega arith) in
       let u = unknown-so body in
-      let e = kind-exact (kindIn body) body .0 in
+      let e = kind-exact (lawful (kindIn body)) body .0 in
       (λ h. u .0 (e .0 (a .0 h)), λ h. a .1 (e .1 (u .1 h)))
 
   pub exactly-11 : (Reads.messageDue body ≡ Reads.refused 11) ↔ WrongMessageLength body
   exactly-11 =
       let a = answered (kindIn body) body 11 (omega arith) (omega arith) in
       let u = unknown-so body in
-      let e = kind-exact (kindIn body) body .1 in
+      let e = kind-exact (lawful (kindIn body)) body .1 in
       (λ h. let c = e .0 (a .0 h) in (λ k. c .0 (u .1 k), c .1), λ h. a .1 (e .1 (λ k. h .0 (u .0 k), h .1)))
 
   pub exactly-12 : (Reads.messageDue body ≡ Reads.refused 12) ↔ WrongFixedOctet body
   exactly-12 =
       let a = answered (kindIn body) body 12 (omega arith) (omega arith) in
       let u = unknown-so body in
-      let e = kind-exact (kindIn body) body .2 in
+      let e = kind-exact (lawful (kindIn body)) body .2 in
       (λ h. let c = e .0 (a .0 h) in (λ k. c .0 (u .1 k), c .1, c .2), λ h. a .1 (e .1 (λ k. h .0 (u .0 k), h .1, h .2)))
 
   pub exactly-13 : (Reads.messageDue body ≡ Reads.refused 13) ↔ FieldOutsideRange body
   exactly-13 =
       let a = answered (kindIn body) body 13 (omega arith) (omega arith) in
       let u = unknown-so body in
-      let e = kind-exact (kindIn body) body .3 in (
+      let e = kind-exact (lawful (kindIn body)) body .3 in (
         λ h. let c = e .0 (a .0 h) in (λ k. c .0 (u .1 k), c .1, c .2, c .3),
         λ h. a .1 (e .1 (λ k. h .0 (u .0 k), h .1, h .2, h .3)),
       )

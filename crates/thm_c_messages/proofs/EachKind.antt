@@ -10,7 +10,7 @@ use lib.IntN.{ℤ}
 use lib.ListN.{length, getD, drop, length-drop}
 use lib.Signed.{mag}
 use Rattle.field_signed.specs.Signed.{holds}
-use Rattle.field_format.specs.Format.{Column, half, tested, Row, rowTested, columns, rowOf}
+use Rattle.field_format.specs.Format.{Format, Column, half, tested, Row, rowTested, columns, rowOf}
 use Rattle.field_format.proofs.Columns.{row-before}
 use Rattle.ucp_answers.specs.Refusals.{refusalBy}
 use Rattle.ucp_answers.proofs.RoundTrips.{none-due}
@@ -21,7 +21,12 @@ use Rattle.ucp_messages.specs.GeometricAltitude11.{geometricFormat}
 use Rattle.ucp_messages.specs.Request44.{requestFormat}
 use Rattle.ucp_messages.specs.Control45.{controlFormat}
 use Rattle.ucp_messages.specs.Initialization117.{initializationFormat}
-use Rattle.ucp_messages.proofs.Formats.{heartbeat-right, report-right, geometric-right, request-right, control-right, initialization-right}
+use Rattle.ucp_messages.specs.declared.Kind.{Kind}
+use Rattle.ucp_messages.specs.declared.Kind.the-variants as kind
+use Rattle.ucp_messages.specs.declared.Message.{Message}
+use Rattle.ucp_messages.specs.declared.Message.the-variants.{Heartbeat, Ownship, GeometricAltitude, Traffic, Request, Control, Initialization}
+use Rattle.ucp_messages.proofs.Formats.{heartbeat-right, report-right, geometric-right, request-right, control-right, initialization-right, LawfulFormat, heartbeat-lawful, ownship-lawful, geometric-lawful, traffic-lawful, request-lawful, control-lawful, initialization-lawful}
+use Rattle.c_lent.specs.Structs.{Struct}
 use Rattle.c_ucp_heartbeat.specs.Struct.{heartbeatStruct}
 use Rattle.c_ucp_heartbeat.proofs.Agree.{heartbeat-struct-right}
 use Rattle.c_ucp_report.specs.Struct.{reportStruct}
@@ -37,8 +42,11 @@ use Rattle.c_ucp_initialization.proofs.Agree.{initialization-struct-right}
 use Rattle.c_ucp_uplink.specs.Uplink.{ReadsUplink}
 use Rattle.thm_c_ucp.specs.Delivery.{DeliversLinked}
 use Rattle.thm_c_ucp.proofs.Delivery.{frame-delivered-linked}
-use Rattle.thm_c_messages.specs.RoundTrips.{UplinkRoundTrips, LentRoundTrips}
-use Rattle.thm_c_messages.specs.Delivery.{Delivering, DeliversOnLine, UplinkSentIsDelivered, LentSentIsDelivered}
+use Rattle.thm_c_messages.specs.EachKind.{OfEachKind}
+use Rattle.thm_c_messages.specs.RoundTrips.{StructRoundTrips, UplinkRoundTrips, LentRoundTrips}
+use Rattle.thm_c_messages.specs.Refusals.{StructRefuses, UplinkRefuses, LentRefusals}
+use Rattle.thm_c_messages.proofs.Refusals.{struct-refuses, uplink-refuses}
+use Rattle.thm_c_messages.specs.Delivery.{Delivering, DeliversOnLine, StructSentIsDelivered, UplinkSentIsDelivered, LentSentIsDelivered}
 use Rattle.thm_c_messages.proofs.Accepted.{accepted, writes, sent, fills, of-kind, kind-of}
 use Rattle.thm_c_messages.proofs.Delivery.{DeliversFrames, frame-delivered}
 use Rattle.thm_c_messages.proofs.Structs.{SameValues, struct-round-trips, struct-sent-is-delivered}
@@ -203,6 +211,21 @@ report-same id = record {
       );
 }
 
+-- ---- every kind
+of-each : (Of : (A : Type 0) → ℕ → Kind → Format A → Struct A → Type 0) (OfUplink : Type 0)
+    → ((A : Type 0) (k : Kind) (f : Format A) (s : Struct A) (message : A → Message) → LawfulFormat k f message → SameValues f s → Of A (getD (f .head) 0 0) k f s)
+    → OfUplink → OfEachKind Of OfUplink
+of-each Of OfUplink by lent = record {
+  heartbeat = by _ kind.Heartbeat heartbeatFormat heartbeatStruct Heartbeat heartbeat-lawful heartbeat-same;
+  uplink = lent;
+  ownship = by _ kind.Ownship (reportFormat 10) reportStruct Ownship ownship-lawful (report-same 10);
+  geometricAltitude = by _ kind.GeometricAltitude geometricFormat geometricStruct GeometricAltitude geometric-lawful geometric-same;
+  traffic = by _ kind.Traffic (reportFormat 20) reportStruct Traffic traffic-lawful (report-same 20);
+  request = by _ kind.Request requestFormat requestStruct Request request-lawful request-same;
+  control = by _ kind.Control controlFormat controlStruct Control control-lawful control-same;
+  initialization = by _ kind.Initialization initializationFormat initializationStruct Initialization initialization-lawful initialization-same;
+}
+
 -- ---- the uplink
 payload-back : (body : List ℕ) → getD body 0 0 ≡ 7 → length body ≡ 436 → uplinkBody (drop 1 body) ≡ body
 payload-back [] e n = absurd (omega arith)
@@ -230,16 +253,10 @@ uplink-round-trips = (
 )
 
 pub lent-round-trips : LentRoundTrips
-lent-round-trips = record {
-  heartbeat = struct-round-trips heartbeatFormat heartbeatStruct heartbeat-same;
-  uplink = uplink-round-trips;
-  ownship = struct-round-trips (reportFormat 10) reportStruct (report-same 10);
-  geometricAltitude = struct-round-trips geometricFormat geometricStruct geometric-same;
-  traffic = struct-round-trips (reportFormat 20) reportStruct (report-same 20);
-  request = struct-round-trips requestFormat requestStruct request-same;
-  control = struct-round-trips controlFormat controlStruct control-same;
-  initialization = struct-round-trips initializationFormat initializationStruct initialization-same;
-}
+lent-round-trips = of-each (λ A id k f s. StructRoundTrips f s) UplinkRoundTrips (λ A k f s g l same. struct-round-trips f s same) uplink-round-trips
+
+pub lent-refusals : LentRefusals
+lent-refusals = of-each (λ A id k f s. StructRefuses id k f s) UplinkRefuses (λ A k f s g l same. struct-refuses f s l) uplink-refuses
 
 -- on either line, where that delivers every frame
 module _ (Delivers : Delivering) (delivers : DeliversFrames Delivers) where
@@ -253,16 +270,9 @@ module _ (Delivers : Delivering) (delivers : DeliversFrames Delivers) where
       (λ lent left r reading. uplink-reads-back payload lent left r (e .fit) reading))
 
   each-sent-is-delivered : LentSentIsDelivered Delivers
-  each-sent-is-delivered = record {
-    heartbeat = struct-sent-is-delivered heartbeatFormat heartbeatStruct heartbeat-same Delivers delivers;
-    uplink = uplink-sent-is-delivered;
-    ownship = struct-sent-is-delivered (reportFormat 10) reportStruct (report-same 10) Delivers delivers;
-    geometricAltitude = struct-sent-is-delivered geometricFormat geometricStruct geometric-same Delivers delivers;
-    traffic = struct-sent-is-delivered (reportFormat 20) reportStruct (report-same 20) Delivers delivers;
-    request = struct-sent-is-delivered requestFormat requestStruct request-same Delivers delivers;
-    control = struct-sent-is-delivered controlFormat controlStruct control-same Delivers delivers;
-    initialization = struct-sent-is-delivered initializationFormat initializationStruct initialization-same Delivers delivers;
-  }
+  each-sent-is-delivered =
+      of-each (λ A id k f s. StructSentIsDelivered Delivers f s) (UplinkSentIsDelivered Delivers)
+      (λ A k f s g l same. struct-sent-is-delivered f s same Delivers delivers) uplink-sent-is-delivered
 
 pub lent-sent-is-delivered : LentSentIsDelivered DeliversOnLine
 lent-sent-is-delivered = each-sent-is-delivered DeliversOnLine frame-delivered

@@ -16,30 +16,20 @@ use Rattle.ucp_answers.specs.Refusals.{refusalOf}
 use Rattle.ucp_answers.specs.Writes.{bodyDue}
 use Rattle.ucp_frame.specs.Frame.{frame}
 use Rattle.ucp_writer.specs.Sends.{sendDue}
-use Rattle.ucp_messages.specs.Heartbeat0.{heartbeatFormat}
 use Rattle.ucp_messages.specs.Uplink7.{uplinkFits, uplinkBody}
-use Rattle.ucp_messages.specs.Report10.{reportFormat}
-use Rattle.ucp_messages.specs.GeometricAltitude11.{geometricFormat}
-use Rattle.ucp_messages.specs.Request44.{requestFormat}
-use Rattle.ucp_messages.specs.Control45.{controlFormat}
-use Rattle.ucp_messages.specs.Initialization117.{initializationFormat}
 use Rattle.ucp_messages.specs.declared.Kind.{Kind}
-use Rattle.ucp_messages.specs.declared.Kind.the-variants.{Heartbeat, Uplink, Ownship, GeometricAltitude, Traffic, Request, Control, Initialization, Unknown}
-use Rattle.ucp_messages.specs.Kinds.{kindIn}
-use Rattle.ucp_messages.specs.Refusals.{UnknownId, kindLength, fixedOctets, fieldsInRange}
+use Rattle.ucp_messages.specs.declared.Kind.the-variants.{Uplink, Unknown}
+use Rattle.ucp_messages.specs.Kinds.{isSome, isKnown, kindIn}
+use Rattle.ucp_messages.specs.Refusals.{UnknownId}
 use Rattle.c_lent.specs.Structs.{Struct}
 use Rattle.c_lent.specs.Reads.{hasId, refusalAs, FillsStruct}
-use Rattle.c_ucp_heartbeat.specs.Struct.{heartbeatStruct}
-use Rattle.c_ucp_report.specs.Struct.{reportStruct}
-use Rattle.c_ucp_geometric_altitude.specs.Struct.{geometricStruct}
-use Rattle.c_ucp_request.specs.Struct.{requestStruct}
-use Rattle.c_ucp_control.specs.Struct.{controlStruct}
-use Rattle.c_ucp_initialization.specs.Struct.{initializationStruct}
 use Rattle.c_ucp_ids.specs.declared.OstrogoszId.{OstrogoszId}
-use Rattle.c_ucp_ids.specs.Ids.{isKnown, idDue}
+use Rattle.c_ucp_ids.specs.Ids.{idDue}
 use Rattle.thm_c_ucp.proofs.Writer.{frame-refusals}
-use Rattle.thm_c_messages.specs.Refusals.{OfAnotherId, OfItsId, ReaderRefusals, WriterRefusals, SendRefusals, StructRefuses, UplinkRefuses, LentRefusals, IdRefuses}
-use Rattle.thm_c_messages.proofs.Tests.{Is, is, unknown-so, no, Tested, tested-format, tested-uplink, exact}
+use Rattle.thm_c_messages.specs.Refusals.{OfAnotherId, OfItsId, ReaderRefusals, WriterRefusals, SendRefusals, StructRefuses, UplinkRefuses, IdRefuses}
+use Rattle.thm_c_messages.proofs.Tests.{Is, is, is-lawful, unknown-so, no, Tested, tested-format, tested-uplink, exact}
+use Rattle.ucp_messages.specs.declared.Message.{Message}
+use Rattle.ucp_messages.proofs.Formats.{LawfulFormat, Lawful, formatted, uplink, unknown, lawful}
 
 -- ---- reading
 module _ (id : ℕ) (body : List ℕ) where
@@ -167,53 +157,36 @@ send-refusals false body buffer given after call = record {
   frames = λ h. no h;
 }
 
--- ---- the three calls of a kind whose format has its ID, its length, its fixed octets and its ranges
-struct-refuses : {A : Type 0} (k : Kind) (f : Format A) (s : Struct A) → bodySize f ≡ kindLength k → drop 1 (f .head) ≡ fixedOctets k
-    → ((body : List ℕ) → f .ranges (valueIn f body) ≡ fieldsInRange k body) → StructRefuses (getD (f .head) 0 0) k f s
-struct-refuses k f s size head ranges = (
+-- ---- the three calls of a kind that has a format
+pub struct-refuses : {A : Type 0} {k : Kind} (f : Format A) (s : Struct A) {message : A → Message} → LawfulFormat k f message
+    → StructRefuses (getD (f .head) 0 0) k f s
+struct-refuses {k = k} f s l = (
   λ body before after answer call.
-      reads-so (reader-refusals (getD (f .head) 0 0) body k (refusalOf f body) (tested-format f k body size head (ranges body))) call,
+      reads-so
+      (reader-refusals (getD (f .head) 0 0) body k (refusalOf f body) (tested-format f k body (l .size-is) (l .fixed-is) (l .ranges-are body))) call,
   λ a output after given call. body-refusals (fits f a) (bodyOf f a) output given after call,
   λ a buffer after given call. send-refusals (fits f a) (bodyOf f a) buffer given after call,
 )
 
-uplink-refuses : UplinkRefuses
+pub uplink-refuses : UplinkRefuses
 uplink-refuses = (
   λ body before after answer call. reads-so (reader-refusals 7 body Uplink _ (tested-uplink body)) call,
   λ payload output after given call. body-refusals (uplinkFits payload) (uplinkBody payload) output given after call,
   λ payload buffer after given call. send-refusals (uplinkFits payload) (uplinkBody payload) buffer given after call,
 )
 
-pub lent-refusals : LentRefusals
-lent-refusals = record {
-  heartbeat = struct-refuses Heartbeat heartbeatFormat heartbeatStruct refl refl (λ body. refl);
-  uplink = uplink-refuses;
-  ownship = struct-refuses Ownship (reportFormat 10) reportStruct refl refl (λ body. refl);
-  geometricAltitude = struct-refuses GeometricAltitude geometricFormat geometricStruct refl refl (λ body. refl);
-  traffic = struct-refuses Traffic (reportFormat 20) reportStruct refl refl (λ body. refl);
-  request = struct-refuses Request requestFormat requestStruct refl refl (λ body. refl);
-  control = struct-refuses Control controlFormat controlStruct refl refl (λ body. refl);
-  initialization = struct-refuses Initialization initializationFormat initializationStruct refl refl (λ body. refl);
-}
-
 -- ---- the call for the ID
 abbrev Decided : Kind → Type 0
 Decided k = ((k ≡ Unknown) × (isKnown k ≡ false)) ⊎ (Is k × (isKnown k ≡ true))
 
-decided : (k : Kind) → Decided k
-decided Heartbeat = inr (is Heartbeat (omega arith), refl)
-decided Uplink = inr (is Uplink (omega arith), refl)
-decided Ownship = inr (is Ownship (omega arith), refl)
-decided GeometricAltitude = inr (is GeometricAltitude (omega arith), refl)
-decided Traffic = inr (is Traffic (omega arith), refl)
-decided Request = inr (is Request (omega arith), refl)
-decided Control = inr (is Control (omega arith), refl)
-decided Initialization = inr (is Initialization (omega arith), refl)
-decided Unknown = inl (refl, refl)
+decided : {k : Kind} → Lawful k → Decided k
+decided (formatted f message l) = inr (is-lawful l, ap isSome (l .id-is))
+decided uplink = inr (is Uplink (omega arith), refl)
+decided unknown = inl (refl, refl)
 
 pub id-refuses : IdRefuses
 unfolding idDue
-id-refuses body given e = go (decided (kindIn body))
+id-refuses body given e = go (decided (lawful (kindIn body)))
   where
     go : Decided (kindIn body)
         → ((given .refusal ≡ 10) ↔ UnknownId body)

@@ -5,7 +5,7 @@ use mathlib.Core.List.{List, [], _∷_}
 use mathlib.Core.Logic.{_⊎_, inl, inr, _↔_}
 use Prim.Native.Nat.{ℕ, _+_, _≤_, _<_}
 use native.Mathlib.Omega.{arith}
-use borrow.Author.Tests.{eqb-true, eq-eqb, ne-eqb}
+use borrow.Author.Tests.{eqb-true, eq-eqb}
 use lib.Dec.{eqb}
 use lib.ListN.{length, getD, drop}
 use Rattle.field_format.specs.Format.{Format, standAt, bodySize, valueIn}
@@ -14,10 +14,14 @@ use Rattle.ucp_answers.specs.Refusals.{refusalBy, refusalOf}
 use Rattle.ucp_messages.specs.Uplink7.{uplinkRefusal}
 use Rattle.ucp_messages.specs.declared.Kind.{Kind}
 use Rattle.ucp_messages.specs.declared.Kind.the-variants.{Uplink, Unknown}
-use Rattle.ucp_messages.specs.Kinds.{knownIds, kindOf, kindIn}
-use Rattle.ucp_messages.specs.Refusals.{Among, UnknownId, kindLength, HasKindLength, fixedOctets, StandFrom, HasFixedOctets, fieldsInRange}
+use Rattle.ucp_messages.specs.Kinds.{kindLength, fixedOctets, knownIds, NamedBy, kindOf, kindIn}
+use Rattle.ucp_messages.specs.Messages.{refusalIn}
+use Rattle.ucp_messages.specs.declared.Message.{Message}
+use Rattle.ucp_messages.proofs.Formats.{LawfulFormat}
+use Rattle.ucp_messages.proofs.BodyKind.{Others, others, none-of, kind-named, kind-is}
+use Rattle.ucp_messages.specs.Refusals.{Among, UnknownId, HasKindLength, StandFrom, HasFixedOctets, fieldsInRange}
 
--- ---- 10: the kind is unknown where there is no octet, or an ID that is none of the eight
+-- ---- 10: the kind is unknown where there is no octet, or an ID that no kind has
 abbrev pub Is : Kind → Type 0
 Is k = k ≡ Unknown → ⊥
 
@@ -25,39 +29,26 @@ Is k = k ≡ Unknown → ⊥
 pub is : (k : Kind) → 0 < kindLength k → Is k
 is k h e = let z = ap kindLength e in omega (arith, z)
 
-known : (id : ℕ) → Among knownIds id → 0 < kindLength (kindOf id)
-unfolding kindOf
-known id (inl a) = subst (λ (n : ℕ). 0 < kindLength (kindOf n)) (sym a) (omega arith)
-known id (inr (inl a)) = subst (λ (n : ℕ). 0 < kindLength (kindOf n)) (sym a) (omega arith)
-known id (inr (inr (inl a))) = subst (λ (n : ℕ). 0 < kindLength (kindOf n)) (sym a) (omega arith)
-known id (inr (inr (inr (inl a)))) = subst (λ (n : ℕ). 0 < kindLength (kindOf n)) (sym a) (omega arith)
-known id (inr (inr (inr (inr (inl a))))) = subst (λ (n : ℕ). 0 < kindLength (kindOf n)) (sym a) (omega arith)
-known id (inr (inr (inr (inr (inr (inl a)))))) = subst (λ (n : ℕ). 0 < kindLength (kindOf n)) (sym a) (omega arith)
-known id (inr (inr (inr (inr (inr (inr (inl a))))))) = subst (λ (n : ℕ). 0 < kindLength (kindOf n)) (sym a) (omega arith)
-known id (inr (inr (inr (inr (inr (inr (inr (inl a)))))))) = subst (λ (n : ℕ). 0 < kindLength (kindOf n)) (sym a) (omega arith)
-known id (inr (inr (inr (inr (inr (inr (inr (inr a)))))))) = absurd a
+pub is-lawful : {A : Type 0} {k : Kind} {f : Format A} {message : A → Message} → LawfulFormat k f message → Is k
+is-lawful {k = k} l = is k (omega (arith, l .some, l .size-is))
 
-none : (id : ℕ) → (Among knownIds id → ⊥) → kindOf id ≡ Unknown
-unfolding kindOf
-none id h =
-    rw (
-      ne-eqb id 0 (λ e. h (inl e)),
-      ne-eqb id 7 (λ e. h (inr (inl e))),
-      ne-eqb id 10 (λ e. h (inr (inr (inl e)))),
-      ne-eqb id 11 (λ e. h (inr (inr (inr (inl e))))),
-      ne-eqb id 20 (λ e. h (inr (inr (inr (inr (inl e)))))),
-      ne-eqb id 44 (λ e. h (inr (inr (inr (inr (inr (inl e))))))),
-      ne-eqb id 45 (λ e. h (inr (inr (inr (inr (inr (inr (inl e)))))))),
-      ne-eqb id 117 (λ e. h (inr (inr (inr (inr (inr (inr (inr (inl e))))))))),
-    )
+not-among : (ids : List ℕ) (n : ℕ) → Others ids n → Among ids n → ⊥
+not-among [] n h a = a
+not-among (x ∷ xs) n h (inl e) = h .0 e
+not-among (x ∷ xs) n h (inr a) = not-among xs n (h .1) a
+
+among-none : (ids : List ℕ) (n : ℕ) → (Among ids n → ⊥) → Others ids n
+among-none [] n h = tt
+among-none (x ∷ xs) n h = (λ e. h (inl e), among-none xs n (λ a. h (inr a)))
 
 pub unknown-so : (body : List ℕ) → (kindIn body ≡ Unknown) ↔ UnknownId body
 unknown-so [] = (λ e. inl refl, λ h. refl)
-unknown-so (id ∷ rest) = ((λ e. inr (λ a. is (kindOf id) (known id a) e)), back)
+unknown-so (id ∷ rest) =
+    ((λ e. inr (not-among knownIds id (others (Unit {0}) knownIds id (subst (NamedBy id) e (kind-named id)) .1))), back)
   where
     back : UnknownId (id ∷ rest) → kindOf id ≡ Unknown
     back (inl z) = absurd (omega arith)
-    back (inr h) = none id h
+    back (inr h) = sym (kind-is id Unknown (none-of (Unit {0}) knownIds id tt (among-none knownIds id h)))
 
 -- ---- 11 to 13
 pub no : {A : Type 0} → false ≡ true → A
@@ -102,6 +93,11 @@ tested-format f k body size head ranges =
       );
       range-so = ranges;
     }
+
+pub tested-lawful : {A : Type 0} {k : Kind} {f : Format A} {message : A → Message} → LawfulFormat k f message → (body : List ℕ)
+    → Tested k body (refusalIn k body)
+tested-lawful {k = k} {f = f} l body =
+    rw (l .refusal-is body) (tested-format f k body (l .size-is) (l .fixed-is) (l .ranges-are body))
 
 pub tested-uplink : (body : List ℕ) → Tested Uplink body (uplinkRefusal body)
 tested-uplink body =

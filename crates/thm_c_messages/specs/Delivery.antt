@@ -9,26 +9,15 @@ use Rattle.field_format.specs.Format.{Format, bodyOf}
 use Rattle.output_writing.specs.declared.OstrogoszWritten.{OstrogoszWritten}
 use Rattle.ucp_frame.specs.Frame.{longestBody}
 use Rattle.ucp_frame.specs.Stretch.{delivered}
-use Rattle.ucp_messages.specs.Heartbeat0.{heartbeatFormat}
 use Rattle.ucp_messages.specs.Uplink7.{uplinkBody}
-use Rattle.ucp_messages.specs.Report10.{reportFormat}
-use Rattle.ucp_messages.specs.GeometricAltitude11.{geometricFormat}
-use Rattle.ucp_messages.specs.Request44.{requestFormat}
-use Rattle.ucp_messages.specs.Control45.{controlFormat}
-use Rattle.ucp_messages.specs.Initialization117.{initializationFormat}
 use Rattle.c_lent.specs.Structs.{Struct, structSize, held}
 use Rattle.c_lent.specs.Reads.{ReadsInto}
 use Rattle.c_lent.specs.Sends.{SendsStruct}
-use Rattle.c_ucp_heartbeat.specs.Struct.{heartbeatStruct}
 use Rattle.c_ucp_uplink.specs.Uplink.{ReadsUplink, SendsUplink}
-use Rattle.c_ucp_report.specs.Struct.{reportStruct}
-use Rattle.c_ucp_geometric_altitude.specs.Struct.{geometricStruct}
-use Rattle.c_ucp_request.specs.Struct.{requestStruct}
-use Rattle.c_ucp_control.specs.Struct.{controlStruct}
-use Rattle.c_ucp_initialization.specs.Struct.{initializationStruct}
 use Rattle.thm_ucp_receiver.specs.Line.{Observed, upTo, Line}
 use Rattle.thm_ucp_receiver.specs.Promises.{AnswersAs, EndsIn}
 use Rattle.thm_c_messages.specs.RoundTrips.{ReadsSame}
+use Rattle.thm_c_messages.specs.EachKind.{OfEachKind}
 
 -- where a line, whatever it brought before, ends in these octets, and the room is 436 octets or more: the last call delivers this
 -- body, and the octets that it put out meet `Use`. `DeliversLinked` of thm_c_ucp is the same of a linked line
@@ -59,12 +48,5 @@ UplinkSentIsDelivered Delivers =
     (λ (body : List ℕ). (lent left : List ℕ) (r : ℕ) → ReadsUplink body lent r left → (r ≡ 0) × (left ≡ payload))
 
 -- every kind of the UCP line
-pub record LentSentIsDelivered (Delivers : Delivering) : Type 0 where
-  pub heartbeat : StructSentIsDelivered Delivers heartbeatFormat heartbeatStruct
-  pub uplink : UplinkSentIsDelivered Delivers
-  pub ownship : StructSentIsDelivered Delivers (reportFormat 10) reportStruct
-  pub geometricAltitude : StructSentIsDelivered Delivers geometricFormat geometricStruct
-  pub traffic : StructSentIsDelivered Delivers (reportFormat 20) reportStruct
-  pub request : StructSentIsDelivered Delivers requestFormat requestStruct
-  pub control : StructSentIsDelivered Delivers controlFormat controlStruct
-  pub initialization : StructSentIsDelivered Delivers initializationFormat initializationStruct
+abbrev pub LentSentIsDelivered : Delivering → Type 0
+LentSentIsDelivered Delivers = OfEachKind (λ A id k f s. StructSentIsDelivered Delivers f s) (UplinkSentIsDelivered Delivers)

@@ -1,3 +1,4 @@
+pub mod EachKind
 pub mod RoundTrips
 pub mod Delivery
 pub mod Refusals

@@ -13,27 +13,16 @@ use Rattle.output_writing.specs.declared.OstrogoszWritten.{OstrogoszWritten}
 use Rattle.ucp_messages.specs.declared.Kind.{Kind}
 use Rattle.ucp_messages.specs.declared.Kind.the-variants as kind
 use Rattle.ucp_messages.specs.Refusals.{UnknownId, HasKindLength, HasFixedOctets, fieldsInRange}
-use Rattle.ucp_messages.specs.Heartbeat0.{heartbeatFormat}
 use Rattle.ucp_messages.specs.Uplink7.{uplinkFits, uplinkBody}
-use Rattle.ucp_messages.specs.Report10.{reportFormat}
-use Rattle.ucp_messages.specs.GeometricAltitude11.{geometricFormat}
-use Rattle.ucp_messages.specs.Request44.{requestFormat}
-use Rattle.ucp_messages.specs.Control45.{controlFormat}
-use Rattle.ucp_messages.specs.Initialization117.{initializationFormat}
 use Rattle.c_lent.specs.Structs.{Struct}
 use Rattle.c_lent.specs.Reads.{ReadsInto}
 use Rattle.c_lent.specs.Writes.{WritesStructBody}
 use Rattle.c_lent.specs.Sends.{SendsStruct}
-use Rattle.c_ucp_heartbeat.specs.Struct.{heartbeatStruct}
 use Rattle.c_ucp_uplink.specs.Uplink.{ReadsUplink, WritesUplink, SendsUplink}
-use Rattle.c_ucp_report.specs.Struct.{reportStruct}
-use Rattle.c_ucp_geometric_altitude.specs.Struct.{geometricStruct}
-use Rattle.c_ucp_request.specs.Struct.{requestStruct}
-use Rattle.c_ucp_control.specs.Struct.{controlStruct}
-use Rattle.c_ucp_initialization.specs.Struct.{initializationStruct}
 use Rattle.c_ucp_ids.specs.declared.OstrogoszId.{OstrogoszId}
 use Rattle.c_ucp_ids.specs.Ids.{idDue}
 use Rattle.thm_c_ucp.specs.Writer.{FrameRefusals}
+use Rattle.thm_c_messages.specs.EachKind.{OfEachKind}
 
 -- ---- reading
 -- no octet, or another first octet than the kind's ID; and the other way
@@ -100,15 +89,8 @@ UplinkRefuses =
     × SendRefuses uplinkFits uplinkBody SendsUplink
 
 -- every kind of the UCP line
-pub record LentRefusals : Type 0 where
-  pub heartbeat : StructRefuses 0 kind.Heartbeat heartbeatFormat heartbeatStruct
-  pub uplink : UplinkRefuses
-  pub ownship : StructRefuses 10 kind.Ownship (reportFormat 10) reportStruct
-  pub geometricAltitude : StructRefuses 11 kind.GeometricAltitude geometricFormat geometricStruct
-  pub traffic : StructRefuses 20 kind.Traffic (reportFormat 20) reportStruct
-  pub request : StructRefuses 44 kind.Request requestFormat requestStruct
-  pub control : StructRefuses 45 kind.Control controlFormat controlStruct
-  pub initialization : StructRefuses 117 kind.Initialization initializationFormat initializationStruct
+abbrev pub LentRefusals : Type 0
+LentRefusals = OfEachKind (λ A id k f s. StructRefuses id k f s) UplinkRefuses
 
 -- ---- the call that gives a body's ID: 10 for no octet or an ID of no kind, no other refusal, and beside it no ID
 abbrev pub IdRefuses : Type 0

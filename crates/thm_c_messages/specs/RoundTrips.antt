@@ -7,22 +7,11 @@ use lib.ListN.{length, take, drop}
 use Rattle.crc_polynomial.specs.Polynomial.{Octets}
 use Rattle.field_format.specs.Format.{Format}
 use Rattle.output_writing.specs.declared.OstrogoszWritten.{OstrogoszWritten}
-use Rattle.ucp_messages.specs.Heartbeat0.{heartbeatFormat}
-use Rattle.ucp_messages.specs.Report10.{reportFormat}
-use Rattle.ucp_messages.specs.GeometricAltitude11.{geometricFormat}
-use Rattle.ucp_messages.specs.Request44.{requestFormat}
-use Rattle.ucp_messages.specs.Control45.{controlFormat}
-use Rattle.ucp_messages.specs.Initialization117.{initializationFormat}
 use Rattle.c_lent.specs.Structs.{Struct, structSize, stored, held}
 use Rattle.c_lent.specs.Reads.{ReadsInto}
 use Rattle.c_lent.specs.Writes.{WritesStructBody}
-use Rattle.c_ucp_heartbeat.specs.Struct.{heartbeatStruct}
 use Rattle.c_ucp_uplink.specs.Uplink.{ReadsUplink, WritesUplink}
-use Rattle.c_ucp_report.specs.Struct.{reportStruct}
-use Rattle.c_ucp_geometric_altitude.specs.Struct.{geometricStruct}
-use Rattle.c_ucp_request.specs.Struct.{requestStruct}
-use Rattle.c_ucp_control.specs.Struct.{controlStruct}
-use Rattle.c_ucp_initialization.specs.Struct.{initializationStruct}
+use Rattle.thm_c_messages.specs.EachKind.{OfEachKind}
 
 -- a reader answered 0, and the struct that it left holds what the other does; with padding zero, that is all that it holds
 abbrev pub ReadsSame : {A : Type 0} → Struct A → List ℕ → ℕ → List ℕ → Type 0
@@ -59,12 +48,5 @@ UplinkRoundTrips =
     → (w ≡ record { refusal = 0; length = length body }) × (after ≡ body ++ drop (length body) output))
 
 -- every kind of the UCP line
-pub record LentRoundTrips : Type 0 where
-  pub heartbeat : StructRoundTrips heartbeatFormat heartbeatStruct
-  pub uplink : UplinkRoundTrips
-  pub ownship : StructRoundTrips (reportFormat 10) reportStruct
-  pub geometricAltitude : StructRoundTrips geometricFormat geometricStruct
-  pub traffic : StructRoundTrips (reportFormat 20) reportStruct
-  pub request : StructRoundTrips requestFormat requestStruct
-  pub control : StructRoundTrips controlFormat controlStruct
-  pub initialization : StructRoundTrips initializationFormat initializationStruct
+abbrev pub LentRoundTrips : Type 0
+LentRoundTrips = OfEachKind (λ A id k f s. StructRoundTrips f s) UplinkRoundTrips

@@ -1,5 +1,5 @@
 -- A written message reads back equal, by its format. Assumes nothing.
-use mathlib.Core.Path.{_≡_, refl, sym, ap, _∙_}
+use mathlib.Core.Path.{_≡_, refl, sym, ap, subst, _∙_}
 use mathlib.Core.Bool.{Bool, true, false, cond}
 use mathlib.Core.List.{List, _++_}
 use Prim.Native.Nat.{ℕ}
@@ -14,34 +14,32 @@ use Rattle.ucp_answers.specs.Writes.{bodyDue, WritesBody}
 use Rattle.ucp_answers.specs.Refusals.{refusalBy}
 use Rattle.field_format.specs.Format.{bodyOf}
 use Rattle.ucp_answers.proofs.RoundTrips as formats
-use Rattle.ucp_messages.specs.Heartbeat0.{heartbeatFormat}
 use Rattle.ucp_messages.specs.Uplink7.{uplinkFits}
-use Rattle.ucp_messages.specs.Report10.{reportFormat}
-use Rattle.ucp_messages.specs.GeometricAltitude11.{geometricFormat}
-use Rattle.ucp_messages.proofs.Formats.{heartbeat-right, report-right, geometric-right, request-right, control-right, initialization-right}
-use Rattle.ucp_messages.specs.Request44.{requestFormat}
-use Rattle.ucp_messages.specs.Control45.{controlFormat}
-use Rattle.ucp_messages.specs.Initialization117.{initializationFormat}
+use Rattle.ucp_messages.proofs.Formats.{MadeOf, of-format, of-uplink, made-of, fits-as, body-as}
+use Rattle.ucp_messages.specs.declared.Kind.{Kind}
 use Rattle.ucp_messages.specs.declared.Message.{Message}
-use Rattle.ucp_messages.specs.declared.Message.the-variants.{Heartbeat, Uplink, Ownship, GeometricAltitude, Traffic, Request, Control, Initialization}
+use Rattle.ucp_messages.specs.declared.Message.the-variants.{Uplink}
 use Rattle.ucp_messages.specs.Kinds.{kindOf}
 use Rattle.ucp_messages.specs.Messages.{ReaderAnswer, means, refused, payloadBy, answerAs, messageDue, messageFits, messageBody}
-use Rattle.thm_ucp_messages.specs.Typed.{MessageTyped}
+use Rattle.thm_ucp_messages.specs.Typed.{TypedCarried, MessageTyped}
 use Rattle.thm_ucp_messages.specs.RoundTrips.{MessageReadsBack, UplinkReadsBack}
 
 -- the body of a typed message whose fields fit means that message
+abbrev Meant : List ℕ → Message → Type 0
+Meant payload m = MessageTyped m → messageFits m payload ≡ true → messageDue (messageBody m payload) ≡ means m
+
+by-kind : {m : Message} → MadeOf m → (payload : List ℕ) → Meant payload m
+unfolding messageFits messageBody kindOf answerAs uplinkFits refusalBy
+by-kind (of-format k f message a l e) payload =
+    subst (Meant payload) e
+    (λ t h. ap messageDue (body-as l a payload)
+    ∙ ap (λ (j : Kind). answerAs j (bodyOf f a)) (l .body-kind a)
+    ∙ l .answer-is (bodyOf f a)
+    ∙ formats.written-reads-back f (l .right) a (subst TypedCarried (l .carried a) t) (sym (fits-as l a payload) ∙ h) refused (λ x. means (message x)))
+by-kind of-uplink payload = λ t h. let e = eqb-true (length payload) 435 h in rw e
+
 pub body-means : (m : Message) (payload : List ℕ) → MessageTyped m → messageFits m payload ≡ true → messageDue (messageBody m payload) ≡ means m
-unfolding messageFits messageBody kindOf answerAs bodyOf uplinkFits refusalBy
-body-means (Heartbeat h) payload t f = formats.written-reads-back heartbeatFormat heartbeat-right h t f refused (λ x. means (Heartbeat x))
-body-means Uplink payload t f = let e = eqb-true (length payload) 435 f in rw e
-body-means (Ownship r) payload t f = formats.written-reads-back (reportFormat 10) (report-right 10) r t f refused (λ x. means (Ownship x))
-body-means (GeometricAltitude g) payload t f =
-    formats.written-reads-back geometricFormat geometric-right g t f refused (λ x. means (GeometricAltitude x))
-body-means (Traffic r) payload t f = formats.written-reads-back (reportFormat 20) (report-right 20) r t f refused (λ x. means (Traffic x))
-body-means (Request q) payload t f = formats.written-reads-back requestFormat request-right q t f refused (λ x. means (Request x))
-body-means (Control c) payload t f = formats.written-reads-back controlFormat control-right c t f refused (λ x. means (Control x))
-body-means (Initialization n) payload t f =
-    formats.written-reads-back initializationFormat initialization-right n t f refused (λ x. means (Initialization x))
+body-means m payload t h = by-kind (made-of m) payload t h
 
 -- ---- calls
 -- an accepted call: the fields fit, and the body is there

@@ -1,5 +1,5 @@
 -- What the reader gives is a value of its type, by its kind's format. Assumes nothing.
-use mathlib.Core.Path.{_≡_, refl, subst}
+use mathlib.Core.Path.{_≡_, sym, subst, _∙_}
 use mathlib.Core.List.{List}
 use Prim.Native.Nat.{ℕ}
 use native.Mathlib.Omega.{arith}
@@ -11,21 +11,14 @@ use Rattle.field_format.proofs.Formats.{value-typed}
 use Rattle.ucp_answers.specs.Refusals.{refusalOf, reads}
 use Rattle.ucp_answers.proofs.RoundTrips.{none-due}
 use Rattle.ucp_messages.specs.declared.Kind.{Kind}
-use Rattle.ucp_messages.specs.declared.Kind.the-variants.{Heartbeat, Uplink, Ownship, GeometricAltitude, Traffic, Request, Control, Initialization, Unknown}
 use Rattle.ucp_messages.specs.declared.Message.{Message}
 use Rattle.ucp_messages.specs.declared.Message.the-variants as message
-use Rattle.ucp_messages.specs.Heartbeat0.{heartbeatFormat}
 use Rattle.ucp_messages.specs.Uplink7.{uplinkRefusal}
-use Rattle.ucp_messages.specs.Report10.{reportFormat}
-use Rattle.ucp_messages.specs.GeometricAltitude11.{geometricFormat}
-use Rattle.ucp_messages.specs.Request44.{requestFormat}
-use Rattle.ucp_messages.specs.Control45.{controlFormat}
-use Rattle.ucp_messages.specs.Initialization117.{initializationFormat}
-use Rattle.ucp_messages.proofs.Formats.{heartbeat-right, report-right, geometric-right, request-right, control-right, initialization-right}
+use Rattle.ucp_messages.proofs.Formats.{Lawful, formatted, uplink, unknown, lawful}
 use Rattle.ucp_messages.specs.Kinds.{kindIn}
 use Rattle.ucp_messages.specs.Messages.{means, refused, answerAs}
 use Rattle.thm_ucp_messages.proofs.WriteBack.{means-so}
-use Rattle.thm_ucp_messages.specs.Typed.{MessageTyped, ReadIsTyped}
+use Rattle.thm_ucp_messages.specs.Typed.{TypedCarried, MessageTyped, ReadIsTyped}
 
 module _ (body : List ℕ) (m : Message) (h : Octets body) where
   -- where its kind has a format
@@ -37,17 +30,11 @@ module _ (body : List ℕ) (m : Message) (h : Octets body) where
       let n = eqb-true (length body) (bodySize f) (none-due _ _ _ (p .0) .0) in
       subst MessageTyped (p .1) (told (valueIn f body) (value-typed f ok body h n))
 
-  by-kind : (k : Kind) → answerAs k body ≡ means m → MessageTyped m
+  by-kind : {k : Kind} → Lawful k → answerAs k body ≡ means m → MessageTyped m
   unfolding answerAs
-  by-kind Heartbeat a = by-format heartbeatFormat heartbeat-right message.Heartbeat (λ x t. t) a
-  by-kind Uplink a = subst MessageTyped (means-so (uplinkRefusal body) message.Uplink m a .1) tt
-  by-kind Ownship a = by-format (reportFormat 10) (report-right 10) message.Ownship (λ x t. t) a
-  by-kind GeometricAltitude a = by-format geometricFormat geometric-right message.GeometricAltitude (λ x t. t) a
-  by-kind Traffic a = by-format (reportFormat 20) (report-right 20) message.Traffic (λ x t. t) a
-  by-kind Request a = by-format requestFormat request-right message.Request (λ x t. t) a
-  by-kind Control a = by-format controlFormat control-right message.Control (λ x t. t) a
-  by-kind Initialization a = by-format initializationFormat initialization-right message.Initialization (λ x t. t) a
-  by-kind Unknown a = let z : _≡_ {A = ℕ} 0 1 = cc in absurd (omega arith)
+  by-kind (formatted f g l) a = by-format f (l .right) g (λ x t. subst TypedCarried (sym (l .carried x)) t) (sym (l .answer-is body) ∙ a)
+  by-kind uplink a = subst MessageTyped (means-so (uplinkRefusal body) message.Uplink m a .1) tt
+  by-kind unknown a = let z : _≡_ {A = ℕ} 0 1 = cc in absurd (omega arith)
 
 pub read-is-typed : ReadIsTyped
-read-is-typed body m h = by-kind body m h (kindIn body)
+read-is-typed body m h = by-kind body m h (lawful (kindIn body))

@@ -6,9 +6,10 @@ use Prim.Native.Nat.{ℕ}
 use Rattle.crc_polynomial.specs.Polynomial.{Octets}
 use Rattle.field_format.specs.Format.{TypedAs}
 use Rattle.ucp_messages.specs.declared.Message.{Message}
-use Rattle.ucp_messages.specs.Messages.{Carried, value, payload, carriedBy, means, messageDue}
+use Rattle.ucp_messages.specs.Kinds.{Carried, value, payload, carriedBy}
+use Rattle.ucp_messages.specs.Messages.{means, messageDue}
 
-abbrev TypedCarried : Carried → Type 0
+abbrev pub TypedCarried : Carried → Type 0
 TypedCarried (value f a) = TypedAs f a
 TypedCarried payload = Unit {0}
 

@@ -7,53 +7,64 @@ use ucp_messages::Initialization;
 use ucp_messages::Message;
 use ucp_messages::Report;
 use ucp_messages::Request;
-ghost use Rattle.field_format.specs.Format.{TypedAs};
-ghost use Rattle.ucp_messages.specs.Heartbeat0.{heartbeatFormat};
-ghost use Rattle.ucp_messages.specs.Report10.{reportFormat};
-ghost use Rattle.ucp_messages.specs.GeometricAltitude11.{geometricFormat};
-ghost use Rattle.ucp_messages.specs.Request44.{requestFormat};
-ghost use Rattle.ucp_messages.specs.Control45.{controlFormat};
-ghost use Rattle.ucp_messages.specs.Initialization117.{initializationFormat};
+ghost use mathlib.Core.Path.{_≡_};
 ghost use Rattle.thm_ucp_messages.specs.Typed.{MessageTyped};
 
-// ---- one kind
+// ---- one kind: the message, and the value that it carries
 
-fn heartbeat_typed(heartbeat: Heartbeat)
-    ensures { λ r. ⌜ TypedAs heartbeatFormat heartbeat ⌝ }
+fn heartbeat_typed(message: Message, heartbeat: Heartbeat)
+    requires { ⌜ message ≡ Message.Heartbeat heartbeat ⌝ }
+    ensures { λ r. ⌜ MessageTyped message ⌝ }
 {}
 
-fn report_typed(report: Report)
-    ensures { λ r. ⌜ TypedAs (reportFormat 10) report ⌝ }
+fn ownship_typed(message: Message, report: Report)
+    requires { ⌜ message ≡ Message.Ownship report ⌝ }
+    ensures { λ r. ⌜ MessageTyped message ⌝ }
 {}
 
-fn geometric_typed(geometric: GeometricAltitude)
-    ensures { λ r. ⌜ TypedAs geometricFormat geometric ⌝ }
+fn geometric_typed(message: Message, geometric: GeometricAltitude)
+    requires { ⌜ message ≡ Message.GeometricAltitude geometric ⌝ }
+    ensures { λ r. ⌜ MessageTyped message ⌝ }
 {}
 
-fn request_typed(request: Request)
-    ensures { λ r. ⌜ TypedAs requestFormat request ⌝ }
+fn traffic_typed(message: Message, report: Report)
+    requires { ⌜ message ≡ Message.Traffic report ⌝ }
+    ensures { λ r. ⌜ MessageTyped message ⌝ }
 {}
 
-fn control_typed(control: Control)
-    ensures { λ r. ⌜ TypedAs controlFormat control ⌝ }
+fn request_typed(message: Message, request: Request)
+    requires { ⌜ message ≡ Message.Request request ⌝ }
+    ensures { λ r. ⌜ MessageTyped message ⌝ }
 {}
 
-fn initialization_typed(initialization: Initialization)
-    ensures { λ r. ⌜ TypedAs initializationFormat initialization ⌝ }
+fn control_typed(message: Message, control: Control)
+    requires { ⌜ message ≡ Message.Control control ⌝ }
+    ensures { λ r. ⌜ MessageTyped message ⌝ }
+{}
+
+fn initialization_typed(message: Message, initialization: Initialization)
+    requires { ⌜ message ≡ Message.Initialization initialization ⌝ }
+    ensures { λ r. ⌜ MessageTyped message ⌝ }
+{}
+
+fn uplink_typed(message: Message)
+    requires { ⌜ message ≡ Message.Uplink ⌝ }
+    ensures { λ r. ⌜ MessageTyped message ⌝ }
 {}
 
 // Every message is a value of its type.
 pub fn typed(message: Message)
     ensures { λ r. ⌜ MessageTyped message ⌝ }
 {
+    let whole = message;
     match message {
-        Message::Heartbeat(heartbeat) => heartbeat_typed(heartbeat),
-        Message::Uplink => {}
-        Message::Ownship(report) => report_typed(report),
-        Message::GeometricAltitude(geometric) => geometric_typed(geometric),
-        Message::Traffic(report) => report_typed(report),
-        Message::Request(request) => request_typed(request),
-        Message::Control(control) => control_typed(control),
-        Message::Initialization(initialization) => initialization_typed(initialization),
+        Message::Heartbeat(heartbeat) => heartbeat_typed(whole, heartbeat),
+        Message::Uplink => uplink_typed(whole),
+        Message::Ownship(report) => ownship_typed(whole, report),
+        Message::GeometricAltitude(geometric) => geometric_typed(whole, geometric),
+        Message::Traffic(report) => traffic_typed(whole, report),
+        Message::Request(request) => request_typed(whole, request),
+        Message::Control(control) => control_typed(whole, control),
+        Message::Initialization(initialization) => initialization_typed(whole, initialization),
     }
 }

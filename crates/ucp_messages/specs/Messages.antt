@@ -1,17 +1,9 @@
--- The messages of the UCP line together (document 01, "Message kinds on the UCP line", and the table's rows 10 to 13): each
--- kind's format, what the reader answers to a body, and the body of a message. An uplink has no format: its payload
--- is carried beside the message. Assumes nothing.
-use Rattle.field_format.specs.Format.{Format, fits, bodyOf}
-use Rattle.ucp_messages.specs.Heartbeat0.{heartbeatFormat}
-use Rattle.ucp_messages.specs.Report10.{reportFormat}
-use Rattle.ucp_messages.specs.GeometricAltitude11.{geometricFormat}
-use Rattle.ucp_messages.specs.Request44.{requestFormat}
-use Rattle.ucp_messages.specs.Control45.{controlFormat}
-use Rattle.ucp_messages.specs.Initialization117.{initializationFormat}
+-- The messages of the UCP line together (document 01, the table's rows 10 to 13): what the reader answers to a body, and the body of a
+-- message, by the kinds' rows. Assumes nothing.
+use Rattle.field_format.specs.Format.{fits, bodyOf}
 use Rattle.ucp_messages.specs.declared.Kind.{Kind}
-use Rattle.ucp_messages.specs.declared.Kind.the-variants as kind
 use Rattle.ucp_messages.specs.declared.Message.{Message}
-use Rattle.ucp_messages.specs.declared.Message.the-variants.{Heartbeat, Uplink, Ownship, GeometricAltitude, Traffic, Request, Control, Initialization}
+use Rattle.ucp_messages.specs.declared.Message.the-variants.{Uplink}
 use mathlib.Core.Path.{_≡_}
 use mathlib.Core.List.{List, []}
 use Prim.Native.Nat.{ℕ}
@@ -22,40 +14,8 @@ use Rattle.ucp_answers.specs.Refusals.{refusalOf, reads}
 use Rattle.ucp_messages.specs.Uplink7.{uplinkRefusal, uplinkFits, uplinkBody}
 use Rattle.ucp_messages.specs.declared.Read.{Read}
 use Rattle.ucp_messages.specs.declared.Read.the-variants.{Message as Means, Refused}
-use Rattle.ucp_messages.specs.Kinds.{kindIn}
+use Rattle.ucp_messages.specs.Kinds.{Reading, format, uplink, unknown, readingOf, Carried, value, payload, carriedBy, kindIn}
 use mathlib.Core.Bool.{Bool}
-
--- how a body of a kind is read: a format, and the message that its value is
-pub data Reading : Type 1 where
-  format : {A : Type 0} → Format A → (A → Message) → Reading
-  uplink : Reading
-  unknown : Reading
-
-abbrev pub readingOf : Kind → Reading
-readingOf kind.Heartbeat = format heartbeatFormat Heartbeat
-readingOf kind.Uplink = uplink
-readingOf kind.Ownship = format (reportFormat 10) Ownship
-readingOf kind.GeometricAltitude = format geometricFormat GeometricAltitude
-readingOf kind.Traffic = format (reportFormat 20) Traffic
-readingOf kind.Request = format requestFormat Request
-readingOf kind.Control = format controlFormat Control
-readingOf kind.Initialization = format initializationFormat Initialization
-readingOf kind.Unknown = unknown
-
--- what a message carries: a value of a format
-pub data Carried : Type 1 where
-  value : {A : Type 0} → Format A → A → Carried
-  payload : Carried
-
-abbrev pub carriedBy : Message → Carried
-carriedBy (Heartbeat h) = value heartbeatFormat h
-carriedBy Uplink = payload
-carriedBy (Ownship r) = value (reportFormat 10) r
-carriedBy (GeometricAltitude g) = value geometricFormat g
-carriedBy (Traffic r) = value (reportFormat 20) r
-carriedBy (Request q) = value requestFormat q
-carriedBy (Control c) = value controlFormat c
-carriedBy (Initialization n) = value initializationFormat n
 
 -- an answer in the paper's terms: a refusal's number, or the message that the body is
 pub data ReaderAnswer : Type 0 where
@@ -95,11 +55,11 @@ messageDue body = answerAs (kindIn body) body
 abbrev pub Reads : List ℕ → Read → Type 0
 Reads body answer = readerAnswer answer ≡ messageDue body
 
-abbrev carriedFits : Carried → List ℕ → Bool
+abbrev pub carriedFits : Carried → List ℕ → Bool
 carriedFits (value f a) octets = fits f a
 carriedFits payload octets = uplinkFits octets
 
-abbrev carriedBody : Carried → List ℕ → List ℕ
+abbrev pub carriedBody : Carried → List ℕ → List ℕ
 carriedBody (value f a) octets = bodyOf f a
 carriedBody payload octets = uplinkBody octets
 
@@ -111,7 +71,7 @@ unfoldable pub messageBody : Message → List ℕ → List ℕ
 messageBody m = carriedBody (carriedBy m)
 
 -- ---- an uplink's payload, which is no part of the message: the body without its first octet
-abbrev carriedPayload : Carried → List ℕ → List ℕ
+abbrev pub carriedPayload : Carried → List ℕ → List ℕ
 carriedPayload (value f a) body = []
 carriedPayload payload body = drop 1 body
 

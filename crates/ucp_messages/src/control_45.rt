@@ -1,11 +1,13 @@
 // Message 45, Control.
 use super::Control;
-use super::ControlRead;
+use super::Message;
+use super::Read;
 use output_writing::Written;
 ghost use mathlib.Core.Path.{_≡_};
 ghost use lib.ListN.{length, getD};
 ghost use Rattle.field_format.specs.Format.{valueIn, bodyOf, fits, Fitting};
-ghost use Rattle.ucp_answers.specs.Refusals.{reads};
+ghost use Rattle.ucp_messages.specs.Kinds.{StartsWith};
+ghost use Rattle.ucp_messages.specs.Messages.{Reads};
 ghost use Rattle.ucp_messages.specs.Control45.{controlFormat};
 ghost use Rattle.ucp_answers.specs.Writes.{WritesBody};
 
@@ -35,20 +37,21 @@ fn fields(body: &[u8]) -> Control
 }
 
 // What a body that has the kind's ID means.
-pub fn read(body: &[u8]) -> ControlRead
-    ensures { λ r. ⌜ r ≡ reads controlFormat ControlRead.Refused ControlRead.Control (now (body .entry)) ⌝ }
+pub fn read(body: &[u8]) -> Read
+    requires { ⌜ StartsWith 45 (now body) ⌝ }
+    ensures { λ r. ⌜ Reads (now (body .entry)) r ⌝ }
 {
     if body.len() != 18 {
-        return ControlRead::Refused(refusals::MESSAGE_LENGTH);
+        return Read::Refused(refusals::MESSAGE_LENGTH);
     }
     if field_layout::octet(body, 1) != 1 {
-        return ControlRead::Refused(refusals::FIXED);
+        return Read::Refused(refusals::FIXED);
     }
     let fields = fields(body);
     if !in_range(fields) {
-        return ControlRead::Refused(refusals::FIELD);
+        return Read::Refused(refusals::FIELD);
     }
-    ControlRead::Control(fields)
+    Read::Message(Message::Control(fields))
 }
 
 // Whether each field is in its range.

@@ -1,11 +1,13 @@
 // Message 11, Ownship geometric altitude.
 use super::GeometricAltitude;
-use super::GeometricAltitudeRead;
+use super::Message;
+use super::Read;
 use output_writing::Written;
 ghost use mathlib.Core.Path.{_≡_};
 ghost use lib.ListN.{length};
 ghost use Rattle.field_format.specs.Format.{valueIn, bodyOf, fits};
-ghost use Rattle.ucp_answers.specs.Refusals.{reads};
+ghost use Rattle.ucp_messages.specs.Kinds.{StartsWith};
+ghost use Rattle.ucp_messages.specs.Messages.{Reads};
 ghost use Rattle.ucp_messages.specs.GeometricAltitude11.{geometricFormat};
 ghost use Rattle.ucp_answers.specs.Writes.{WritesBody};
 
@@ -20,13 +22,14 @@ fn fields(body: &[u8]) -> GeometricAltitude
 }
 
 // What a body that has the kind's ID means.
-pub fn read(body: &[u8]) -> GeometricAltitudeRead
-    ensures { λ r. ⌜ r ≡ reads geometricFormat GeometricAltitudeRead.Refused GeometricAltitudeRead.GeometricAltitude (now (body .entry)) ⌝ }
+pub fn read(body: &[u8]) -> Read
+    requires { ⌜ StartsWith 11 (now body) ⌝ }
+    ensures { λ r. ⌜ Reads (now (body .entry)) r ⌝ }
 {
     if body.len() != 5 {
-        return GeometricAltitudeRead::Refused(refusals::MESSAGE_LENGTH);
+        return Read::Refused(refusals::MESSAGE_LENGTH);
     }
-    GeometricAltitudeRead::GeometricAltitude(fields(body))
+    Read::Message(Message::GeometricAltitude(fields(body)))
 }
 
 fn octets(geometric: GeometricAltitude) -> [u8; 5]

@@ -1,11 +1,13 @@
 // Message 0, Heartbeat.
 use super::Heartbeat;
-use super::HeartbeatRead;
+use super::Message;
+use super::Read;
 use output_writing::Written;
 ghost use mathlib.Core.Path.{_≡_};
 ghost use lib.ListN.{length};
 ghost use Rattle.field_format.specs.Format.{valueIn, bodyOf, fits};
-ghost use Rattle.ucp_answers.specs.Refusals.{reads};
+ghost use Rattle.ucp_messages.specs.Kinds.{StartsWith};
+ghost use Rattle.ucp_messages.specs.Messages.{Reads};
 ghost use Rattle.ucp_messages.specs.Heartbeat0.{heartbeatFormat};
 ghost use Rattle.ucp_answers.specs.Writes.{WritesBody};
 
@@ -22,13 +24,14 @@ fn fields(body: &[u8]) -> Heartbeat
 }
 
 // What a body that has the kind's ID means.
-pub fn read(body: &[u8]) -> HeartbeatRead
-    ensures { λ r. ⌜ r ≡ reads heartbeatFormat HeartbeatRead.Refused HeartbeatRead.Heartbeat (now (body .entry)) ⌝ }
+pub fn read(body: &[u8]) -> Read
+    requires { ⌜ StartsWith 0 (now body) ⌝ }
+    ensures { λ r. ⌜ Reads (now (body .entry)) r ⌝ }
 {
     if body.len() != 7 {
-        return HeartbeatRead::Refused(refusals::MESSAGE_LENGTH);
+        return Read::Refused(refusals::MESSAGE_LENGTH);
     }
-    HeartbeatRead::Heartbeat(fields(body))
+    Read::Message(Message::Heartbeat(fields(body)))
 }
 
 fn octets(heartbeat: Heartbeat) -> [u8; 7]

@@ -1,11 +1,13 @@
 // Message 117, Initialization.
 use super::Initialization;
-use super::InitializationRead;
+use super::Message;
+use super::Read;
 use output_writing::Written;
 ghost use mathlib.Core.Path.{_≡_};
 ghost use lib.ListN.{length};
 ghost use Rattle.field_format.specs.Format.{valueIn, bodyOf, fits, Fitting};
-ghost use Rattle.ucp_answers.specs.Refusals.{reads};
+ghost use Rattle.ucp_messages.specs.Kinds.{StartsWith};
+ghost use Rattle.ucp_messages.specs.Messages.{Reads};
 ghost use Rattle.ucp_messages.specs.Initialization117.{initializationFormat};
 ghost use Rattle.ucp_answers.specs.Writes.{WritesBody};
 
@@ -27,23 +29,24 @@ fn fields(body: &[u8]) -> Initialization
 }
 
 // What a body that has the kind's ID means.
-pub fn read(body: &[u8]) -> InitializationRead
-    ensures { λ r. ⌜ r ≡ reads initializationFormat InitializationRead.Refused InitializationRead.Initialization (now (body .entry)) ⌝ }
+pub fn read(body: &[u8]) -> Read
+    requires { ⌜ StartsWith 117 (now body) ⌝ }
+    ensures { λ r. ⌜ Reads (now (body .entry)) r ⌝ }
 {
     if body.len() != 19 {
-        return InitializationRead::Refused(refusals::MESSAGE_LENGTH);
+        return Read::Refused(refusals::MESSAGE_LENGTH);
     }
     if field_layout::octet(body, 1) != 65 {
-        return InitializationRead::Refused(refusals::FIXED);
+        return Read::Refused(refusals::FIXED);
     }
     if field_layout::octet(body, 2) != 1 {
-        return InitializationRead::Refused(refusals::FIXED);
+        return Read::Refused(refusals::FIXED);
     }
     let fields = fields(body);
     if !in_range(fields) {
-        return InitializationRead::Refused(refusals::FIELD);
+        return Read::Refused(refusals::FIELD);
     }
-    InitializationRead::Initialization(fields)
+    Read::Message(Message::Initialization(fields))
 }
 
 // Whether each field is in its range.

@@ -5,7 +5,6 @@ mod control_45;
 mod geometric_altitude_11;
 mod heartbeat_0;
 mod initialization_117;
-mod kinds;
 mod report_10;
 mod request_44;
 pub mod uplink_7;
@@ -13,8 +12,9 @@ pub mod uplink_7;
 use field_layout::Text;
 use output_writing::Written;
 ghost use mathlib.Core.Path.{_≡_};
+ghost use lib.ListN.{length, getD};
 ghost use Rattle.ucp_answers.specs.Writes.{WritesBody};
-ghost use Rattle.ucp_messages.specs.Kinds.{kindOf, idsOf, idsIn};
+ghost use Rattle.ucp_messages.specs.Kinds.{isKnown, knownIds, NoneOf, NamedBy};
 ghost use Rattle.ucp_messages.specs.Messages.{Reads, GivesPayload, messageFits, messageBody};
 
 // Message 0, Heartbeat: all bits carried as they are.
@@ -61,29 +61,6 @@ pub struct GeometricAltitude {
     pub metrics: u16,
 }
 
-// ---- the readers' answers: the fields, or a refusal by its number, 11 for another length than the kind's
-
-enum HeartbeatRead {
-    Heartbeat(Heartbeat),
-    Refused(u8),
-}
-
-// An uplink's payload is the body without its first octet.
-enum UplinkRead {
-    Uplink,
-    Refused(u8),
-}
-
-enum ReportRead {
-    Report(Report),
-    Refused(u8),
-}
-
-enum GeometricAltitudeRead {
-    GeometricAltitude(GeometricAltitude),
-    Refused(u8),
-}
-
 // Message 44, Message Request.
 #[repr(C)]
 pub struct Request {
@@ -124,24 +101,6 @@ pub struct Initialization {
     pub longitudinal: u8,
 }
 
-// ---- the readers' answers: the fields, or a refusal by its number, 11 for another length than the kind's, 12 for a wrong
-// version, signature or subtype, 13 for a field outside its range
-
-enum RequestRead {
-    Request(Request),
-    Refused(u8),
-}
-
-enum ControlRead {
-    Control(Control),
-    Refused(u8),
-}
-
-enum InitializationRead {
-    Initialization(Initialization),
-    Refused(u8),
-}
-
 // The kinds of message. An ID that is none of theirs is of an unknown kind.
 pub enum Kind {
     Heartbeat,
@@ -178,7 +137,7 @@ pub enum Read {
 
 // The kind of a message, by its ID.
 pub fn kind_of(id: u8) -> Kind
-    ensures { λ r. ⌜ (r ≡ kindOf id) × (idsOf r ≡ idsIn id) ⌝ }
+    ensures { λ r. ⌜ NamedBy id r ⌝ }
 {
     match id {
         0 => Kind::Heartbeat,
@@ -193,23 +152,56 @@ pub fn kind_of(id: u8) -> Kind
     }
 }
 
-// What a body means.
+// Whether a kind is a known one.
+pub fn is_known(kind: Kind) -> bool
+    ensures { λ r. ⌜ r ≡ isKnown kind ⌝ }
+{
+    match kind {
+        Kind::Heartbeat => true,
+        Kind::Uplink => true,
+        Kind::Ownship => true,
+        Kind::GeometricAltitude => true,
+        Kind::Traffic => true,
+        Kind::Request => true,
+        Kind::Control => true,
+        Kind::Initialization => true,
+        Kind::Unknown => false,
+    }
+}
+
+// A body without an octet is of no kind.
+fn read_nothing(body: &[u8]) -> Read
+    requires { ⌜ length (now body) ≡ 0 ⌝ }
+    ensures { λ r. ⌜ Reads (now (body .entry)) r ⌝ }
+{
+    Read::Refused(refusals::UNKNOWN_ID)
+}
+
+// Nor is one with an ID that no kind has.
+fn read_unknown(body: &[u8]) -> Read
+    requires { ⌜ NoneOf knownIds (getD (now body) 0 0) ⌝ }
+    ensures { λ r. ⌜ Reads (now (body .entry)) r ⌝ }
+{
+    Read::Refused(refusals::UNKNOWN_ID)
+}
+
+// What a body means. The choice is by the number, as in `kind_of`: so it needs no proof of its own.
 pub fn read_message(body: &[u8]) -> Read
     ensures { λ r. ⌜ Reads (now (body .entry)) r ⌝ }
 {
     if body.len() == 0 {
-        return Read::Refused(refusals::UNKNOWN_ID);
+        return read_nothing(body);
     }
-    match kind_of(body[0]) {
-        Kind::Heartbeat => kinds::heartbeat(body),
-        Kind::Uplink => kinds::uplink(body),
-        Kind::Ownship => kinds::ownship(body),
-        Kind::GeometricAltitude => kinds::geometric_altitude(body),
-        Kind::Traffic => kinds::traffic(body),
-        Kind::Request => kinds::request(body),
-        Kind::Control => kinds::control(body),
-        Kind::Initialization => kinds::initialization(body),
-        Kind::Unknown => Read::Refused(refusals::UNKNOWN_ID),
+    match body[0] {
+        0 => heartbeat_0::read(body),
+        7 => uplink_7::read(body),
+        10 => report_10::read_ownship(body),
+        11 => geometric_altitude_11::read(body),
+        20 => report_10::read_traffic(body),
+        44 => request_44::read(body),
+        45 => control_45::read(body),
+        117 => initialization_117::read(body),
+        _ => read_unknown(body),
     }
 }
 

@@ -1,13 +1,15 @@
 // Messages 10 and 20, Ownship and Traffic report: they differ in the ID alone.
+use super::Message;
+use super::Read;
 use super::Report;
-use super::ReportRead;
 use output_writing::Written;
 ghost use mathlib.Core.Path.{_≡_};
 ghost use lib.ListN.{length};
 ghost use Rattle.field_signed.specs.Signed.{complement};
 ghost use Prim.Native.Nat.{_+_, _*_, _<_};
 ghost use Rattle.field_format.specs.Format.{valueIn, bodyOf, fits, Fitting};
-ghost use Rattle.ucp_answers.specs.Refusals.{reads};
+ghost use Rattle.ucp_messages.specs.Kinds.{StartsWith};
+ghost use Rattle.ucp_messages.specs.Messages.{Reads};
 ghost use Rattle.ucp_messages.specs.Report10.{reportFormat};
 ghost use Rattle.ucp_messages.specs.Steps.{heightOf, threeOf, positionOf, motionOf};
 ghost use Rattle.ucp_answers.specs.Writes.{WritesBody};
@@ -42,14 +44,25 @@ fn fields(body: &[u8]) -> Report
     }
 }
 
-// What a body that has the ID of either kind means.
-pub fn read(body: &[u8]) -> ReportRead
-    ensures { λ r. ⌜ r ≡ reads (reportFormat 10) ReportRead.Refused ReportRead.Report (now (body .entry)) ⌝ }
+// What a body that has the kind's ID means.
+pub fn read_ownship(body: &[u8]) -> Read
+    requires { ⌜ StartsWith 10 (now body) ⌝ }
+    ensures { λ r. ⌜ Reads (now (body .entry)) r ⌝ }
 {
     if body.len() != 28 {
-        return ReportRead::Refused(refusals::MESSAGE_LENGTH);
+        return Read::Refused(refusals::MESSAGE_LENGTH);
     }
-    ReportRead::Report(fields(body))
+    Read::Message(Message::Ownship(fields(body)))
+}
+
+pub fn read_traffic(body: &[u8]) -> Read
+    requires { ⌜ StartsWith 20 (now body) ⌝ }
+    ensures { λ r. ⌜ Reads (now (body .entry)) r ⌝ }
+{
+    if body.len() != 28 {
+        return Read::Refused(refusals::MESSAGE_LENGTH);
+    }
+    Read::Message(Message::Traffic(fields(body)))
 }
 
 // Whether each field has no more bits than the body has for it.

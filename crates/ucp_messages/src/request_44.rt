@@ -1,11 +1,13 @@
 // Message 44, Message Request.
+use super::Message;
+use super::Read;
 use super::Request;
-use super::RequestRead;
 use output_writing::Written;
 ghost use mathlib.Core.Path.{_≡_};
 ghost use lib.ListN.{length};
 ghost use Rattle.field_format.specs.Format.{valueIn, bodyOf, fits};
-ghost use Rattle.ucp_answers.specs.Refusals.{reads};
+ghost use Rattle.ucp_messages.specs.Kinds.{StartsWith};
+ghost use Rattle.ucp_messages.specs.Messages.{Reads};
 ghost use Rattle.ucp_messages.specs.Request44.{requestFormat};
 ghost use Rattle.ucp_answers.specs.Writes.{WritesBody};
 
@@ -19,16 +21,17 @@ fn fields(body: &[u8]) -> Request
 }
 
 // What a body that has the kind's ID means.
-pub fn read(body: &[u8]) -> RequestRead
-    ensures { λ r. ⌜ r ≡ reads requestFormat RequestRead.Refused RequestRead.Request (now (body .entry)) ⌝ }
+pub fn read(body: &[u8]) -> Read
+    requires { ⌜ StartsWith 44 (now body) ⌝ }
+    ensures { λ r. ⌜ Reads (now (body .entry)) r ⌝ }
 {
     if body.len() != 3 {
-        return RequestRead::Refused(refusals::MESSAGE_LENGTH);
+        return Read::Refused(refusals::MESSAGE_LENGTH);
     }
     if field_layout::octet(body, 1) != 2 {
-        return RequestRead::Refused(refusals::FIXED);
+        return Read::Refused(refusals::FIXED);
     }
-    RequestRead::Request(fields(body))
+    Read::Message(Message::Request(fields(body)))
 }
 
 fn octets(request: Request) -> [u8; 3]

@@ -368,9 +368,8 @@ fn is_callsign(text: &[u8; 8]) -> bool {
 #[cfg(test)]
 mod tests {
     use super::*;
-    use compare::both_sides::our_message;
     use compare::generator::Generator;
-    use compare::messages::Kind;
+    use compare::messages::{ours, KINDS};
     use ostrogosz::messages::{read_message, write_message};
 
     fn assert_same_reading(body: &[u8]) {
@@ -392,7 +391,7 @@ mod tests {
     #[test]
     fn both_readers_answer_alike() {
         let mut generator = Generator::new(31);
-        for kind in Kind::ALL {
+        for kind in KINDS {
             for turn in 0..20_000 {
                 let mut body = kind.right_body(&mut generator);
                 let place = turn % body.len();
@@ -406,15 +405,15 @@ mod tests {
     #[test]
     fn both_writers_answer_alike() {
         let mut generator = Generator::new(32);
-        for kind in Kind::ALL {
+        for kind in KINDS {
             for turn in 0..20_000 {
                 let message = match turn % 2 {
                     0 => kind.message(&mut generator),
                     _ => kind.wild_message(&mut generator),
                 };
-                let exact = kind.octets();
+                let exact = kind.octets;
                 let room = generator.pick(&[0, exact - 1, exact, exact + 1, 440]);
-                assert_same_writing(&our_message(&message), room);
+                assert_same_writing(&ours(&message), room);
             }
         }
     }

@@ -3,11 +3,11 @@
 
 use std::hint::black_box;
 
-use compare::both_sides::our_message;
 use compare::generator::Generator;
-use compare::messages::{body_of, Kind};
+use compare::messages::{body_of, kind, ours as our_message, Kind, UPLINK};
 use ostrogosz::messages::{
-    write_message, Control, GeometricAltitude, Heartbeat, Initialization, Message, Report, Request,
+    write_message, Control, GeometricAltitude, Heartbeat, Id, Initialization, Message, Report,
+    Request,
 };
 use ostrogosz::{Refusal, LONGEST_BODY, LONGEST_FRAME};
 use second::messages as second;
@@ -64,7 +64,7 @@ macro_rules! rows_of {
             Message::$kind(of) => of,
             other => panic!("{other:?} for another kind"),
         };
-        print_rows::<$type, Ours, Rust>(Kind::$kind, field);
+        print_rows::<$type, Ours, Rust>(kind(Id::$kind.number()), field);
     }};
 }
 
@@ -108,7 +108,7 @@ pub fn print() {
     print_uplink();
 }
 
-fn print_rows<T, Ours, Rust>(kind: Kind, field: fn(Message<'_>) -> T)
+fn print_rows<T, Ours, Rust>(kind: &Kind, field: fn(Message<'_>) -> T)
 where
     T: Copy + Default + PartialEq,
     Ours: Calls<T>,
@@ -147,10 +147,10 @@ fn work<T: Default + PartialEq, C: Calls<T>>(message: &T, body: &[u8]) -> [u8; L
     frame
 }
 
-fn print_row(verb: &str, kind: Kind, times: [Option<f64>; 3]) {
+fn print_row(verb: &str, kind: &Kind, times: [Option<f64>; 3]) {
     let [ours, rust, second] = times.map(|turn| turn.map(|time| time / MESSAGES as f64));
     Row {
-        work: format!("{verb} message {}", kind.name()),
+        work: format!("{verb} message {}", kind.name),
         unit: Unit::Nanoseconds,
         ours: ours.expect("ours is timed"),
         rust: rust.expect("Rust is timed"),
@@ -241,7 +241,7 @@ fn sender<'a, M>(
 fn print_uplink() {
     let mut generator = Generator::new(34);
     let theirs: Vec<_> = (0..MESSAGES)
-        .map(|_| Kind::Uplink.message(&mut generator))
+        .map(|_| UPLINK.message(&mut generator))
         .collect();
     let ours: Vec<_> = theirs.iter().map(our_message).collect();
     let times = best_times([
@@ -250,9 +250,5 @@ fn print_uplink() {
         }),
         &mut writer(&ours, |message, output| messages::write(message, output)),
     ]);
-    print_row(
-        "write",
-        Kind::Uplink,
-        [Some(times[0]), Some(times[1]), None],
-    );
+    print_row("write", &UPLINK, [Some(times[0]), Some(times[1]), None]);
 }

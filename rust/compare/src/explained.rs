@@ -33,7 +33,7 @@ fn reason(number: u8) -> &'static str {
 
 /// A text in quotes: what can't be shown, quotes and backslashes by their
 /// numbers.
-fn quoted(text: &[u8]) -> String {
+pub(crate) fn quoted(text: &[u8]) -> String {
     let shown = text.iter().map(|&octet| match octet {
         b'"' | b'\\' => format!("\\x{octet:02x}"),
         b' '..=b'~' => char::from(octet).to_string(),
@@ -43,7 +43,7 @@ fn quoted(text: &[u8]) -> String {
 }
 
 /// So many parts, with so many digits behind the point.
-fn pointed(parts: i64, places: usize) -> String {
+pub(crate) fn pointed(parts: i64, places: usize) -> String {
     let whole = 10_u64.pow(places as u32);
     let size = parts.unsigned_abs();
     let sign = if parts < 0 { "-" } else { "" };
@@ -51,12 +51,12 @@ fn pointed(parts: i64, places: usize) -> String {
 }
 
 /// A value with its unit, or that there is none.
-fn known(value: Option<String>, unit: &str) -> String {
+pub(crate) fn known(value: Option<String>, unit: &str) -> String {
     value.map_or("no data".to_owned(), |value| format!("{value} {unit}"))
 }
 
 /// `yes` or `no`.
-fn truth(bit: u8) -> &'static str {
+pub(crate) fn truth(bit: u8) -> &'static str {
     if bit == 0 {
         "no"
     } else {
@@ -65,6 +65,6 @@ fn truth(bit: u8) -> &'static str {
 }
 
 /// Octets in hexadecimal, a space before each.
-fn hexadecimal(octets: &[u8]) -> String {
+pub(crate) fn hexadecimal(octets: &[u8]) -> String {
     octets.iter().map(|octet| format!(" {octet:02x}")).collect()
 }

@@ -5,7 +5,7 @@ use compare::explained;
 use compare::generator::Generator;
 use compare::lines;
 use compare::mavlink;
-use compare::messages::Kind;
+use compare::messages::{Kind, KINDS};
 use compare::programs::output_of;
 use compare::tally::Tally;
 use second::frame::frame;
@@ -25,12 +25,12 @@ fn no_line() {
 
 /// Frames with a body each, some of a right message and some of a kind's head
 /// with anything behind it.
-fn message_line(kind: Kind, frames: usize, generator: &mut Generator) -> Vec<u8> {
+fn message_line(kind: &Kind, frames: usize, generator: &mut Generator) -> Vec<u8> {
     let mut line = Vec::new();
     for _ in 0..frames {
         let body = match generator.below(4) {
             0 => {
-                let length = generator.pick(&[kind.octets(), kind.octets(), 1, 3, 30]);
+                let length = generator.pick(&[kind.octets, kind.octets, 1, 3, 30]);
                 kind.random_body(length, generator)
             }
             _ => kind.right_body(generator),
@@ -44,12 +44,12 @@ fn message_line(kind: Kind, frames: usize, generator: &mut Generator) -> Vec<u8>
 fn messages_of_every_kind() {
     let mut tally = Tally::default();
     let mut generator = Generator::new(31);
-    for kind in Kind::ALL {
+    for kind in KINDS {
         let frames = 20_000;
         let line = message_line(kind, frames, &mut generator);
         let differs = output_of("line_explainer", &line) != explained::line(&line);
-        let difference = differs.then(|| kind.name().to_owned());
-        tally.count_many(kind.name(), frames as u64, difference);
+        let difference = differs.then(|| kind.name.to_owned());
+        tally.count_many(kind.name, frames as u64, difference);
     }
     tally.close("line explainer, in frames of messages", 160_000);
 }

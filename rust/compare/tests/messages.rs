@@ -4,7 +4,7 @@
 use compare::bodies::Kind as Body;
 use compare::both_sides::{read, send, write};
 use compare::comparison::Comparison;
-use compare::messages::Kind;
+use compare::messages::{names, Kind, KINDS, UPLINK};
 use compare::texts::{texts, TextField};
 use second::messages::{Message, Uplink};
 
@@ -35,9 +35,9 @@ fn try_read(comparison: &mut Comparison, kind: &'static str, body: &[u8]) {
 }
 
 /// Writes one message on both sides.
-fn try_write(comparison: &mut Comparison, kind: Kind, message: &Message, room: usize) {
+fn try_write(comparison: &mut Comparison, kind: &Kind, message: &Message, room: usize) {
     comparison.write(
-        kind.name(),
+        kind.name,
         room,
         |output| write(message, output),
         |output| second::messages::write(message, output),
@@ -47,14 +47,14 @@ fn try_write(comparison: &mut Comparison, kind: Kind, message: &Message, room: u
 
 /// Sends one message on both sides: the second program writes the body and then
 /// its frame.
-fn try_send(comparison: &mut Comparison, kind: Kind, message: &Message) {
+fn try_send(comparison: &mut Comparison, kind: &Kind, message: &Message) {
     let second_send = |buffer: &mut [u8]| {
         let mut body = [0; 436];
         let length = second::messages::write(message, &mut body)?;
         second::frame::write_frame(&body[..length], buffer)
     };
     comparison.write(
-        kind.name(),
+        kind.name,
         BUFFER,
         |buffer| send(message, buffer),
         second_send,
@@ -64,10 +64,10 @@ fn try_send(comparison: &mut Comparison, kind: Kind, message: &Message) {
 
 /// A body of the kind: at random behind its head, right, or right but for a few
 /// octets and perhaps its length.
-fn any_body(kind: Kind, comparison: &mut Comparison) -> Vec<u8> {
+fn any_body(kind: &Kind, comparison: &mut Comparison) -> Vec<u8> {
     let generator = &mut comparison.generator;
     match generator.below(4) {
-        0 => kind.random_body(kind.octets(), generator),
+        0 => kind.random_body(kind.octets, generator),
         1 => kind.right_body(generator),
         _ => {
             let mut body = kind.right_body(generator);
@@ -85,13 +85,13 @@ fn any_body(kind: Kind, comparison: &mut Comparison) -> Vec<u8> {
 #[test]
 fn a_million_bodies_of_each_kind() {
     let mut comparison = Comparison::new(21, 0);
-    for kind in Kind::ALL {
+    for kind in KINDS {
         for _ in 0..BODIES {
             let body = any_body(kind, &mut comparison);
-            try_read(&mut comparison, kind.name(), &body);
+            try_read(&mut comparison, kind.name, &body);
         }
     }
-    comparison.close("reading at random", &Kind::names(), BODIES, &READ);
+    comparison.close("reading at random", &names(|_| true), BODIES, &READ);
 }
 
 /// Every length about those of the kinds.
@@ -103,7 +103,7 @@ fn lengths() -> impl Iterator<Item = usize> {
 fn every_id_at_every_length() {
     let mut comparison = Comparison::new(22, 0);
     for id in 0..=255 {
-        let kind = Kind::ALL.into_iter().find(|kind| kind.head()[0] == id);
+        let kind = KINDS.into_iter().find(|kind| kind.head[0] == id);
         for length in lengths().flat_map(|length| [length; 20]) {
             let mut body = match kind {
                 Some(kind) => kind.random_body(length, &mut comparison.generator),
@@ -112,11 +112,15 @@ fn every_id_at_every_length() {
             if let Some(first) = body.first_mut() {
                 *first = id;
             }
-            try_read(&mut comparison, kind.map_or("unknown", Kind::name), &body);
+            try_read(
+                &mut comparison,
+                kind.map_or("unknown", |kind| kind.name),
+                &body,
+            );
         }
     }
     let due = ["accepted", "refused with 10", "refused with 11"];
-    comparison.close("reading, every ID and length", &Kind::names(), 900, &due);
+    comparison.close("reading, every ID and length", &names(|_| true), 900, &due);
 }
 
 /// Every octet in place of each octet of the head, before contents that are
@@ -124,22 +128,22 @@ fn every_id_at_every_length() {
 #[test]
 fn every_octet_in_the_head() {
     let mut comparison = Comparison::new(23, 0);
-    for kind in Kind::ALL.into_iter().filter(|kind| kind.head().len() > 1) {
-        for place in 0..kind.head().len() {
+    for kind in KINDS.into_iter().filter(|kind| kind.head.len() > 1) {
+        for place in 0..kind.head.len() {
             for octet in 0..=255 {
                 let right = kind.right_body(&mut comparison.generator);
-                let random = kind.random_body(kind.octets(), &mut comparison.generator);
+                let random = kind.random_body(kind.octets, &mut comparison.generator);
                 for mut body in [right, random] {
                     body[place] = octet;
                     body.push(0);
                     for length in [place + 1, body.len() - 2, body.len() - 1, body.len()] {
-                        try_read(&mut comparison, kind.name(), &body[..length]);
+                        try_read(&mut comparison, kind.name, &body[..length]);
                     }
                 }
             }
         }
     }
-    let kinds = [Kind::Request, Kind::Control, Kind::Initialization].map(Kind::name);
+    let kinds = names(|kind| kind.head.len() > 1);
     comparison.close("reading, every octet in the head", &kinds, 4000, &READ);
 }
 
@@ -147,43 +151,42 @@ fn every_octet_in_the_head() {
 #[test]
 fn every_octet_at_every_place() {
     let mut comparison = Comparison::new(24, 0);
-    for kind in Kind::ALL {
-        let turns = if kind == Kind::Uplink { 1 } else { 20 };
-        for place in (0..kind.octets()).flat_map(|place| [place].repeat(turns)) {
+    for kind in KINDS {
+        let turns = if kind.is_uplink() { 1 } else { 20 };
+        for place in (0..kind.octets).flat_map(|place| [place].repeat(turns)) {
             let mut body = kind.right_body(&mut comparison.generator);
             for octet in 0..=255 {
                 body[place] = octet;
-                try_read(&mut comparison, kind.name(), &body);
+                try_read(&mut comparison, kind.name, &body);
             }
         }
     }
     let title = "reading, every octet at every place";
-    comparison.close(title, &Kind::names(), 256 * 60, &READ);
+    comparison.close(title, &names(|_| true), 256 * 60, &READ);
 }
 
 /// Every pair of neighbouring octets of the kinds that have ranges: so every
 /// squawk, and every two characters beside each other.
 #[test]
 fn every_pair_of_octets() {
-    let kinds = [Kind::Control, Kind::Initialization];
     let mut comparison = Comparison::new(25, 0);
-    for kind in kinds {
-        for place in 0..kind.octets() - 1 {
+    for kind in KINDS.into_iter().filter(|kind| kind.ranged) {
+        for place in 0..kind.octets - 1 {
             let mut body = kind.right_body(&mut comparison.generator);
             for pair in 0..=u16::MAX {
                 body[place..place + 2].copy_from_slice(&pair.to_le_bytes());
-                try_read(&mut comparison, kind.name(), &body);
+                try_read(&mut comparison, kind.name, &body);
             }
         }
     }
     let title = "reading, every pair of octets";
-    comparison.close(title, &kinds.map(Kind::name), BODIES, &READ);
+    comparison.close(title, &names(|kind| kind.ranged), BODIES, &READ);
 }
 
 /// The kinds that have a text.
-fn with_text() -> impl Iterator<Item = (Kind, &'static TextField<Message>)> {
-    let kinds = Kind::ALL.into_iter();
-    kinds.filter_map(|kind| Some((kind, kind.text()?)))
+fn with_text() -> impl Iterator<Item = (&'static Kind, &'static TextField<Message>)> {
+    let kinds = KINDS.into_iter();
+    kinds.filter_map(|kind| Some((kind, kind.text?)))
 }
 
 #[test]
@@ -194,14 +197,14 @@ fn texts_in_both_directions() {
             let mut message = kind.message(&mut comparison.generator);
             let mut body = compare::messages::body_of(&message);
             body[field.place..field.place + text.len()].copy_from_slice(&text);
-            try_read(&mut comparison, kind.name(), &body);
+            try_read(&mut comparison, kind.name, &body);
 
             (field.put)(&mut message, text);
-            try_write(&mut comparison, kind, &message, kind.octets());
-            try_write(&mut comparison, kind, &message, kind.octets() - 1);
+            try_write(&mut comparison, kind, &message, kind.octets);
+            try_write(&mut comparison, kind, &message, kind.octets - 1);
         }
     }
-    let kinds: Vec<_> = with_text().map(|(kind, _)| kind.name()).collect();
+    let kinds: Vec<_> = with_text().map(|(kind, _)| kind.name).collect();
     comparison.close("texts, read and written", &kinds, 70_000, &WRITTEN);
 }
 
@@ -209,23 +212,22 @@ fn texts_in_both_directions() {
 fn a_million_messages_of_each_kind() {
     let mut short = Comparison::new(27, 40);
     let mut long = Comparison::new(28, LONGEST_BODY);
-    for kind in Kind::ALL {
-        let comparison = match kind {
-            Kind::Uplink => &mut long,
-            _ => &mut short,
+    for kind in KINDS {
+        let comparison = if kind.is_uplink() {
+            &mut long
+        } else {
+            &mut short
         };
         for turn in 0..BODIES {
             let message = match turn % 2 {
                 0 => kind.message(&mut comparison.generator),
                 _ => kind.wild_message(&mut comparison.generator),
             };
-            let room = comparison.any_room(kind.octets());
+            let room = comparison.any_room(kind.octets);
             try_write(comparison, kind, &message, room);
         }
     }
-    let (uplink, others): (Vec<_>, Vec<_>) = Kind::names()
-        .into_iter()
-        .partition(|&name| name == Kind::Uplink.name());
+    let (uplink, others) = (names(Kind::is_uplink), names(|kind| !kind.is_uplink()));
     short.close("writing at random", &others, BODIES, &WRITTEN);
     long.close("writing at random, uplink", &uplink, BODIES, &WRITTEN);
 }
@@ -235,8 +237,8 @@ fn a_million_messages_of_each_kind() {
 #[test]
 fn every_field_at_its_edges() {
     let mut comparison = Comparison::new(29, BUFFER);
-    for kind in Kind::ALL {
-        for field in kind.fields() {
+    for kind in KINDS {
+        for field in kind.fields {
             for value in field.edges.values().repeat(4) {
                 let mut message = kind.message(&mut comparison.generator);
                 (field.put)(&mut message, value);
@@ -246,14 +248,14 @@ fn every_field_at_its_edges() {
     }
     for length in 0..=LONGEST_BODY {
         let octets = comparison.generator.octets(length);
-        try_everywhere(&mut comparison, Kind::Uplink, &uplink(octets));
+        try_everywhere(&mut comparison, &UPLINK, &uplink(octets));
     }
     let title = "writing and sending, every field at its edges";
-    comparison.close(title, &Kind::names(), 500, &WRITTEN);
+    comparison.close(title, &names(|_| true), 500, &WRITTEN);
 }
 
-fn try_everywhere(comparison: &mut Comparison, kind: Kind, message: &Message) {
-    for room in comparison.edge_rooms(kind.octets()) {
+fn try_everywhere(comparison: &mut Comparison, kind: &Kind, message: &Message) {
+    for room in comparison.edge_rooms(kind.octets) {
         try_write(comparison, kind, message, room);
     }
     try_send(comparison, kind, message);
@@ -267,16 +269,16 @@ fn uplink(octets: Vec<u8>) -> Message {
 fn sending_at_random() {
     const MESSAGES: u64 = 50_000;
     let mut comparison = Comparison::new(30, BUFFER);
-    for kind in Kind::ALL {
+    for kind in KINDS {
         for turn in 0..MESSAGES {
-            let message = match (turn % 4, kind) {
+            let message = match (turn % 4, kind.is_uplink()) {
                 (0, _) => kind.wild_message(&mut comparison.generator),
-                (1, Kind::Uplink) => uplink(Body::EscapeHeavy.body(435, &mut comparison.generator)),
+                (1, true) => uplink(Body::EscapeHeavy.body(435, &mut comparison.generator)),
                 _ => kind.message(&mut comparison.generator),
             };
             try_send(&mut comparison, kind, &message);
         }
     }
     let due = &WRITTEN[..2];
-    comparison.close("sending at random", &Kind::names(), MESSAGES, due);
+    comparison.close("sending at random", &names(|_| true), MESSAGES, due);
 }

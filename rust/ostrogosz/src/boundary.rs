@@ -1,9 +1,7 @@
 //! The declarations of `include/ostrogosz.h`.
 
 use crate::mavlink::{DataStream, Dynamic, Header, Static, Status, Traffic};
-use crate::messages::{
-    Control, GeometricAltitude, Heartbeat, Initialization, Report, Request, UPLINK_PAYLOAD,
-};
+use crate::messages::UPLINK_PAYLOAD;
 use crate::{LONGEST_FRAME, STORE};
 
 /// A writer's answer.
@@ -79,7 +77,7 @@ pub struct FailureBits {
 }
 
 /// What a frame is sent in.
-type Buffer = [u8; LONGEST_FRAME];
+pub type Buffer = [u8; LONGEST_FRAME];
 
 /// The numbers of a receiver's line.
 pub const LINE: usize = 7;
@@ -142,7 +140,7 @@ unsafe extern "C" {
     pub fn ostrogosz_mavlink_count_failures(status: u8) -> FailureBits;
 }
 
-/// The three calls of each kind of UCP message.
+/// The three calls of a kind of UCP message.
 macro_rules! ucp_calls {
     ($($message:ty: $read:ident, $write:ident, $send:ident;)+) => {
         unsafe extern "C" {
@@ -152,25 +150,13 @@ macro_rules! ucp_calls {
                     message: *const $message,
                     output: *mut u8,
                     output_length: usize,
-                ) -> Written;
-                pub fn $send(message: *const $message, buffer: *mut Buffer) -> Written;
+                ) -> $crate::boundary::Written;
+                pub fn $send(message: *const $message, buffer: *mut $crate::boundary::Buffer) -> $crate::boundary::Written;
             )+
         }
     };
 }
-
-ucp_calls! {
-    Heartbeat: ostrogosz_ucp_read_heartbeat, ostrogosz_ucp_write_heartbeat,
-        ostrogosz_ucp_send_heartbeat;
-    Report: ostrogosz_ucp_read_ownship, ostrogosz_ucp_write_ownship, ostrogosz_ucp_send_ownship;
-    GeometricAltitude: ostrogosz_ucp_read_geometric_altitude,
-        ostrogosz_ucp_write_geometric_altitude, ostrogosz_ucp_send_geometric_altitude;
-    Report: ostrogosz_ucp_read_traffic, ostrogosz_ucp_write_traffic, ostrogosz_ucp_send_traffic;
-    Request: ostrogosz_ucp_read_request, ostrogosz_ucp_write_request, ostrogosz_ucp_send_request;
-    Control: ostrogosz_ucp_read_control, ostrogosz_ucp_write_control, ostrogosz_ucp_send_control;
-    Initialization: ostrogosz_ucp_read_initialization, ostrogosz_ucp_write_initialization,
-        ostrogosz_ucp_send_initialization;
-}
+pub(crate) use ucp_calls;
 
 /// The two calls of each kind of MAVLink message.
 macro_rules! mavlink_calls {
@@ -212,6 +198,7 @@ macro_rules! layout {
         };)+
     };
 }
+pub(crate) use layout;
 
 layout! {
     Written, 16 { refusal: 0, length: 8, }
@@ -221,22 +208,6 @@ layout! {
     Measure, 8 { known: 0, value: 4, }
     FoundFrame, 16 { refusal: 0, id: 4, used: 8, }
     FailureBits, 8 { count: 0, lowest: 4, }
-    Heartbeat, 6 { status_1: 0, status_2: 1, time_stamp: 2, counts: 4, }
-    Report, 40 {
-        alert: 0, address_type: 1, address: 4, latitude: 8, longitude: 12, altitude: 16,
-        miscellaneous: 18, nic: 19, nacp: 20, speed: 22, vertical_rate: 24, track: 26,
-        emitter: 27, callsign: 28, emergency: 36, spare: 37,
-    }
-    GeometricAltitude, 4 { altitude: 0, metrics: 2, }
-    Request, 1 { requested_id: 0, }
-    Control, 24 {
-        es_enabled: 0, mode_s: 1, mode_c: 2, mode_a: 3, ident: 4, air_ground: 5,
-        baro_checked: 6, altitude: 8, squawk: 12, emergency: 14, identity: 15,
-    }
-    Initialization, 24 {
-        version: 0, address: 4, emitter: 8, callsign: 9, stall_speed: 17, size: 18,
-        lateral: 19, longitudinal: 20,
-    }
     Header, 3 { sequence: 0, system: 1, component: 2, }
     DataStream, 6 {
         req_message_rate: 0, target_system: 2, target_component: 3, req_stream_id: 4,

@@ -22,10 +22,24 @@
 //! [`send_message`] choose by the ID and give and take a [`Message`] by value,
 //! which the compiler may copy: where identities are private, use the first.
 
+mod calls;
+mod control;
+mod geometric_altitude;
+mod heartbeat;
+mod initialization;
+mod report;
+mod request;
+
 use core::fmt::{self, Debug, Formatter};
 
+pub use control::Control;
+pub use geometric_altitude::GeometricAltitude;
+pub use heartbeat::Heartbeat;
+pub use initialization::Initialization;
+pub use report::Report;
+pub use request::Request;
+
 use crate::boundary::*;
-use crate::hidden::debug_without;
 use crate::{LONGEST_FRAME, ReadRefusal, SendRefusal, WriteRefusal};
 
 /// Octets of an uplink's payload: all of its body but the ID.
@@ -144,281 +158,6 @@ impl Debug for Message<'_> {
             Self::Initialization(of) => of.fmt(to),
         }
     }
-}
-
-/// Message 0: all bits are carried.
-#[derive(Clone, Copy, Debug, Default, PartialEq, Eq)]
-#[repr(C)]
-pub struct Heartbeat {
-    /// The first status octet.
-    pub status_1: u8,
-    /// The second status octet; bit 7 is bit 16 of the time stamp.
-    pub status_2: u8,
-    /// Seconds since midnight UTC, bits 0 to 15; low octet first on the line.
-    pub time_stamp: u16,
-    /// Messages received; high octet first on the line.
-    pub counts: u16,
-}
-
-/// Messages 10 and 20. No range is tested but the bits' own. The debug form
-/// leaves address and callsign out.
-#[derive(Clone, Copy, Default, PartialEq, Eq)]
-#[repr(C)]
-pub struct Report {
-    /// Alert: 4 bits.
-    pub alert: u8,
-    /// Address type: 4 bits.
-    pub address_type: u8,
-    /// Address: 24 bits.
-    pub address: u32,
-    /// Latitude in steps of 180 / 2^23 degrees, north positive: 24 bits, so
-    /// -2^23 to 2^23 - 1.
-    pub latitude: i32,
-    /// Longitude in steps of 180 / 2^23 degrees, east positive: 24 bits, so
-    /// -2^23 to 2^23 - 1.
-    pub longitude: i32,
-    /// Altitude n, which means 25 n - 1000 feet: 12 bits. No data: 0xFFF.
-    pub altitude: u16,
-    /// Miscellaneous: 4 bits.
-    pub miscellaneous: u8,
-    /// Navigation integrity category: 4 bits.
-    pub nic: u8,
-    /// Navigation accuracy category for position: 4 bits.
-    pub nacp: u8,
-    /// Speed in knots: 12 bits. No data: 0xFFF.
-    pub speed: u16,
-    /// Vertical rate n, which means 64 n feet per minute: 12 bits, so -2048 to
-    /// 2047. No data: -2048.
-    pub vertical_rate: i16,
-    /// Track in steps of 360 / 256 degrees.
-    pub track: u8,
-    /// Emitter category.
-    pub emitter: u8,
-    /// Callsign: any octets; no zero is put behind them.
-    pub callsign: [u8; 8],
-    /// Emergency: 4 bits.
-    pub emergency: u8,
-    /// Spare: 4 bits.
-    pub spare: u8,
-}
-
-/// Message 11.
-#[derive(Clone, Copy, Debug, Default, PartialEq, Eq)]
-#[repr(C)]
-pub struct GeometricAltitude {
-    /// Altitude in steps of 5 feet.
-    pub altitude: i16,
-    /// Metrics.
-    pub metrics: u16,
-}
-
-/// Message 44, version 2.
-#[derive(Clone, Copy, Debug, Default, PartialEq, Eq)]
-#[repr(C)]
-pub struct Request {
-    /// The ID of the message that is requested: any.
-    pub requested_id: u8,
-}
-
-/// Message 45, version 1. The debug form leaves the identity out.
-#[derive(Clone, Copy, Default, PartialEq, Eq)]
-#[repr(C)]
-pub struct Control {
-    /// 1090ES transmission is enabled.
-    pub es_enabled: bool,
-    /// Replies in mode S are enabled.
-    pub mode_s: bool,
-    /// Replies in mode C are enabled.
-    pub mode_c: bool,
-    /// Replies in mode A are enabled.
-    pub mode_a: bool,
-    /// The ident button is active.
-    pub ident: bool,
-    /// Air-ground state: 2 bits.
-    pub air_ground: u8,
-    /// The external barometer is cross checked.
-    pub baro_checked: bool,
-    /// Pressure altitude in millimetres. Unknown: [`i32::MAX`].
-    pub altitude: i32,
-    /// Squawk, its four digits read as a decimal number: range 0 to 7777.
-    pub squawk: u16,
-    /// Emergency state.
-    pub emergency: u8,
-    /// Flight identity: range 0-9 and A-Z, spaces at the end alone; all spaces
-    /// too.
-    pub identity: [u8; 8],
-}
-
-/// Message 117; its signature is 65 and its subtype 1. The debug form leaves
-/// address and callsign out.
-#[derive(Clone, Copy, Default, PartialEq, Eq)]
-#[repr(C)]
-pub struct Initialization {
-    /// Version: any.
-    pub version: u8,
-    /// Address: 24 bits.
-    pub address: u32,
-    /// Emitter category: range 0 to 19.
-    pub emitter: u8,
-    /// Callsign: range A-Z, 0-9 and space.
-    pub callsign: [u8; 8],
-    /// Stall speed in knots.
-    pub stall_speed: u8,
-    /// A code of length and width: range 0 to 15.
-    pub size: u8,
-    /// Lateral offset of the antenna: 3 bits.
-    pub lateral: u8,
-    /// Longitudinal offset of the antenna: 5 bits.
-    pub longitudinal: u8,
-}
-
-debug_without! {
-    Report {
-        alert, address_type, latitude, longitude, altitude, miscellaneous, nic, nacp, speed,
-        vertical_rate, track, emitter, emergency, spare,
-    } hidden { address, callsign, }
-}
-
-debug_without! {
-    Control {
-        es_enabled, mode_s, mode_c, mode_a, ident, air_ground, baro_checked, altitude, squawk,
-        emergency,
-    } hidden { identity, }
-}
-
-debug_without! {
-    Initialization {
-        version, emitter, stall_speed, size, lateral, longitudinal,
-    } hidden { address, callsign, }
-}
-
-/// The calls on one kind's struct. The sample is a message that every one of
-/// them accepts.
-macro_rules! kind {
-    ($type:ident, $id:literal, $octets:literal, $sample:literal;
-     $read_from:ident $read:ident; $write_to:ident $write:ident; $send_to:ident $send:ident) => {
-        impl $type {
-            #[doc = concat!("Reads the body of a message ", stringify!($id), " into this struct.")]
-            ///
-            /// # Errors
-            ///
-            /// Tested in this order: [`ReadRefusal::UnknownId`] for no octet or
-            /// another kind's ID, [`ReadRefusal::MessageLength`],
-            /// [`ReadRefusal::Fixed`], [`ReadRefusal::Field`]. A refusal leaves
-            /// the struct as it was.
-            ///
-            /// ```
-            #[doc = concat!("use ostrogosz::messages::", stringify!($type), ";")]
-            #[doc = concat!("let sent = ", $sample, ";")]
-            #[doc = concat!("let mut body = [0; ", stringify!($octets), "];")]
-            #[doc = concat!("sent.", stringify!($write_to), "(&mut body)?;")]
-            #[doc = concat!("let mut message = ", stringify!($type), "::default();")]
-            #[doc = concat!("message.", stringify!($read_from), "(&body)?;")]
-            /// assert_eq!(message, sent);
-            /// # Ok::<(), Box<dyn std::error::Error>>(())
-            /// ```
-            #[inline]
-            pub fn $read_from(&mut self, body: &[u8]) -> Result<(), ReadRefusal> {
-                // SAFETY: pointer and length are those of one slice, which is
-                // only read; the struct is all there, mutable, and every bool
-                // in it is left 0 or 1.
-                match unsafe { $read(body.as_ptr(), body.len(), self) } {
-                    0 => Ok(()),
-                    number => Err(ReadRefusal::of_number(number)),
-                }
-            }
-
-            #[doc = concat!("Writes the body of a message ", stringify!($id), " at the start of")]
-            #[doc = concat!("`output` and gives its length, ", stringify!($octets), ". The octets behind")]
-            /// it keep what they held.
-            ///
-            /// # Errors
-            ///
-            /// [`WriteRefusal::Field`], then [`WriteRefusal::OutputLength`]; a
-            /// refusal writes nothing.
-            ///
-            /// ```
-            #[doc = concat!("use ostrogosz::messages::", stringify!($type), ";")]
-            #[doc = concat!("let message = ", $sample, ";")]
-            #[doc = concat!("let mut body = [0; ", stringify!($octets), "];")]
-            #[doc = concat!("assert_eq!(message.", stringify!($write_to), "(&mut body)?, ", stringify!($octets), ");")]
-            /// # Ok::<(), Box<dyn std::error::Error>>(())
-            /// ```
-            #[inline]
-            pub fn $write_to(&self, output: &mut [u8]) -> Result<usize, WriteRefusal> {
-                // SAFETY: the struct is all there; pointer and length are those
-                // of one slice, which is mutable, so they don't overlap.
-                let written = unsafe { $write(self, output.as_mut_ptr(), output.len()) };
-                written.answer(WriteRefusal::of_number)
-            }
-
-            #[doc = concat!("Writes the frame of a message ", stringify!($id), " at the start of")]
-            /// `buffer`, which has room for every frame, and gives its length.
-            /// The octets behind it keep what they held.
-            ///
-            /// # Errors
-            ///
-            /// [`SendRefusal::Field`]; a refusal writes nothing.
-            ///
-            /// ```
-            #[doc = concat!("use ostrogosz::messages::", stringify!($type), ";")]
-            #[doc = concat!("let message = ", $sample, ";")]
-            /// let mut buffer = [0; ostrogosz::LONGEST_FRAME];
-            #[doc = concat!("let length = message.", stringify!($send_to), "(&mut buffer)?;")]
-            /// assert_eq!((buffer[0], buffer[length - 1]), (0x7E, 0x7E));
-            /// # Ok::<(), Box<dyn std::error::Error>>(())
-            /// ```
-            #[inline]
-            pub fn $send_to(&self, buffer: &mut [u8; LONGEST_FRAME]) -> Result<usize, SendRefusal> {
-                // SAFETY: struct and buffer are all there, and one is mutable,
-                // so they don't overlap.
-                unsafe { $send(self, buffer) }.answer(SendRefusal::of_number)
-            }
-        }
-    };
-}
-
-kind! {
-    Heartbeat, 0, 7, "Heartbeat { time_stamp: 53_467, ..Heartbeat::default() }";
-    read_from ostrogosz_ucp_read_heartbeat;
-    write_to ostrogosz_ucp_write_heartbeat;
-    send_to ostrogosz_ucp_send_heartbeat
-}
-kind! {
-    Report, 10, 28, "Report { altitude: 240, ..Report::default() }";
-    read_ownship_from ostrogosz_ucp_read_ownship;
-    write_ownship_to ostrogosz_ucp_write_ownship;
-    send_ownship_to ostrogosz_ucp_send_ownship
-}
-kind! {
-    GeometricAltitude, 11, 5, "GeometricAltitude { altitude: 200, metrics: 10 }";
-    read_from ostrogosz_ucp_read_geometric_altitude;
-    write_to ostrogosz_ucp_write_geometric_altitude;
-    send_to ostrogosz_ucp_send_geometric_altitude
-}
-kind! {
-    Report, 20, 28, "Report { callsign: *b\"N825V   \", ..Report::default() }";
-    read_traffic_from ostrogosz_ucp_read_traffic;
-    write_traffic_to ostrogosz_ucp_write_traffic;
-    send_traffic_to ostrogosz_ucp_send_traffic
-}
-kind! {
-    Request, 44, 3, "Request { requested_id: 43 }";
-    read_from ostrogosz_ucp_read_request;
-    write_to ostrogosz_ucp_write_request;
-    send_to ostrogosz_ucp_send_request
-}
-kind! {
-    Control, 45, 18, "Control { squawk: 1200, identity: *b\"N825V   \", ..Control::default() }";
-    read_from ostrogosz_ucp_read_control;
-    write_to ostrogosz_ucp_write_control;
-    send_to ostrogosz_ucp_send_control
-}
-kind! {
-    Initialization, 117, 19, "Initialization { callsign: *b\"N825V   \", ..Initialization::default() }";
-    read_from ostrogosz_ucp_read_initialization;
-    write_to ostrogosz_ucp_write_initialization;
-    send_to ostrogosz_ucp_send_initialization
 }
 
 /// A struct of one kind is a message of that kind.

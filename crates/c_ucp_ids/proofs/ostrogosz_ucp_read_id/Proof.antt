@@ -11,7 +11,7 @@ returns c = no-octet _ (c .if1 .taken)
 
 returns-2 : tie.Need-returns-2
 returns-2 c =
-    unknown-id _ (c .before .before .before .before .if1 .left) (c .before .before .kind-of .ensures .0) (c .before .is-known .ensures)
+    unknown-id _ (c .before .before .before .before .if1 .left) (c .before .before .kind-of .result) (c .before .before .kind-of .ensures) (c .before .is-known .ensures)
     (not-true _ (c .if2 .taken))
 
 cast-t9 : tie.Need-cast-t9
@@ -19,7 +19,7 @@ cast-t9 c = omega (arith, c .before .before .before .shared-slice-known2 .given 
 
 returns-3 : tie.Need-returns-3
 returns-3 c =
-    known-id _ (c .before .before .before .before .if1 .left) (c .before .before .kind-of .ensures .0) (c .before .is-known .ensures)
+    known-id _ (c .before .before .before .before .if1 .left) (c .before .before .kind-of .result) (c .before .before .kind-of .ensures) (c .before .is-known .ensures)
     (not-false _ (c .if2 .left))
 
 pub ostrogosz-ucp-read-id-spec : {M : Type 1} → statement M

@@ -6,9 +6,6 @@ use Rattle.field_signed.specs.Signed.{holds}
 use Rattle.thm_ucp_messages.proofs.control_typed.Statement.{statement}
 use Rattle.thm_ucp_messages.proofs.control_typed.Tie as tie
 
-returns : tie.Need-returns
-unfolding holds
-returns c = (tt, (tt, (tt, (tt, (tt, (tt, (tt, (lt-ltb (mag (c .args .control .altitude)) 2147483648 (search needs), (search needs, (search needs, (search needs, tt)))))))))))
-
 pub control-typed-spec : {M : Type 1} → statement M
-control-typed-spec = tie.close (tie.spec returns)
+unfolding holds
+control-typed-spec = tie.close (tie.spec (λ c. rw (c .pre) (tt, (tt, (tt, (tt, (tt, (tt, (tt, (lt-ltb (mag (c .args .control .altitude)) 2147483648 (search needs), (search needs, (search needs, (search needs, tt)))))))))))))

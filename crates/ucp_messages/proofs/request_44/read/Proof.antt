@@ -1,22 +1,22 @@
 -- `request_44::read` meets its contract, test by test. Assumes nothing.
 use mathlib.Core.Path.{refl}
 use native.Mathlib.Omega.{arith}
-use Rattle.ucp_messages.specs.declared.RequestRead.the-variants.{Request as RequestIs, Refused}
-use Rattle.ucp_answers.proofs.Answers.{refused-11, refused-12, accepted, other, same}
-use Rattle.ucp_messages.specs.Request44.{requestFormat}
+use Rattle.ucp_answers.proofs.Answers.{other, same}
+use Rattle.ucp_messages.proofs.Formats.{request-lawful}
+use Rattle.ucp_messages.proofs.BodyKind.{refused-11, refused-12, accepted}
 use borrow.Author.Needs.{needs}
 use Rattle.ucp_messages.proofs.request_44.read.Statement.{statement}
 use Rattle.ucp_messages.proofs.request_44.read.Tie as tie
 
 returns : tie.Need-returns
-returns c = refused-11 requestFormat Refused RequestIs _ (c .if1 .taken)
+returns c = refused-11 request-lawful (c .before .before .pre) (c .if1 .taken)
 
 returns-2 : tie.Need-returns-2
-returns-2 c = refused-12 requestFormat Refused RequestIs _ (omega arith) (other (c .before .octet .ensures) (c .if2 .taken))
+returns-2 c = refused-12 request-lawful (c .before .before .before .before .pre) (omega arith) (other (c .before .octet .ensures) (c .if2 .taken))
 
 returns-3 : tie.Need-returns-3
 returns-3 c =
-    accepted requestFormat Refused RequestIs _ (omega arith) (same (c .before .before .octet .ensures) (c .before .if2 .left))
+    accepted request-lawful (c .before .before .before .before .before .pre) (omega arith) (same (c .before .before .octet .ensures) (c .before .if2 .left))
     (c .fields .ensures) refl
 
 pub read-spec : {M : Type 1} → statement M
