@@ -54,9 +54,11 @@ use Rattle.thm_ucp_writer.proofs.Calls.{writer-lists}
 use Rattle.thm_ucp_receiver.specs.Line.{Line}
 use Rattle.thm_ucp_receiver.proofs.Promises.{answers, stretch-is-answered, counts, every-octet-counted, store-clean, store-by-history, hunting-stores-nothing, flag-clears, later-only}
 use Rattle.thm_ucp_receiver.proofs.Lines.{every-line}
+use Rattle.thm_ucp_receiver.proofs.Refusals.{receiver-refuses-when}
 use Rattle.thm_ucp_receiver.proofs.Slice.{line-of-slices, slice-flag-clears, slice-is-call}
 use Rattle.thm_ucp_receiver.proofs.Frames.{put-out-is-frame, frame-is-put-out, wrong-check-refused}
 use Rattle.thm_c_ucp.proofs.Receiver.{linked-lines, linked-answers, linked-stretch-is-answered, linked-counts, linked-store, linked-flag-clears, linked-later-only, linked-put-out-is-frame, linked-frame-is-put-out, linked-receiver-lists}
+use Rattle.thm_c_ucp.proofs.Refusals.{linked-receiver-refuses-when}
 use Rattle.thm_c_ucp.proofs.Slices.{linked-slice-lines, linked-slice-takes-all, linked-slice-flag-clears, linked-slice-is-call}
 use Rattle.thm_c_ucp.proofs.Writer.{linked-writer, linked-writer-refuses, linked-writer-lists}
 use Rattle.thm_c_ucp.proofs.Lines.{every-linked-line}
@@ -189,6 +191,8 @@ demand1 =
       linkedMavlinkReadersRefuse = mavlink-reader-refuses;
       linkedMavlinkWritersRefuse = mavlink-writer-refuses;
       linkedMavlinkIdRefuses = mavlink-id-refuses;
+      receiverRefusesWhen = receiver-refuses-when;
+      linkedReceiverRefusesWhen = linked-receiver-refuses-when;
       receiverRefuses = λ receiver store octet output given storeAfter outputThen m.
           no-body _ (tabled _ octet (length output)) (m .answers) (m .puts);
       sliceRefuses = λ receiver store line output given storeAfter outputThen m.

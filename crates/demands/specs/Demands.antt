@@ -65,9 +65,11 @@ use Rattle.thm_c_examples.specs.Premises.{StructPremises}
 use Rattle.thm_ucp_writer.specs.Calls.{WriterLists}
 use Rattle.thm_ucp_receiver.specs.Line.{Observed, callOf, upTo, Line}
 use Rattle.thm_ucp_receiver.specs.Lines.{EveryLine}
+use Rattle.thm_ucp_receiver.specs.Refusals.{ReceiverRefusesWhen}
 use Rattle.thm_ucp_receiver.specs.Slice.{LineOfSlices, SliceFlagClears, SliceIsCall}
 use Rattle.c_ucp_receiver.specs.Numbers.{ReceivesNumbers, TakesNumbers}
 use Rattle.thm_c_ucp.specs.Receiver.{LinkedLines, LinkedAnswersByHistory, LinkedStretchIsAnswered, LinkedCountsByHistory, LinkedStoreByHistory, LinkedFlagClears, LinkedLaterOnly, LinkedPutOutIsFrame, LinkedFrameIsPutOut, LinkedReceiverLists}
+use Rattle.thm_c_ucp.specs.Refusals.{LinkedReceiverRefusesWhen}
 use Rattle.thm_c_ucp.specs.Slices.{LinkedSliceLines, LinkedSliceTakesAll, LinkedSliceFlagClears, LinkedSliceIsCall}
 use Rattle.thm_c_ucp.specs.Writer.{LinkedWriter, LinkedWriterRefuses, LinkedWriterLists}
 use Rattle.thm_c_ucp.specs.Lines.{EveryLinkedLine}
@@ -181,7 +183,10 @@ pub record Demand1 : Type 0 where
   pub linkedMavlinkReadersRefuse : MavlinkReaderRefuses
   pub linkedMavlinkWritersRefuse : MavlinkWriterRefuses
   pub linkedMavlinkIdRefuses : MavlinkIdRefuses
-  -- ---- the receiver, 1 to 6, by the octet and by the slice, from any record; when each is due: `answersByHistory` of demand 2
+  -- ---- the receiver, 1 to 6: each exactly when, of the stretch that a flag closes, as its octets stand on the line; and, by the octet and
+  -- by the slice, from any record, no other number. (Which answer is due at all: `answersByHistory` of demand 2.)
+  pub receiverRefusesWhen : ReceiverRefusesWhen
+  pub linkedReceiverRefusesWhen : LinkedReceiverRefusesWhen
   pub receiverRefuses :
       (receiver : Record) (store : List ℕ) (octet : ℕ) (output : List ℕ) (given : Received) (storeAfter outputThen : List ℕ)
       → Receives receiver store octet output given storeAfter outputThen
