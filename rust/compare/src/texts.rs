@@ -36,7 +36,7 @@ impl Characters {
         match self {
             Self::Any => generator.number().to_le_bytes(),
             Self::Spaced => spaced(letters, generator.number() as u8),
-            Self::SpacesAtEnd => spaced(letters, 0xFF << generator.below(9)),
+            Self::SpacesAtEnd => spaced(letters, (0xFF_u16 << generator.below(9)) as u8),
         }
     }
 
