@@ -54,20 +54,18 @@ fn goes_on(last: bool) -> Input
     Input::More
 }
 
-// So many frames more, of all octets of a block but those left, and what writing their lines came to.
+// So many frames more, of so many octets, and what writing their lines came to.
 fn progressed(
     frames: u64,
     bytes: u64,
     count: usize,
-    octets: usize,
+    used: usize,
     left: usize,
     input: Input,
     output: Output,
 ) -> Progress
-    requires { ⌜ left ≤ octets ⌝ }
-    ensures { λ r. ⌜ r ≡ explains frames bytes count (octets - left) left (inputOf output input) (octetsOut output) ⌝ }
+    ensures { λ r. ⌜ r ≡ explains frames bytes count used left (inputOf output input) (octetsOut output) ⌝ }
 {
-    let used = octets - left;
     let frames = std::num::wrapping_add_u64(frames, count as u64);
     let bytes = std::num::wrapping_add_u64(bytes, used as u64);
     match output {
@@ -89,12 +87,11 @@ fn progressed(
 }
 
 // The same where a write failed before the block's end.
-fn stopped(frames: u64, bytes: u64, count: usize, octets: usize, left: usize) -> Progress
-    requires { ⌜ left ≤ octets ⌝ }
-    ensures { λ r. ⌜ r ≡ explains frames bytes count (octets - left) left Failed 0 ⌝ }
+fn stopped(frames: u64, bytes: u64, count: usize, used: usize, left: usize) -> Progress
+    ensures { λ r. ⌜ r ≡ explains frames bytes count used left Failed 0 ⌝ }
 {
     let failed = Input::Failed;
-    progressed(frames, bytes, count, octets, left, failed, Output::Failed)
+    progressed(frames, bytes, count, used, left, failed, Output::Failed)
 }
 
 // Explains the frames of a block, and writes their lines out. A frame is decided where 50 octets are there, or the input has
@@ -119,40 +116,21 @@ fn explain_block(
         let used = block.len() - left;
         let explained = text_mavlink_explanation::explain_frame(&block[used..], text);
         let gathered = io_streams::gather(buffer, waiting, text, explained.written);
-        match gathered {
-            Gathered::Failed => {
-                return stopped(frames, bytes, count, block.len(), left);
-            }
-            Gathered::Waiting(next, out) => {
-                waiting = next;
-                written = std::num::wrapping_add_usize(written, out);
-            }
-        }
+        let Gathered::Waiting(next, out) = gathered else {
+            return stopped(frames, bytes, count, used, left);
+        };
+        waiting = next;
+        written = std::num::wrapping_add_usize(written, out);
         if explained.refused {
             let output = io_streams::write_waiting(buffer, waiting, written);
-            return progressed(
-                frames,
-                bytes,
-                count,
-                block.len(),
-                left,
-                Input::Ended,
-                output,
-            );
+            return progressed(frames, bytes, count, used, left, Input::Ended, output);
         }
         count += 1;
         left -= explained.used;
     }
     let output = io_streams::write_waiting(buffer, waiting, written);
-    progressed(
-        frames,
-        bytes,
-        count,
-        block.len(),
-        left,
-        goes_on(last),
-        output,
-    )
+    let used = block.len() - left;
+    progressed(frames, bytes, count, used, left, goes_on(last), output)
 }
 
 // Moves the octets from a place of the block up to another to its start.

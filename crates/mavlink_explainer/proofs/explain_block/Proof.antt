@@ -112,14 +112,8 @@ loop-again c =
       omega (arith, gathered (c .before .before .before .before) .0, kept),
     )
 
-stopped-requires : tie.Need-stopped-requires Inv-loop μ-loop
-stopped-requires c κs = omega (arith, c .before .before .before .before .before .before .before .before .before .before .before .before .loop .inv .0)
-
-progressed-requires : tie.Need-progressed-requires Inv-loop μ-loop
-progressed-requires c κs = omega (arith, c .before .before .before .before .before .before .before .before .before .before .before .before .before .before .before .before .before .loop .inv .0)
-
-progressed-requires-2 : tie.Need-progressed-requires-2 Inv-loop μ-loop
-progressed-requires-2 c κs = omega (arith, c .before .before .before .before .loop .inv .0)
+sub-used-2 : tie.Need-sub-used-2 Inv-loop μ-loop
+sub-used-2 c = omega (arith, c .before .before .before .loop .inv .0)
 
 same-length-3 : tie.Need-same-length-3 Inv-loop μ-loop
 same-length-3 c = c .before .before .before .before .before .loop .inv .2
@@ -150,13 +144,13 @@ explain-block-spec =
     (λ c κs. search needs)
     (λ c κs. search needs)
     (λ c. search needs)
-    stopped-requires
-    same-length
-    returns
     (λ c. search needs)
     (λ c κs. search needs)
+    same-length
+    returns
     (λ c κs. search needs)
-    progressed-requires
+    (λ c κs. search needs)
+    (λ c κs. search needs)
     same-length-2
     returns-2
     add-count
@@ -164,7 +158,8 @@ explain-block-spec =
     loop-less
     loop-again
     (λ c κs. search needs)
+    sub-used-2
     (λ c κs. search needs)
-    progressed-requires-2
+    (λ c κs. search needs)
     same-length-3
     returns-3)

@@ -12,4 +12,4 @@ returns-2 c = rw (c .enum-told .given .1, c .before .before .before .wrapping-ad
 pub progressed-spec : {M : Type 1} → statement M
 progressed-spec =
     tie.close
-    (tie.spec (λ c. search needs) (λ c κs. search needs) (λ c κs. search needs) (λ c. search needs) (λ c. search needs) returns returns-2)
+    (tie.spec (λ c κs. search needs) (λ c κs. search needs) (λ c. search needs) (λ c. search needs) returns returns-2)
