@@ -14,7 +14,7 @@ use Rattle.mavlink_explainer.specs.declared.Progress.{Progress}
 use Rattle.mavlink_explainer.specs.declared.TurnDone.{TurnDone}
 use Rattle.mavlink_messages.specs.Messages.{readDue}
 use Rattle.text_mavlink_explanation.specs.Explanation.{frameLine, usedBy, isRefused, framesLine}
-use Rattle.text_mavlink_explanation.specs.Calls.{WholeFrame}
+use Rattle.text_mavlink_explanation.specs.Calls.{WholeLine}
 use Rattle.text_mavlink_explanation.specs.Decided.{frameRoom}
 
 -- where the input goes on, fewer octets are carried over than decide a frame
@@ -83,4 +83,4 @@ pub record WorksFrames (frames bytes : ℕ) (before : List ℕ) (turn : Turn) (g
 -- the closing line stands at the start of the text
 pub record FramesClosed (frames bytes : ℕ) (before after : List ℕ) : Type 0 where
   pub written : ℕ
-  pub line : WholeFrame before (framesLine frames bytes) written after
+  pub line : WholeLine before (framesLine frames bytes) written after

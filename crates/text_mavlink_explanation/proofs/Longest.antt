@@ -12,7 +12,7 @@ use Rattle.text_refusals.proofs.Longest.{refusal-most}
 use Rattle.mavlink_messages.specs.Messages.{MavlinkAnswer, refused, means, readDue}
 use Rattle.text_mavlink_messages.proofs.Longest.{message-most}
 use Rattle.text_mavlink_explanation.specs.Explanation.{frameLine, usedBy, isRefused, framesLine}
-use Rattle.text_mavlink_explanation.specs.Calls.{WholeFrame, ExplainsFrame}
+use Rattle.text_mavlink_explanation.specs.Calls.{WholeLine, ExplainsFrame}
 
 pub line-most : (r : MavlinkAnswer) → length (frameLine r) ≤ textRoom
 unfolding frameLine
@@ -26,7 +26,7 @@ closing-most frames bytes =
 
 -- a line that is short enough stands whole
 pub whole : {text line : List ℕ} {written : ℕ} {after : List ℕ} → Clips text 0 line written after → length line ≤ textRoom
-    → WholeFrame text line written after
+    → WholeLine text line written after
 whole {text} {line} {written} p few =
     let ends : written ≡ 0 + length line = all-fits p (omega arith) in
     record { puts = p; all = omega arith; within = omega arith }

@@ -9,7 +9,7 @@ use Rattle.text_mavlink_explanation.specs.declared.Explained.{Explained}
 use Rattle.text_mavlink_explanation.specs.Explanation.{frameLine, usedBy, isRefused}
 
 -- a line stands whole at the start of a text, and nothing else changes
-pub record WholeFrame (text line : List ℕ) (written : ℕ) (textAfter : List ℕ) : Type 0 where
+pub record WholeLine (text line : List ℕ) (written : ℕ) (textAfter : List ℕ) : Type 0 where
   pub puts : Clips text 0 line written textAfter
   pub all : written ≡ length line
   pub within : written ≤ textRoom
@@ -18,4 +18,4 @@ pub record WholeFrame (text line : List ℕ) (written : ℕ) (textAfter : List �
 pub record ExplainsFrame (input text : List ℕ) (given : Explained) (textAfter : List ℕ) : Type 0 where
   pub used : given .used ≡ usedBy (readDue input)
   pub refuses : given .refused ≡ isRefused (readDue input)
-  pub line : WholeFrame text (frameLine (readDue input)) (given .written) textAfter
+  pub line : WholeLine text (frameLine (readDue input)) (given .written) textAfter

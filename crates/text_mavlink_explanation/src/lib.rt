@@ -9,7 +9,7 @@ ghost use Rattle.mavlink_messages.specs.Failures.{failureAnswer};
 ghost use Rattle.mavlink_messages.specs.Messages.{means, refused as refusedRead};
 ghost use Rattle.text_output.specs.Clips.{Clips};
 ghost use Rattle.text_mavlink_explanation.specs.Explanation.{frameLine, framesLine};
-ghost use Rattle.text_mavlink_explanation.specs.Calls.{WholeFrame, ExplainsFrame};
+ghost use Rattle.text_mavlink_explanation.specs.Calls.{WholeLine, ExplainsFrame};
 
 // What a call of explain_frame gives back: how many octets the frame has, whether it was refused, and then it uses none;
 // `written` octets of text are at its start.
@@ -78,7 +78,7 @@ fn put_closing_line(text: &mut TextRoom, frames: u64, bytes: u64) -> usize
 
 // The last line.
 pub fn put_closing(text: &mut TextRoom, frames: u64, bytes: u64) -> usize
-    ensures { λ r. ⌜ WholeFrame (now (text .entry)) (framesLine frames bytes) r (now (text .exit)) ⌝ }
+    ensures { λ r. ⌜ WholeLine (now (text .entry)) (framesLine frames bytes) r (now (text .exit)) ⌝ }
 {
     put_closing_line(text, frames, bytes)
 }
