@@ -4,7 +4,7 @@ use output_writing::OstrogoszWritten;
 use ucp_frame::FrameBuffer;
 ghost use mathlib.Core.Path.{_≡_};
 ghost use Rattle.c_lent.specs.Sends.{FramesWritten};
-ghost use Rattle.c_lent.specs.Steps.{firstRefusal};
+ghost use Rattle.c_lent.specs.Steps.{firstRefusal, numberedAnswer};
 
 // The refusals' numbers as C has them.
 pub const OUTPUT_LENGTH: u32 = refusals::OUTPUT_LENGTH as u32;
@@ -32,6 +32,17 @@ pub fn first_refusal(body: &[u8], id: u8, size: usize) -> u32
         return MESSAGE_LENGTH;
     }
     0
+}
+
+// What a writer answers in C, from a refusal's number, or 0 and so many octets. A writer that has several callers hands its number
+// on, and not this struct: that would go by way of memory, and be loaded in other pieces than it was stored in.
+pub fn numbered(refusal: u32, length: usize) -> OstrogoszWritten
+    ensures { λ r. ⌜ r ≡ numberedAnswer refusal length ⌝ }
+{
+    if refusal == 0 {
+        return OstrogoszWritten { refusal: 0, length };
+    }
+    OstrogoszWritten { refusal, length: 0 }
 }
 
 // The second half of a send: what a kind's writer gave, and the buffer that it wrote to. A refusal has no length, so that nothing is

@@ -19,7 +19,7 @@ use Rattle.mavlink_messages.specs.Messages.{judgedBy, payloadRead, readBy}
 use Rattle.c_lent.specs.Structs.{stored}
 use Rattle.c_mavlink.specs.Structs.{headerStruct, messageStored}
 use Rattle.c_mavlink.specs.Readers.{isOther, foundAs, readAs, ReadsMavlink}
-use Rattle.c_mavlink.specs.Steps.{Taken, TakenBy, WholeFrame, Before, Tested}
+use Rattle.c_mavlink.specs.Steps.{Taken, TakenBy, WholeOfKind, Before, Tested}
 
 -- ---- the tests before the check
 module _ (id : ℕ) (s : List ℕ) where
@@ -84,7 +84,7 @@ module _ (k : Kind) (s : List ℕ) where
   pub early : {refusal : ℕ} → (refusal ≡ 0 → ⊥) → Before k s refusal → Tested (k .id) s refusal
   early ne b = record { refused = b .refused; taken = λ z. absurd (ne z) }
 
-  module _ (w : WholeFrame k s) where
+  module _ (w : WholeOfKind k s) where
     pub wrong-check : (checkAt (k .length) s ≡ checkDue (k .length) (k .extra) s → ⊥) → Tested (k .id) s 24
     wrong-check ne = record { refused = λ h. w .is ∙ wrong k s (w .sized) (w .room) ne; taken = λ z. absurd (omega arith) }
 

@@ -19,7 +19,7 @@ TakenBy (known k) s = Taken k s
 TakenBy unknown s = ⊥
 
 -- one that begins with a frame of a kind, of whatever check
-pub record WholeFrame (k : Kind) (s : List ℕ) : Type 0 where
+pub record WholeOfKind (k : Kind) (s : List ℕ) : Type 0 where
   pub room : k .length + 8 ≤ length s
   pub sized : getD s 1 0 ≡ k .length
   pub is : foundAs (k .id) s ≡ foundOf k s
@@ -27,7 +27,7 @@ pub record WholeFrame (k : Kind) (s : List ℕ) : Type 0 where
 -- the refusal that is due before the check; 0 where there is none
 pub record Before (k : Kind) (s : List ℕ) (refusal : ℕ) : Type 0 where
   pub refused : 0 < refusal → foundAs (k .id) s ≡ found-as.refused refusal
-  pub whole : refusal ≡ 0 → WholeFrame k s
+  pub whole : refusal ≡ 0 → WholeOfKind k s
 
 -- the refusal that is due up to the check; 0 where the frame is right
 pub record Tested (id : ℕ) (s : List ℕ) (refusal : ℕ) : Type 0 where

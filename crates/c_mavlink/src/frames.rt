@@ -11,7 +11,7 @@ ghost use Rattle.mavlink_frame.specs.Reader.{headerAt, checkDue};
 ghost use Rattle.mavlink_frame.specs.Writer.{writeOf};
 ghost use Rattle.c_lent.specs.Structs.{stored, held};
 ghost use Rattle.c_mavlink.specs.Structs.{headerStruct};
-ghost use Rattle.c_mavlink.specs.Steps.{WholeFrame, Before, Tested};
+ghost use Rattle.c_mavlink.specs.Steps.{WholeOfKind, Before, Tested};
 
 // The refusal that is due to the reader of a kind up to the check, 20 to 23, or 0.
 pub fn before_check(kind: Kind, input: &[u8]) -> u32
@@ -45,7 +45,7 @@ pub fn before_check(kind: Kind, input: &[u8]) -> u32
 
 // 24, or 0, for a frame that is there, and the check that it should carry.
 pub fn judged(kind: Kind, check: u16, input: &[u8]) -> u32
-    requires { ⌜ (mavlinkKind (kind .id) ≡ known kind) × WholeFrame kind (now input) × (check ≡ checkDue (kind .length) (kind .extra) (now input)) ⌝ }
+    requires { ⌜ (mavlinkKind (kind .id) ≡ known kind) × WholeOfKind kind (now input) × (check ≡ checkDue (kind .length) (kind .extra) (now input)) ⌝ }
     ensures { λ r. ⌜ Tested (kind .id) (now (input .entry)) r ⌝ }
 {
     let end = kind.length as usize + 6;

@@ -11,6 +11,7 @@ ghost use Rattle.field_format.specs.Format.{valueIn, bodyOf, fits};
 ghost use Rattle.ucp_messages.specs.Initialization117.{initializationFormat};
 ghost use Rattle.c_lent.specs.Reads.{ReadsInto};
 ghost use Rattle.c_lent.specs.Writes.{WritesStructBody};
+ghost use Rattle.c_lent.specs.Steps.{numberedAnswer};
 ghost use Rattle.c_lent.specs.Sends.{SendsStruct};
 ghost use Rattle.c_lent.specs.Structs.{stored, held};
 ghost use Rattle.c_ucp_initialization.specs.Struct.{initializationStruct};
@@ -128,26 +129,18 @@ fn put(message: &[u8], output: &mut [u8])
     output[18] = message[19] * 32 + message[20];
 }
 
-fn write(message: &[u8; 24], output: &mut [u8]) -> OstrogoszWritten
-    ensures { λ r. ⌜ WritesStructBody initializationFormat (held initializationStruct (now (message .entry))) (now (output .entry)) r (now (output .exit)) ⌝ }
+// Puts the body at the start of output where all is well: 0, or 13 or 8.
+fn write_body(message: &[u8; 24], output: &mut [u8]) -> u32
+    ensures { λ r. ⌜ WritesStructBody initializationFormat (held initializationStruct (now (message .entry))) (now (output .entry)) (numberedAnswer r 19) (now (output .exit)) ⌝ }
 {
     if !fits(message) {
-        return OstrogoszWritten {
-            refusal: c_lent::FIELD,
-            length: 0,
-        };
+        return c_lent::FIELD;
     }
     if output.len() < 19 {
-        return OstrogoszWritten {
-            refusal: c_lent::OUTPUT_LENGTH,
-            length: 0,
-        };
+        return c_lent::OUTPUT_LENGTH;
     }
     put(message, output);
-    OstrogoszWritten {
-        refusal: 0,
-        length: 19,
-    }
+    0
 }
 
 // Writes the body of the message that a struct holds: 13, then 8.
@@ -158,7 +151,7 @@ pub extern "C" fn ostrogosz_ucp_write_initialization(
 ) -> OstrogoszWritten
     ensures { λ r. ⌜ WritesStructBody initializationFormat (held initializationStruct (now (message .entry))) (now (output .entry)) r (now (output .exit)) ⌝ }
 {
-    write(message, output)
+    c_lent::numbered(write_body(message, output), 19)
 }
 
 // ---- sending
@@ -172,6 +165,6 @@ pub extern "C" fn ostrogosz_ucp_send_initialization(
 ) -> OstrogoszWritten
     ensures { λ r. ⌜ SendsStruct initializationFormat (held initializationStruct (now (message .entry))) (now (buffer .entry)) r (now (buffer .exit)) ⌝ }
 {
-    let written = write(message, buffer);
+    let written = c_lent::numbered(write_body(message, buffer), 19);
     c_lent::frame_written(written, buffer)
 }

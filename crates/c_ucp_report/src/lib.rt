@@ -12,7 +12,7 @@ ghost use Rattle.field_signed.specs.Signed.{signed, complement, holds};
 ghost use Rattle.field_words.specs.Words.{octetsUp, eight};
 ghost use Rattle.field_format.specs.Format.{valueIn, bodyOf, fits};
 ghost use Rattle.ucp_messages.specs.Report10.{reportFormat};
-ghost use Rattle.c_lent.specs.Steps.{twoOf};
+ghost use Rattle.c_lent.specs.Steps.{twoOf, numberedAnswer};
 ghost use Rattle.c_lent.specs.Reads.{ReadsInto};
 ghost use Rattle.c_lent.specs.Writes.{WritesStructBody};
 ghost use Rattle.c_lent.specs.Sends.{SendsStruct};
@@ -314,26 +314,18 @@ fn put(id: u8, message: &[u8], output: &mut [u8])
 }
 
 // Writes the body, of an ID, of the message that a struct holds.
-fn write(id: u8, message: &[u8; 40], output: &mut [u8]) -> OstrogoszWritten
-    ensures { λ r. ⌜ WritesStructBody (reportFormat id) (held reportStruct (now (message .entry))) (now (output .entry)) r (now (output .exit)) ⌝ }
+// Puts the body at the start of output where all is well: 0, or 13 or 8.
+fn write_body(id: u8, message: &[u8; 40], output: &mut [u8]) -> u32
+    ensures { λ r. ⌜ WritesStructBody (reportFormat id) (held reportStruct (now (message .entry))) (now (output .entry)) (numberedAnswer r 28) (now (output .exit)) ⌝ }
 {
     if !fits(message) {
-        return OstrogoszWritten {
-            refusal: c_lent::FIELD,
-            length: 0,
-        };
+        return c_lent::FIELD;
     }
     if output.len() < 28 {
-        return OstrogoszWritten {
-            refusal: c_lent::OUTPUT_LENGTH,
-            length: 0,
-        };
+        return c_lent::OUTPUT_LENGTH;
     }
     put(id, message, output);
-    OstrogoszWritten {
-        refusal: 0,
-        length: 28,
-    }
+    0
 }
 
 // Writes the body of the message that a struct holds: 13, then 8.
@@ -344,7 +336,7 @@ pub extern "C" fn ostrogosz_ucp_write_ownship(
 ) -> OstrogoszWritten
     ensures { λ r. ⌜ WritesStructBody (reportFormat 10) (held reportStruct (now (message .entry))) (now (output .entry)) r (now (output .exit)) ⌝ }
 {
-    write(10, message, output)
+    c_lent::numbered(write_body(10, message, output), 28)
 }
 
 #[no_mangle]
@@ -354,7 +346,7 @@ pub extern "C" fn ostrogosz_ucp_write_traffic(
 ) -> OstrogoszWritten
     ensures { λ r. ⌜ WritesStructBody (reportFormat 20) (held reportStruct (now (message .entry))) (now (output .entry)) r (now (output .exit)) ⌝ }
 {
-    write(20, message, output)
+    c_lent::numbered(write_body(20, message, output), 28)
 }
 
 // ---- sending
@@ -363,7 +355,7 @@ pub extern "C" fn ostrogosz_ucp_write_traffic(
 fn send(id: u8, message: &[u8; 40], buffer: &mut FrameBuffer) -> OstrogoszWritten
     ensures { λ r. ⌜ SendsStruct (reportFormat id) (held reportStruct (now (message .entry))) (now (buffer .entry)) r (now (buffer .exit)) ⌝ }
 {
-    let written = write(id, message, buffer);
+    let written = c_lent::numbered(write_body(id, message, buffer), 28);
     c_lent::frame_written(written, buffer)
 }
 

@@ -1,4 +1,4 @@
--- `c_ucp_initialization::write` meets its contract, by its three ways. Assumes nothing.
+-- `c_ucp_initialization::write_body` meets its contract, by its three ways. Assumes nothing.
 use borrow.Author.Tests.{not-false}
 use denote.Ref.{now}
 use native.Mathlib.Omega.{arith}
@@ -8,8 +8,8 @@ use Rattle.c_lent.specs.Structs.{held}
 use Rattle.c_ucp_initialization.specs.Struct.{initializationStruct}
 use Rattle.c_ucp_initialization.proofs.Stored.{body-length}
 use borrow.Author.Needs.{needs}
-use Rattle.c_ucp_initialization.proofs.write.Statement.{statement}
-use Rattle.c_ucp_initialization.proofs.write.Tie as tie
+use Rattle.c_ucp_initialization.proofs.write_body.Statement.{statement}
+use Rattle.c_ucp_initialization.proofs.write_body.Tie as tie
 
 returns : tie.Need-returns
 returns c =
@@ -36,8 +36,8 @@ returns-3 c =
     (fitting (k7 .fits2 .ensures .0) (c .before .before .before .before .before .before .if1 .left))
     (body-length (held initializationStruct (now (a .message)))) (omega arith) (c .before .before .put .ensures)
 
-pub write-spec : {M : Type 1} → statement M
-write-spec =
+pub write-body-spec : {M : Type 1} → statement M
+write-body-spec =
     tie.close
     (tie.spec
     (λ c κs. search needs)

@@ -1,4 +1,4 @@
--- `c_ucp_report::write` meets its contract, by its three ways. Assumes nothing.
+-- `c_ucp_report::write_body` meets its contract, by its three ways. Assumes nothing.
 use mathlib.Core.Path.{_∙_}
 use borrow.Author.Tests.{not-false}
 use denote.Ref.{now}
@@ -9,8 +9,8 @@ use Rattle.c_lent.specs.Structs.{held}
 use Rattle.c_ucp_report.specs.Struct.{reportStruct}
 use Rattle.c_ucp_report.proofs.Held.{body-length, same-fits}
 use borrow.Author.Needs.{needs}
-use Rattle.c_ucp_report.proofs.write.Statement.{statement}
-use Rattle.c_ucp_report.proofs.write.Tie as tie
+use Rattle.c_ucp_report.proofs.write_body.Statement.{statement}
+use Rattle.c_ucp_report.proofs.write_body.Tie as tie
 
 returns : tie.Need-returns
 returns c =
@@ -37,8 +37,8 @@ returns-3 c =
     (fitting (k7 .fits2 .ensures .0 ∙ same-fits (a .id) _) (c .before .before .before .before .before .before .if1 .left))
     (body-length (a .id) (held reportStruct (now (a .message)))) (omega arith) (c .before .before .put .ensures)
 
-pub write-spec : {M : Type 1} → statement M
-write-spec =
+pub write-body-spec : {M : Type 1} → statement M
+write-body-spec =
     tie.close
     (tie.spec
     (λ c κs. search needs)
