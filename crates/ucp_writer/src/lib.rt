@@ -1,6 +1,6 @@
 // The frame writer: one call makes a frame of a body.
 mod in_place;
-mod room;
+pub mod room;
 
 use output_writing::Written;
 use ucp_frame::FrameBuffer;
