@@ -25,6 +25,7 @@ use Rattle.refusals.specs.Numbers as because
 use Rattle.ucp_receiver.specs.declared.Answer.the-variants.{Nothing}
 use Rattle.c_ucp_receiver.specs.Numbers.{answerIn, answerValue, OwnNumbers}
 use Rattle.thm_mavlink_messages.proofs.Tabled.{tabled-mavlink}
+use Rattle.thm_mavlink_messages.proofs.Examples as packet-examples
 use Rattle.thm_mavlink_messages.proofs.RoundTrips as mavlink-trips
 use Rattle.thm_c_mavlink.proofs.ReadBack.{lent-mavlink-reads-back}
 use Rattle.thm_c_mavlink.proofs.WriteBack.{lent-mavlink-writes-back}
@@ -45,10 +46,12 @@ use Rattle.ucp_writer.proofs.room.Due.{refused-so, refused-7, refused-8, due-ac
 use Rattle.ucp_receiver.specs.Answers.{ReceiverAnswer, nothing, refusal, receiverAnswer, answerFor, outputAtFlag}
 use Rattle.crc_gdl90_strength.proofs.Caught.{strength}
 use Rattle.crc_gdl90_strength.proofs.Premises.{premises-met}
+use Rattle.thm_ucp_examples.proofs.Examples as frame-examples
 use Rattle.thm_ucp_examples.proofs.LinePremises.{ends-in-met, stretch-met, slice-line-met, writer-call-met}
 use Rattle.thm_kind_examples.proofs.Ucp as ucp-kinds
 use Rattle.thm_kind_examples.proofs.Mavlink as mavlink-kinds
 use Rattle.thm_c_examples.proofs.Structs.{struct-examples}
+use Rattle.thm_c_examples.proofs.Numbers.{number-examples}
 use Rattle.thm_c_examples.proofs.Premises.{struct-premises}
 use Rattle.thm_ucp_writer.proofs.Calls.{writer-lists}
 use Rattle.thm_ucp_receiver.specs.Line.{Line}
@@ -63,7 +66,7 @@ use Rattle.thm_c_ucp.proofs.Slices.{linked-slice-lines, linked-slice-takes-all,
 use Rattle.thm_c_ucp.proofs.Writer.{linked-writer, linked-writer-refuses, linked-writer-lists}
 use Rattle.thm_c_ucp.proofs.Lines.{every-linked-line}
 use Rattle.thm_c_ucp.proofs.Delivery.{linked-delivered-writes-back}
-use Rattle.demands.specs.Demands.{TableNumbers, RefusalOrSilence, LinkedRefusalOrSilence, Demand1, Demand2, Demand3, ReceiverLists, PremisesTied}
+use Rattle.demands.specs.Demands.{TableNumbers, RefusalOrSilence, LinkedRefusalOrSilence, Demand1, Demand2, Demand3, ReceiverLists, Examples}
 use Rattle.demands.proofs.Refusals.{Tabled, quiet, numbered, whole, tabled, tabled-slice}
 
 -- an answer that is the one due is a refusal when that is
@@ -273,9 +276,16 @@ demand3 =
       linkedWriter = linked-writer-lists;
     }
 
-pub premises-tied : PremisesTied
-premises-tied =
+pub examples : Examples
+examples =
     record {
+      frames = frame-examples.examples;
+      flippedBit = frame-examples.data-octet-becomes-flag;
+      packets = packet-examples.examples;
+      ucpKinds = ucp-kinds.examples;
+      mavlinkKinds = mavlink-kinds.examples;
+      structs = struct-examples;
+      numbers = number-examples;
       bodies = premises-met;
       lines = every-line;
       linkedLines = every-linked-line;
@@ -283,8 +293,5 @@ premises-tied =
       stretches = stretch-met;
       sliceLine = slice-line-met;
       writerCalls = writer-call-met;
-      ucpKinds = ucp-kinds.examples;
-      mavlinkKinds = mavlink-kinds.examples;
-      structs = struct-examples;
       structPremises = struct-premises;
     }

@@ -21,7 +21,7 @@ use Rattle.c_mavlink.specs.Ids.{refusalBeforeCheck, idNumbers}
 use Rattle.c_mavlink.proofs.OneKind.{one-kind}
 use Rattle.thm_c_messages.proofs.Refusals.{writer-refusals}
 use Rattle.demands.specs.LinkedMavlink.{HasMavlinkId, HasAnotherMavlinkId, MavlinkRefusals, MavlinkReaderRefuses, MavlinkWriterRefuses, MavlinkIdRefuses}
-use Rattle.demands.proofs.MavlinkRefusals.{frame-never-25, found-then-25, exactly-20, exactly-21, exactly-22, exactly-23, exactly-24, exactly-25}
+use Rattle.demands.proofs.MavlinkRefusals.{frame-never-25, found-then-25, exactly-20, exactly-21, exactly-22, exactly-23, exactly-24, exactly-25, exactly-accepted}
 
 -- an answer's number, and that it is a refusal
 number-so : (a : MavlinkAnswer) (n : ℕ) → 0 < n → (readNumber a ≡ n) ↔ (a ≡ refused n)
@@ -58,6 +58,9 @@ module _ (id : ℕ) (input : List ℕ) where
           refuses23 = with-id 23 (omega arith) (exactly-23 input);
           refuses24 = with-id 24 (omega arith) (exactly-24 input);
           refuses25 = with-id 25 (omega arith) (exactly-25 input);
+          accepts =
+              let a = exactly-accepted input in
+              (λ e. (own, a .0 (sym (ap readNumber same) ∙ e)), λ c. ap readNumber same ∙ a .1 (c .1));
           no-other = in-table (readAs id input) (sym same);
         }
 
@@ -75,6 +78,7 @@ module _ (id : ℕ) (input : List ℕ) where
           refuses23 = (λ e. absurd (omega arith), λ c. not-own (c .0));
           refuses24 = (λ e. absurd (omega arith), λ c. not-own (c .0));
           refuses25 = (λ e. absurd (omega arith), λ c. not-own (c .0));
+          accepts = (λ e. absurd (omega arith), λ c. not-own (c .0));
           no-other = inr (omega arith, omega arith);
         }
 

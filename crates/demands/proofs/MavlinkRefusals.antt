@@ -25,6 +25,10 @@ use Rattle.mavlink_messages.specs.Status203.{statusFormat}
 use Rattle.mavlink_messages.specs.Traffic246.{trafficFormat}
 use Rattle.mavlink_messages.specs.Messages.{MavlinkAnswer, judgedBy, payloadRead, readBy, readDue}
 use Rattle.mavlink_messages.specs.Refusals.{HasHeader, kindNamed, OfKind, OfNoKind, HasLength, HasFrame, HasRightCheck, payloadInRange, CutShort, OutsideRange, MavlinkShort, MavlinkWrongStart, MavlinkUnknownId, MavlinkWrongLength, MavlinkWrongCheck, MavlinkOutsideRange}
+use Rattle.thm_mavlink_messages.proofs.Tabled.{tabled-mavlink}
+use Rattle.c_mavlink.specs.Readers.{readNumber}
+use Rattle.thm_c_messages.proofs.Tests.{no}
+use Rattle.demands.specs.LinkedMavlink.{WithinRange, MavlinkAccepted}
 
 -- ---- a payload: 25, and no other
 abbrev Judged : MavlinkAnswer → Bool → Type 0
@@ -257,3 +261,51 @@ module _ (s : List ℕ) where
 
   pub exactly-25 : (readDue s ≡ read-as.refused 25) ↔ MavlinkOutsideRange s
   exactly-25 = (λ e. due s 25 e .5 refl, λ c. read s (c .0) (by-25 (kindNamed s) s (tabled (getD s 5 0)) (c .1)))
+
+-- ---- no refusal: a frame that is found has all but the range
+means-so : {r : MavlinkAnswer} {right : Bool} → Judged r right → (readNumber r ≡ 0) ↔ (right ≡ true)
+means-so {r} {right} j = (to right refl, from r refl)
+  where
+    to : (b : Bool) → right ≡ b → readNumber r ≡ 0 → b ≡ true
+    to true e z = refl
+    to false e z =
+        let refuses : readNumber r ≡ 25 = ap readNumber (j 25 .1 (refl, e)) in
+        absurd (omega arith)
+
+    from : (a : MavlinkAnswer) → r ≡ a → right ≡ true → readNumber a ≡ 0
+    from (read-as.refused n) e t = no (sym (j n .0 e .1) ∙ t)
+    from (read-as.means h used m f) e t = refl
+
+module _ (s : List ℕ) where
+  is-accepted : (l : found-as.FrameAnswer) → found s ≡ l → readNumber (readBy l s) ≡ 0 → MavlinkAccepted s
+  is-accepted (found-as.refused n) e z =
+      let none : n ≡ 0 = z in
+      absurd (omega (arith, tabled-mavlink s n (ap (λ f. readBy f s) e) .0))
+  is-accepted (found-as.frame id h used) e z =
+      let a = accepted s id h used e in
+      let p : List ℕ = payloadAt (used - 8) s in
+      let t : Tabled (known (a .kind)) = subst Tabled (a .known) (tabled id) in
+      let size : used - 8 ≡ a .kind .length = omega (arith, a .ends) in
+      let own : readNumber (payloadRead (a .kind .id) h used p) ≡ 0 = subst (λ (i : ℕ). readNumber (payloadRead i h used p) ≡ 0) (sym (a .named)) z in
+      let within : WithinRange s (a .kind) =
+      subst (λ (m : ℕ). payloadInRange (a .kind .id) (payloadAt m s) ≡ true) size (means-so (t h used p) .0 own) in (
+        (a .starts, omega (arith, a .room, a .ends)),
+        subst (λ (l : KindAnswer). OfKind (λ k. HasFrame s k × HasRightCheck s k × WithinRange s k) l)
+            (sym (ap mavlinkKind (a .numbered) ∙ a .known))
+            ((a .sized, omega (arith, a .room, a .ends)), a .checks, within),
+      )
+
+  by-means : (l : KindAnswer) → Tabled l → OfKind (λ k. HasFrame s k × HasRightCheck s k × WithinRange s k) l
+      → readNumber (readBy (foundBy l s) s) ≡ 0
+  by-means (known k) t c =
+      let size : k .length ≡ k .length + 8 - 8 = omega arith in
+      ap (λ f. readNumber (readBy f s)) (of-frame k s (c .0) (c .1))
+      ∙ means-so (t (headerAt s) (k .length + 8) (payloadAt (k .length + 8 - 8) s)) .1
+      (subst (λ (m : ℕ). payloadInRange (k .id) (payloadAt m s) ≡ true) size (c .2))
+  by-means unknown t c = absurd c
+
+  pub exactly-accepted : (readNumber (readDue s) ≡ 0) ↔ MavlinkAccepted s
+  exactly-accepted = (
+    is-accepted (found s) refl,
+    λ c. ap (λ f. readNumber (readBy f s)) (headed s (c .0)) ∙ by-means (kindNamed s) (tabled (getD s 5 0)) (c .1),
+  )

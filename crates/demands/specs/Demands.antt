@@ -4,11 +4,14 @@
 -- `ostrogosz_ucp_read_..`, `.._write_..` and `.._send_..`; `ostrogosz_mavlink_read_id` and, for every kind, `ostrogosz_mavlink_read_..`
 -- and `.._write_..`. The others are of public functions of the Rattle crates, of which the programs call some: `WritesFrame` of
 -- `ucp_writer::write_frame`, `Receives` of `ucp_receiver::octet::receive` and `Takes` of `receive_slice`; `Reads`, `WritesBody` and
--- `Sends` of messages (ucp_messages, ucp_answers, ucp_send); `readDue` and `writeDue` of MAVLink (mavlink_messages). The tender asks
--- nothing of `ostrogosz_ucp_frame_check`, of the meanings in feet and degrees, of `ostrogosz_mavlink_count_failures` and of the
--- interface's number but that they return; their contracts fix their answers. That every call on every input returns, with no
--- undefined step, is what proving a Rattle function means; no call for C or Rust, and none that is named here, asks anything of its
--- caller. Proved in proofs/Demands.antt. Assumes nothing.
+-- `Sends` of messages (ucp_messages, ucp_answers, ucp_send); `readDue` and `writeDue` of MAVLink (mavlink_messages). What a raw number
+-- means in feet and in feet per minute, and which failures a status reports, 01 states too: those calls have contracts that fix each
+-- answer by `altitudeMeans`, `rateMeans`, `geometricMeans` (ucp_meanings) and `failuresIn` (mavlink_messages), which `ucpKinds`,
+-- `mavlinkKinds` and `numbers` of `Examples` tie to 01. Of degrees, of `ostrogosz_ucp_frame_check` and of the interface's number the
+-- tender asks nothing but that they return; contracts fix their answers too. That every call on every input returns, with no
+-- undefined step, is what proving a Rattle function means; no linked call, and none that is named here, has a `requires`. (What
+-- pointers from C have to be, include/ostrogosz/common.h says; the header's inline functions and the Rust wrapper have no contract.)
+-- Proved in proofs/Demands.antt. Assumes nothing.
 use mathlib.Core.Path.{_≡_}
 use mathlib.Core.Bool.{true, false}
 use mathlib.Core.List.{List, [], _∷_, _++_, map}
@@ -57,10 +60,13 @@ use Rattle.ucp_messages.specs.Refusals.{UnknownId, WrongMessageLength, WrongFix
 use Rattle.ucp_answers.specs.Writes as Message
 use Rattle.ucp_send.specs.Sends.{Sends}
 use Rattle.crc_gdl90_strength.specs.Premises.{PremisesMet}
+use Rattle.thm_ucp_examples.specs.Examples.{FrameExamples, DataOctetBecomesFlag}
 use Rattle.thm_ucp_examples.specs.LinePremises.{EndsInMet, StretchMet, SliceLineMet, WriterCallMet}
+use Rattle.thm_mavlink_messages.specs.Examples.{PacketExamples}
 use Rattle.thm_kind_examples.specs.Ucp.{UcpKindExamples}
 use Rattle.thm_kind_examples.specs.Mavlink.{MavlinkKindExamples}
 use Rattle.thm_c_examples.specs.Structs.{StructExamples}
+use Rattle.thm_c_examples.specs.Numbers.{NumberExamples}
 use Rattle.thm_c_examples.specs.Premises.{StructPremises}
 use Rattle.thm_ucp_writer.specs.Calls.{WriterLists}
 use Rattle.thm_ucp_receiver.specs.Line.{Observed, callOf, upTo, Line}
@@ -104,7 +110,8 @@ pub record LinkedRefusalOrSilence (kind value : ℕ) (output outputThen : List �
 pub record Demand1 : Type 0 where
   -- "Bad input gets a numbered refusal under the conditions in document 01, or in a later change that adds to them, and no others. A
   -- refusal changes no byte of the lent output": the numbers; then each call, with the conditions that its room's specs/Refusals.antt
-  -- spells, each with those before it in the order of tests not met
+  -- spells, each with those before it in the order of tests not met. Wider than 01's rows, by docs/DECISIONS.md, are 10 and 22 of a
+  -- linked reader of one kind, for another kind's ID too, and 13 for an uplink's payload of another length
   pub numbers : TableNumbers
   -- ---- the frame writer: 7, then 8
   pub writerRefuses7 :
@@ -307,12 +314,25 @@ pub record Demand3 : Type 0 where
   pub linkedReceiver : LinkedReceiverLists
   pub linkedWriter : LinkedWriterLists
 
--- What these demands suppose is met by some calls, and not by all: bodies at each edge of demand 3, a line that ends in a frame, a
--- stretch that is open, a line in slices of which one is answered, calls of the writer of which one is accepted; every list of octets
--- is a line and a linked line, and every list of octets and slices is one of linked calls. Each kind of message has values that fit
--- and values that do not, and octets that carry them; each C struct has its fields, by name, at their offsets, and octets that its
--- calls accept and refuse. (docs/ASSURANCE.md lists each premise and what ties it.)
-pub record PremisesTied : Type 0 where
+-- What ties the definitions to the papers and to the header, and what shows that the demands' premises are met by some calls, and not
+-- by all. (docs/ASSURANCE.md lists each premise and what ties it.)
+pub record Examples : Type 0 where
+  -- ---- the papers' own: 01's "Frames to try" that are marked P; 001's two packets
+  pub frames : FrameExamples
+  pub flippedBit : DataOctetBecomesFlag
+  pub packets : PacketExamples
+  -- ---- each kind of message: octets that carry values, values that fit, and values that do not, but for 0, 11, 44, 66 and 203, of
+  -- which every value fits; what raw numbers mean
+  pub ucpKinds : UcpKindExamples
+  pub mavlinkKinds : MavlinkKindExamples
+  -- ---- C: each message struct has its fields, by name, at their offsets; the line, the answers, a measure and the failures have their
+  -- numbers in the header's order
+  pub structs : StructExamples
+  pub numbers : NumberExamples
+  -- ---- premises: bodies at each edge of demand 3; every list of octets is a line and a linked line, and every list of octets and
+  -- slices is one of linked calls; a line that ends in a frame, a stretch that is open, a line in slices of which one is answered,
+  -- calls of the writer of which one is accepted; octets of each message struct that its calls accept, and, but for the kinds above,
+  -- refuse
   pub bodies : PremisesMet
   pub lines : EveryLine
   pub linkedLines : EveryLinkedLine
@@ -320,7 +340,4 @@ pub record PremisesTied : Type 0 where
   pub stretches : StretchMet
   pub sliceLine : SliceLineMet
   pub writerCalls : WriterCallMet
-  pub ucpKinds : UcpKindExamples
-  pub mavlinkKinds : MavlinkKindExamples
-  pub structs : StructExamples
   pub structPremises : StructPremises

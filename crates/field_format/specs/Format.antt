@@ -248,7 +248,8 @@ abbrev pub standAt : Bool → ℕ → List ℕ → List ℕ → Bool
 standAt before k [] body = before
 standAt before k (x ∷ xs) body = standAt (before && eqb (getD body k 0) x) (k + 1) xs body
 
--- the body starts with the ID, if there is one
+-- what the round trips ask of a body's first octet: it is the kind's ID, if the kind has one. Of no octets this says that the ID is 0:
+-- that there is an octet, the length shows
 abbrev pub HasId : List ℕ → List ℕ → Type 0
 HasId [] body = Unit {0}
 HasId (id ∷ xs) body = getD body 0 0 ≡ id

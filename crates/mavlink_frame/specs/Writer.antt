@@ -2,17 +2,13 @@
 use mathlib.Core.Bool.{cond}
 use mathlib.Core.List.{List, []}
 use Prim.Native.Nat.{ℕ, _+_}
-use lib.Dec.{eqb, ltb}
+use lib.Dec.{eqb}
 use lib.ListN.{length}
 use Rattle.refusals.specs.Numbers as because
-use Rattle.output_writing.specs.Writing.{WriterAnswer, refused, wrote}
+use Rattle.output_writing.specs.Writing.{WriterAnswer, refused, roomFor}
 use Rattle.mavlink_frame.specs.declared.Kind.{Kind}
 use Rattle.mavlink_frame.specs.declared.Header.{Header}
 use Rattle.mavlink_frame.specs.Frame.{KindAnswer, known, unknown, mavlinkKind, mavlinkFrame}
-
--- 8 for an output shorter than a frame of so many octets, else the frame
-abbrev pub roomFor : ℕ → List ℕ → WriterAnswer
-roomFor octets output = cond (ltb (length output) octets) (refused because.outputLength) (wrote octets)
 
 -- 25 for an ID that no kind has, and for a payload that is not of the kind's length, then 8
 unfoldable pub writeOf : Kind → List ℕ → List ℕ → WriterAnswer

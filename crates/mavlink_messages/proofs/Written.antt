@@ -8,11 +8,11 @@ use lib.ListN.{length}
 use Rattle.field_format.specs.Format.{bodyOf}
 use Rattle.output_writing.specs.declared.Written.{Written}
 use Rattle.output_writing.specs.declared.Written.the-variants.{Refused}
-use Rattle.output_writing.specs.Writing.{Writing}
+use Rattle.output_writing.specs.Writing.{roomFor, Writing}
 use Rattle.mavlink_messages.specs.Ranges.{staticFits}
 use Rattle.mavlink_frame.specs.declared.Header.{Header}
 use Rattle.mavlink_frame.specs.Frame.{mavlinkKind}
-use Rattle.mavlink_frame.specs.Writer.{roomFor, writeOf, frameOf}
+use Rattle.mavlink_frame.specs.Writer.{writeOf, frameOf}
 use Rattle.mavlink_frame.specs.Writer as frame-writes
 use Rattle.mavlink_messages.specs.declared.Static as static-as
 use Rattle.mavlink_messages.specs.declared.Message.{Message}

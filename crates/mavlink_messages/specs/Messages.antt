@@ -8,12 +8,12 @@ use lib.ListN.{length}
 use Rattle.field_format.specs.Format.{bodyOf, valueIn}
 use Rattle.refusals.specs.Numbers as because
 use Rattle.output_writing.specs.Writing as writing-as
-use Rattle.output_writing.specs.Writing.{WriterAnswer}
+use Rattle.output_writing.specs.Writing.{WriterAnswer, roomFor}
 use Rattle.mavlink_frame.specs.declared.Header.{Header}
 use Rattle.mavlink_frame.specs.Frame.{KindAnswer, known, unknown, mavlinkKind}
 use Rattle.mavlink_frame.specs.Reader as found-as
 use Rattle.mavlink_frame.specs.Reader.{FrameAnswer, frame, payloadAt, found}
-use Rattle.mavlink_frame.specs.Writer.{roomFor, frameOf}
+use Rattle.mavlink_frame.specs.Writer.{frameOf}
 use Rattle.mavlink_messages.specs.declared.Message.{Message}
 use Rattle.mavlink_messages.specs.declared.Message.the-variants.{DataStream, Static, Dynamic, Status, Traffic}
 use Rattle.mavlink_messages.specs.declared.Read.{Read}

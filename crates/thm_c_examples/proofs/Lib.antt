@@ -1,2 +1,3 @@
 pub mod Structs
 pub mod Premises
+pub mod Numbers

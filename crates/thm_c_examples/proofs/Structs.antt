@@ -15,6 +15,7 @@ struct-examples =
       es-c-ident = record { reads = refl; stores = refl };
       s-c-baro = record { reads = refl; stores = refl };
       a-ident-baro = record { reads = refl; stores = refl };
+      any-octet-but-0 = refl;
       initialization = record { reads = refl; stores = refl };
       header = record { reads = refl; stores = refl };
       stream = record { reads = refl; stores = refl };

@@ -26,7 +26,7 @@ use Rattle.c_ucp_request.specs.Struct.{requestStruct}
 use Rattle.c_ucp_control.specs.Struct.{controlStruct}
 use Rattle.c_ucp_initialization.specs.Struct.{initializationStruct}
 use Rattle.c_mavlink.specs.Structs.{headerStruct, dataStreamStruct, staticStruct, dynamicStruct, statusStruct, trafficStruct}
-use Rattle.thm_kind_examples.specs.Octets.{letters}
+use Rattle.thm_kind_examples.specs.Octets.{withOctet, letters}
 
 -- the octets of the struct hold the value, and the value is stored as the octets
 pub record StructCarries {A : Type 0} (s : Struct A) (octets : List ℕ) (a : A) : Type 0 where
@@ -241,6 +241,10 @@ pub record StructExamples : Type 0 where
   pub es-c-ident : StructCarries controlStruct (controlHeld true false true false true false) (controlIn true false true false true false)
   pub s-c-baro : StructCarries controlStruct (controlHeld false true true false false true) (controlIn false true true false false true)
   pub a-ident-baro : StructCarries controlStruct (controlHeld false false false true true true) (controlIn false false false true true true)
+  -- a bool that is neither 0 nor 1 is yes
+  pub any-octet-but-0 :
+      held controlStruct (withOctet 0 0x02 (withOctet 2 0x80 (withOctet 4 0xFF (controlHeld false false false false false false))))
+      ≡ controlIn true false true false true false
   pub initialization : StructCarries initializationStruct initializationHeld initializationIn
   pub header : StructCarries headerStruct headerHeld headerIn
   pub stream : StructCarries dataStreamStruct streamHeld streamIn

@@ -1,6 +1,7 @@
 -- When each call for C of a message of the UCP line gives each refusal (document 01, the table's rows 7, 8 and 10 to 13 and the
--- paragraph below it), over what the calls ensure: each condition says that none before it is met, and there is no other refusal.
--- Assumes nothing.
+-- paragraph below it), over what the calls ensure: each condition says that none before it is met, and there is no other refusal. Wider
+-- than the rows, by docs/DECISIONS.md: a reader of one kind gives 10 for another kind's ID too, and a writer or a send 13 for an
+-- uplink's payload that is not of 435 octets. Assumes nothing.
 use mathlib.Core.Path.{_≡_}
 use mathlib.Core.Bool.{Bool, true, false}
 use mathlib.Core.List.{List, _++_}

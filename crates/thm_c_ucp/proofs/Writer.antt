@@ -120,11 +120,6 @@ same-calls ws m =
       bodies = ap linkedBodies (sym (a .same)) ∙ bodies-same (a .called);
     }
 
-answered : (before after : List LinkedWrite) (w : LinkedWrite) → LinkedWrites (before ++ w ∷ after)
-    → w .given ≡ writtenNumbers (frameDue (w .body) (w .output))
-answered [] after w m = m .0 .answers
-answered (b ∷ before) after w m = answered before after w (m .1)
-
 -- ---- one call
 
 module _ (body output : List ℕ) (given : OstrogoszWritten) (after : List ℕ) where
@@ -185,7 +180,7 @@ linked-writer-refuses body output after given call = frame-refusals body output 
 pub linked-writer-lists : LinkedWriterLists
 linked-writer-lists =
     record {
-      answers = answered;
+      answers = λ w m. m .0 .answers;
       frames = λ ws m.
           let s = same-calls ws m in
           s .octets ∙ writer-lists .frames (s .calls) ∙ ap framesOf (sym (s .bodies));

@@ -77,8 +77,7 @@ LinkedWriterRefuses =
 
 -- demand 3, the writer, one claim about whole lists of linked calls, as `WriterLists` is of the frame writer's
 pub record LinkedWriterLists : Type 0 where
-  pub answers : (before after : List LinkedWrite) (w : LinkedWrite) → LinkedWrites (before ++ w ∷ after)
-      → w .given ≡ writtenNumbers (frameDue (w .body) (w .output))
+  pub answers : (w : LinkedWrite) → LinkedWrites (w ∷ []) → w .given ≡ writtenNumbers (frameDue (w .body) (w .output))
   pub frames : (calls : List LinkedWrite) → LinkedWrites calls → linkedOctets calls ≡ framesOf (linkedBodies calls)
   pub differ : (xs ys : List LinkedWrite) → LinkedWrites xs → LinkedWrites ys → (linkedBodies xs ≡ linkedBodies ys → ⊥)
       → DifferInNumberOrOctet (linkedOctets xs) (linkedOctets ys)

@@ -5,14 +5,14 @@ use Rattle.field_texts.specs.Text.{allSpaces, isPadded, isSpaced}
 use Rattle.field_signed.specs.Signed.{signed, holds}
 use Rattle.field_format.specs.Format.{valueIn, bodyOf, fits}
 use Rattle.ucp_answers.specs.Refusals.{refusalBy, refusalOf, reads}
-use Rattle.ucp_meanings.specs.Meanings.{altitudeMeans, rateMeans, geometricMeans}
+use Rattle.ucp_meanings.specs.Meanings.{altitudeMeans, rateMeans, geometricMeans, degreesE7}
 use Rattle.ucp_messages.specs.Uplink7.{uplinkFits}
 use Rattle.ucp_messages.specs.Kinds.{kindOf}
 use Rattle.ucp_messages.specs.Messages.{answerAs, messageFits, messageBody}
 use Rattle.thm_kind_examples.specs.Ucp.{UcpKindExamples}
 
 pub examples : UcpKindExamples
-unfolding isSquawk isEmitter isSizeCode allSpaces isPadded isSpaced signed holds valueIn bodyOf fits refusalBy refusalOf reads altitudeMeans rateMeans geometricMeans uplinkFits kindOf answerAs messageFits messageBody
+unfolding isSquawk isEmitter isSizeCode allSpaces isPadded isSpaced signed holds valueIn bodyOf fits refusalBy refusalOf reads altitudeMeans rateMeans geometricMeans degreesE7 uplinkFits kindOf answerAs messageFits messageBody
 examples =
     record {
       no-octet = refl;
@@ -23,6 +23,10 @@ examples =
       uplink = refl;
       uplink-of-435 = refl;
       uplink-of-437 = refl;
+      payload-of-435 = refl;
+      payload-written = refl;
+      payload-of-434 = refl;
+      payload-of-436 = refl;
       traffic = record { read = refl; fit = refl; written = refl };
       ownship = record { read = refl; fit = refl; written = refl };
       report-of-27 = refl;
@@ -40,6 +44,9 @@ examples =
       rate-800 = refl;
       rate-801 = refl;
       rate-7FF = refl;
+      degrees-800000 = refl;
+      degrees-000001 = refl;
+      degrees-FFFFFF = refl;
       geometric = record { read = refl; fit = refl; written = refl };
       geometric-of-4 = refl;
       geometric-feet = refl;
@@ -59,6 +66,10 @@ examples =
       before-A = refl;
       behind-Z = refl;
       last-octet-00 = refl;
+      air-ground-3-fits = refl;
+      air-ground-4-unfit = refl;
+      squawk-7778-unfit = refl;
+      lower-case-unfit = refl;
       no-bit = refl;
       bit-7 = refl;
       bit-6 = refl;

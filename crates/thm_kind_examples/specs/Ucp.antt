@@ -7,7 +7,7 @@ use Prim.Native.Nat.{ℕ}
 use lib.IntN.{ℤ, pos, negsuc}
 use lib.ListN.{take, replicate}
 use Rattle.refusals.specs.Numbers as because
-use Rattle.ucp_meanings.specs.Meanings.{noData, value, altitudeMeans, rateMeans, geometricMeans}
+use Rattle.ucp_meanings.specs.Meanings.{noData, value, altitudeMeans, rateMeans, geometricMeans, degreesE7}
 use Rattle.ucp_messages.specs.declared.Heartbeat as heartbeat-as
 use Rattle.ucp_messages.specs.declared.Report as report-as
 use Rattle.ucp_messages.specs.declared.GeometricAltitude as geometric-as
@@ -111,21 +111,24 @@ requestValue = record { «requested_id» = 0x2B }
 abbrev pub controlBody : List ℕ
 controlBody = 0x2D ∷ 0x01 ∷ 0xAB ∷ 0xFE ∷ 0xFF ∷ 0xFF ∷ 0xFF ∷ 0x61 ∷ 0x1E ∷ 0x07 ∷ 0x4E ∷ 0x39 ∷ 0x30 ∷ 0x31 ∷ 0x20 ∷ 0x20 ∷ 0x20 ∷ 0x20 ∷ []
 
-abbrev pub controlValue : control-as.Control
-controlValue =
+abbrev pub controlWith : ℕ → ℕ → ℕ → control-as.Control
+controlWith ground squawk letter =
     record {
       «es_enabled» = true;
       «mode_s» = false;
       «mode_c» = true;
       «mode_a» = false;
       ident = true;
-      «air_ground» = 1;
+      «air_ground» = ground;
       «baro_checked» = true;
       altitude = negsuc 1;
-      squawk = 7777;
+      squawk = squawk;
       emergency = 7;
-      identity = letters 0x4E 0x39 0x30 0x31 0x20 0x20 0x20 0x20;
+      identity = letters letter 0x39 0x30 0x31 0x20 0x20 0x20 0x20;
     }
+
+abbrev pub controlValue : control-as.Control
+controlValue = controlWith 1 7777 0x4E
 
 -- the bits of octet 2 one by one, its two of the air-ground state together, with an altitude that is not known, squawk 1200 and an identity of spaces
 abbrev pub bitsBody : ℕ → List ℕ
@@ -176,6 +179,10 @@ pub record UcpKindExamples : Type 0 where
   pub uplink : messageDue (uplinkOf 435) ≡ means Uplink
   pub uplink-of-435 : Refuses because.messageLength (uplinkOf 434)
   pub uplink-of-437 : Refuses because.messageLength (uplinkOf 436)
+  pub payload-of-435 : messageFits Uplink (replicate 435 0) ≡ true
+  pub payload-written : messageBody Uplink (replicate 435 0) ≡ uplinkOf 435
+  pub payload-of-434 : messageFits Uplink (replicate 434 0) ≡ false
+  pub payload-of-436 : messageFits Uplink (replicate 436 0) ≡ false
   -- ---- 10 and 20
   pub traffic : BodyCarries trafficBody (Traffic trafficValue)
   pub ownship : BodyCarries ownshipBody (Ownship ownshipValue)
@@ -194,6 +201,10 @@ pub record UcpKindExamples : Type 0 where
   pub rate-800 : rateMeans (negsuc 2047) ≡ noData
   pub rate-801 : rateMeans (negsuc 2046) ≡ value (negsuc 131007)
   pub rate-7FF : rateMeans (pos 2047) ≡ value (pos 131008)
+  -- a latitude and a longitude: -180 degrees, and the least step to either side, 214.58 of 1E-7 degree, toward zero
+  pub degrees-800000 : degreesE7 (negsuc 8388607) ≡ negsuc 1799999999
+  pub degrees-000001 : degreesE7 (pos 1) ≡ pos 214
+  pub degrees-FFFFFF : degreesE7 (negsuc 0) ≡ negsuc 213
   -- ---- 11
   pub geometric : BodyCarries geometricBody (GeometricAltitude geometricValue)
   pub geometric-of-4 : Refuses because.messageLength (take 4 geometricBody)
@@ -216,6 +227,10 @@ pub record UcpKindExamples : Type 0 where
   pub before-A : Refuses because.field (withOctet 11 0x40 controlBody)
   pub behind-Z : Refuses because.field (withOctet 11 0x5B controlBody)
   pub last-octet-00 : Refuses because.field (withOctet 17 0x00 controlBody)
+  pub air-ground-3-fits : messageFits (Control (controlWith 3 7777 0x4E)) [] ≡ true
+  pub air-ground-4-unfit : Unfit (Control (controlWith 4 7777 0x4E))
+  pub squawk-7778-unfit : Unfit (Control (controlWith 1 7778 0x4E))
+  pub lower-case-unfit : Unfit (Control (controlWith 1 7777 0x6E))
   pub no-bit : messageDue (bitsBody 0x00) ≡ means (Control (bitsValue false false false false false 0 false))
   pub bit-7 : messageDue (bitsBody 0x80) ≡ means (Control (bitsValue true false false false false 0 false))
   pub bit-6 : messageDue (bitsBody 0x40) ≡ means (Control (bitsValue false true false false false 0 false))

@@ -12,7 +12,7 @@ use Rattle.field_format.specs.Format.{bodyOf, valueIn}
 use Rattle.crc_polynomial.specs.Polynomial.{Octets}
 use Rattle.output_writing.specs.declared.Written.{Written}
 use Rattle.output_writing.specs.declared.Written.the-variants.{Wrote, Refused}
-use Rattle.output_writing.specs.Writing.{refused, wrote, writerAnswer, outputAfter, Writing}
+use Rattle.output_writing.specs.Writing.{refused, wrote, writerAnswer, roomFor, outputAfter, Writing}
 use Rattle.mavlink_frame.specs.declared.Kind.{Kind}
 use Rattle.mavlink_frame.specs.declared.Header.{Header}
 use Rattle.mavlink_frame.specs.Frame as kinds-as
@@ -20,7 +20,7 @@ use Rattle.mavlink_frame.specs.Reader as found-as
 use Rattle.mavlink_frame.specs.Frame.{kind, mavlinkKind, mavlinkFrame}
 use Rattle.mavlink_frame.specs.Reader.{FrameAnswer, headerAt, payloadAt, found}
 use Rattle.mavlink_messages.specs.Refusals.{HasHeader}
-use Rattle.mavlink_frame.specs.Writer.{roomFor, frameBy}
+use Rattle.mavlink_frame.specs.Writer.{frameBy}
 use Rattle.mavlink_frame.proofs.reader.Accepted.{Accepted, accepted}
 use Rattle.mavlink_messages.specs.Failures.{FailureAnswer}
 use Rattle.mavlink_messages.specs.declared.Message.{Message}

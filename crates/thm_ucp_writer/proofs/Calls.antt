@@ -43,7 +43,7 @@ apart-lines xs ys differ e = differ (frames-injective _ _ (sym (line-of-bodies x
 pub writer-lists : WriterLists
 writer-lists =
     record {
-      answers = λ before after c calls e. c .writes .answers;
+      answers = λ c. c .writes .answers;
       frames = line-of-bodies;
       apart = apart-lines;
       differ = λ xs ys bodies. differ-so (lineOctets xs) (lineOctets ys) (apart-lines xs ys bodies);

@@ -54,8 +54,7 @@ DifferInNumberOrOctet xs ys = (length xs ≡ length ys → ⊥) ⊎ DifferAtPlac
 -- frames of its accepted bodies, in the order of the calls; and for every two lists, refused calls included, where the
 -- accepted bodies are not the same list the line octets are not the same either: they differ in number or in some octet
 pub record WriterLists : Type 0 where
-  pub answers : (before after : List WriterCall) (c : WriterCall) (calls : List WriterCall) → calls ≡ before ++ c ∷ after
-      → writerAnswer (c .answer) ≡ frameDue (c .body) (c .output)
+  pub answers : (c : WriterCall) → writerAnswer (c .answer) ≡ frameDue (c .body) (c .output)
   pub frames : (calls : List WriterCall) → lineOctets calls ≡ framesOf (acceptedBodies calls)
   pub apart : (xs ys : List WriterCall) → (acceptedBodies xs ≡ acceptedBodies ys → ⊥) → lineOctets xs ≡ lineOctets ys → ⊥
   pub differ : (xs ys : List WriterCall) → (acceptedBodies xs ≡ acceptedBodies ys → ⊥) → DifferInNumberOrOctet (lineOctets xs) (lineOctets ys)

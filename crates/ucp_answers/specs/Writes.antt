@@ -3,16 +3,14 @@
 use mathlib.Core.Bool.{Bool, cond}
 use mathlib.Core.List.{List}
 use Prim.Native.Nat.{ℕ}
-use lib.Dec.{ltb}
 use lib.ListN.{length}
 use Rattle.refusals.specs.Numbers as because
 use Rattle.output_writing.specs.declared.Written.{Written}
-use Rattle.output_writing.specs.Writing.{WriterAnswer, refused, wrote, Writing}
+use Rattle.output_writing.specs.Writing.{WriterAnswer, refused, roomFor, Writing}
 
 -- the answer that is due: 13 for a field outside its range, then 8 for an output shorter than the body
 unfoldable pub bodyDue : Bool → List ℕ → List ℕ → WriterAnswer
-bodyDue fits body output =
-    cond fits (cond (ltb (length output) (length body)) (refused because.outputLength) (wrote (length body))) (refused because.field)
+bodyDue fits body output = cond fits (roomFor (length body) output) (refused because.field)
 
 -- one call, whole: whether the fields fit, their body, the output as at entry, the answer, and the output as at return
 abbrev pub WritesBody : Bool → List ℕ → List ℕ → Written → List ℕ → Type 0
