@@ -2,7 +2,7 @@
 -- record on; and its lines are those that went out and those of the octets that are left. Assumes nothing.
 use mathlib.Core.Path.{_≡_, refl, sym, _∙_, ap, ap₂}
 use mathlib.Core.List.{List, [], _++_, append-assoc, append-nil}
-use Prim.Native.Nat.{ℕ, _+_, _%_, _^_, _≤_}
+use Prim.Native.Nat.{ℕ, _+_, _%_, _^_, _<_, _≤_}
 use native.Mathlib.Nat.{mod-add-mod}
 use native.Mathlib.Omega.{arith}
 use lib.ListN.{length, drop, length-append, length-drop, drop-of-length-le}
@@ -38,21 +38,22 @@ module _ (block : List ℕ) where
 
 -- ---- what went out
 
--- the lines of the block are those that went out, and then those of the octets that are left
-pub record WentOut (every : LinesOf) (block whole : List ℕ) (s : State) (c : Counts) (taken written : ℕ) : Type 0 where
+-- the lines of the block are those that went out or wait, and then those of the octets that are left
+pub record WentOut (every : LinesOf) (block whole : List ℕ) (s : State) (c : Counts) (taken written waiting : ℕ) : Type 0 where
   pub done : List ℕ
   pub makes : whole ≡ done ++ every s c (drop taken block)
   pub number : written ≡ length done % 2 ^ 64
+  pub waits : waiting ≤ length done
 
 module _ (every : LinesOf) (block : List ℕ) where
-  pub went-first : (s : State) (c : Counts) → WentOut every block (every s c block) s c 0 0
-  went-first s c = record { done = []; makes = refl; number = refl }
+  pub went-first : (s : State) (c : Counts) → WentOut every block (every s c block) s c 0 0 0
+  went-first s c = record { done = []; makes = refl; number = refl; waits = omega arith }
 
-  module _ (whole : List ℕ) (s : State) (c : Counts) (taken written : ℕ) (w : WentOut every block whole s c taken written) where
-    pub went-more : (t : State) (d : Counts) (more n next : ℕ) (text : List ℕ)
+  module _ (whole : List ℕ) (s : State) (c : Counts) (taken written waiting : ℕ) (w : WentOut every block whole s c taken written waiting) where
+    pub went-more : (t : State) (d : Counts) (more n next later : ℕ) (text : List ℕ)
         → every s c (drop taken block) ≡ text ++ every t d (drop more (drop taken block))
-        → n ≡ length text → next ≡ (written + n) % 2 ^ 64 → WentOut every block whole t d (taken + more) next
-    went-more t d more n next text same long adds =
+        → n ≡ length text → next ≡ (written + n) % 2 ^ 64 → later ≤ waiting + n → WentOut every block whole t d (taken + more) next later
+    went-more t d more n next later text same long adds least =
         record {
           done = w .done ++ text;
           makes =
@@ -61,7 +62,20 @@ module _ (every : LinesOf) (block : List ℕ) where
           number =
               adds ∙ ap₂ (λ (a b : ℕ). (a + b) % 2 ^ 64) (w .number) long ∙ mod-add-mod (length (w .done)) (2 ^ 64) (length text)
               ∙ ap (λ (k : ℕ). k % 2 ^ 64) (sym (length-append (w .done) text));
+          waits = omega (arith, w .waits, long, least, length-append (w .done) text);
         }
+
+    -- where some of the block's text was to be written, it has lines
+    pub waits-some : 0 < waiting → 0 < length whole
+    waits-some h = omega (arith, w .waits, ap length (w .makes) ∙ length-append (w .done) (every s c (drop taken block)))
+
+    pub text-some : (text left : List ℕ) → every s c (drop taken block) ≡ text ++ left → 0 < length text → 0 < length whole
+    text-some text left same h =
+        omega (
+          arith,
+          ap length (w .makes) ∙ length-append (w .done) (every s c (drop taken block)),
+          ap length same ∙ length-append text left,
+        )
 
     pub went-last : every s c [] ≡ [] → length block ≤ taken → WritesLines More written whole
     went-last none all =
@@ -73,7 +87,8 @@ module _ (every : LinesOf) (block : List ℕ) where
 pub done-block : (receiver : Record) (output : Output) (store : List ℕ) (b : RecordBehind) (lines : List ℕ) (written waiting k : ℕ)
     → WritesWaiting written k output → k ≡ waiting
     → Leaves More (stateOf (receiver .rest) store) (receiver .counts) b → WritesLines More ((written + waiting) % 2 ^ 64) lines
+    → (0 < waiting → 0 < length lines)
     → let d = blockDone receiver output in
     Leaves (d .progress .input) (stateOf (d .progress .receiver .rest) store) (d .progress .receiver .counts) b × WritesLines (d .progress .input) (d .written) lines
-done-block receiver (Wrote n) store b lines written waiting k w e l o = (l, w ∙ ap (λ (m : ℕ). (written + m) % 2 ^ 64) e ∙ o)
-done-block receiver WriteFailed store b lines written waiting k w e l o = (tt, tt)
+done-block receiver (Wrote n) store b lines written waiting k w e l o some = (l, w ∙ ap (λ (m : ℕ). (written + m) % 2 ^ 64) e ∙ o)
+done-block receiver WriteFailed store b lines written waiting k w e l o some = (tt, some (omega (arith, w, e)))

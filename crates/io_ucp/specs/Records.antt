@@ -2,7 +2,7 @@
 use mathlib.Core.Path.{_≡_}
 use mathlib.Core.Bool.{Bool, true, false}
 use mathlib.Core.List.{List}
-use Prim.Native.Nat.{ℕ, _%_, _^_}
+use Prim.Native.Nat.{ℕ, _%_, _^_, _<_}
 use lib.ListN.{length, take}
 use Rattle.ucp_receiver.specs.declared.Counts.{Counts}
 use Rattle.ucp_receiver.specs.declared.Record.{Record}
@@ -45,11 +45,11 @@ abbrev pub blockDone : Record → Output → BlockDone
 blockDone receiver (Wrote n) = record { progress = record { receiver = receiver; input = More }; written = n }
 blockDone receiver WriteFailed = record { progress = record { receiver = receiver; input = Failed }; written = 0 }
 
--- the input goes on: as many octets went out as these lines have, modulo 2^64
+-- the input goes on: as many octets went out as these lines have, modulo 2^64. A write fails only where there are lines to write
 abbrev pub WritesLines : Input → ℕ → List ℕ → Type 0
 WritesLines More written lines = written ≡ length lines % 2 ^ 64
 WritesLines Ended written lines = ⊥
-WritesLines Failed written lines = Unit {0}
+WritesLines Failed written lines = 0 < length lines
 
 -- ---- turns
 

@@ -7,7 +7,7 @@ use Prim.Native.Nat.{ℕ, _+_, _-_, _%_, _^_, _<_, _≤_, min}
 use native.Mathlib.Nat.{zero-add}
 use native.Mathlib.Omega.{arith}
 use denote.Ref.{now}
-use lib.ListN.{length, take, drop, length-drop}
+use lib.ListN.{length, take, drop, length-drop, length-take}
 use lib.Seq.{take-all, length-sets}
 use Rattle.ucp_receiver.specs.declared.Counts.{Counts}
 use Rattle.ucp_receiver.specs.Octet.{State, stateOf}
@@ -19,7 +19,7 @@ use Rattle.text_ucp_explanation.specs.Explanation.{explanation, everyExplanatio
 use Rattle.text_ucp_explanation.specs.Calls.{ExplainsAnswer}
 use Rattle.text_ucp_explanation.proofs.Continuation.{takes-onward, takes-text}
 use Rattle.io_streams.proofs.Gathering.{gathered-line, makes-up}
-use Rattle.io_ucp.proofs.Blocks.{Reached, reached-first, reached-more, reached-last, WentOut, went-first, went-more, went-last, done-block}
+use Rattle.io_ucp.proofs.Blocks.{Reached, reached-first, reached-more, reached-last, WentOut, went-first, went-more, went-last, waits-some, text-some, done-block}
 use borrow.Author.Needs.{needs}
 use Rattle.line_explainer.proofs.explain_block.Statement.{statement}
 use Rattle.line_explainer.proofs.explain_block.Tie as tie
@@ -29,7 +29,7 @@ Inv-loop store₀ room₀ block text₀ buffer₀ receiver₀ taken₀ waiting�
     (length buffer ≡ length buffer₀)
     × (waiting ≤ length buffer)
     × Reached block (behindAll (stateOf (receiver₀ .rest) store₀) (receiver₀ .counts) block) (stateOf (receiver .rest) store) (receiver .counts) taken
-    × WentOut everyExplanation block (everyExplanation (stateOf (receiver₀ .rest) store₀) (receiver₀ .counts) block) (stateOf (receiver .rest) store) (receiver .counts) taken ((written + waiting) % 2 ^ 64)
+    × WentOut everyExplanation block (everyExplanation (stateOf (receiver₀ .rest) store₀) (receiver₀ .counts) block) (stateOf (receiver .rest) store) (receiver .counts) taken ((written + waiting) % 2 ^ 64) waiting
 
 abbrev μ-loop : tie.MeasureT-loop
 μ-loop store₀ room₀ block text₀ buffer₀ receiver₀ taken₀ waiting₀ written₀ store room text buffer receiver taken waiting written = length block - taken
@@ -70,7 +70,21 @@ same-length : tie.Need-same-length Inv-loop μ-loop
 same-length c = c .before .before .before .before .before .gather .kept .0 ∙ c .before .before .before .before .before .before .before .before .before .before .before .before .before .before .before .before .before .before .loop .inv .0
 
 returns : tie.Need-returns Inv-loop μ-loop
-returns c = rw (c .block-done .ensures) (tt, tt)
+returns c =
+    let t = c .before .before .before .before .before .before .before .before .before .before .before .before in
+    let l = c .before .before .before .before .before .before .before .before .before .before .before .before .before .before .before .before .before .before .loop in
+    let block = now (c .before .before .before .before .before .before .before .before .before .before .before .before .before .before .before .before .before .before .before .before .before .args .block) in
+    let e = explained t in
+    let n : ℕ = t .explain-next .result .written in
+    let run = sliceRun (stateOf (l .receiver .rest) (l .store)) (l .receiver .counts) (drop (l .taken) block) bodyRoom in
+    let fails = rw (c .before .enum-told .given .1) at (c .before .before .before .before .before .gather .ensures) in
+    let taken = length-take (min n (length (l .buffer))) (t .explain-next .last .1 .1 .1 .1 .0) in
+    let long = e .puts .ends ∙ zero-add _ in
+    rw (c .block-done .ensures) (
+      tt,
+      text-some everyExplanation block _ _ _ (l .taken) ((l .written + l .waiting) % 2 ^ 64) (l .waiting) (l .inv .3)
+          (explanation (run .verdict)) _ (takes-text (e .takes) (e .long)) (omega (arith, fails .0, taken, long, l .inv .1)),
+    )
 
 loop-less : tie.Need-loop-less Inv-loop μ-loop
 loop-less c = omega (arith, turn-within (c .before .before .before .before .before .before .before .before .before .before .before .before .before))
@@ -100,9 +114,9 @@ loop-again c =
       kept ∙ l .inv .0,
       omega (arith, g .0, kept),
       reached-more block _ _ _ (l .taken) (l .inv .2) _ _ (t .explain-next .result .taken .taken) (takes-within (e .takes) .0) (takes-onward (e .takes) (e .long)),
-      went-more everyExplanation block _ _ _ (l .taken) ((l .written + l .waiting) % 2 ^ 64) (l .inv .3) _ _ (t .explain-next .result .taken .taken) n _
+      went-more everyExplanation block _ _ _ (l .taken) ((l .written + l .waiting) % 2 ^ 64) (l .waiting) (l .inv .3) _ _ (t .explain-next .result .taken .taken) n _ next
           (explanation (run .verdict)) (takes-text (e .takes) (e .long)) (e .puts .ends ∙ zero-add _)
-          (ap (λ (k : ℕ). (k + next) % 2 ^ 64) (c .wrapping-add-usize .ensures) ∙ makes-up (l .written) (l .waiting) n out next (g .1)),
+          (ap (λ (k : ℕ). (k + next) % 2 ^ 64) (c .wrapping-add-usize .ensures) ∙ makes-up (l .written) (l .waiting) n out next (g .1)) (omega (arith, g .1)),
     )
 
 same-length-2 : tie.Need-same-length-2 Inv-loop μ-loop
@@ -117,7 +131,8 @@ returns-2 c =
     rw (c .block-done2 .ensures)
     (done-block (l .receiver) (c .before .write-waiting .result) (l .store) _ _ (l .written) (l .waiting) (min (l .waiting) (length (l .buffer))) (c .before .write-waiting .ensures) waits
     (reached-last block _ _ _ (l .taken) (l .inv .2) all)
-    (went-last everyExplanation block _ _ _ (l .taken) ((l .written + l .waiting) % 2 ^ 64) (l .inv .3) (no-lines _ _) all))
+    (went-last everyExplanation block _ _ _ (l .taken) ((l .written + l .waiting) % 2 ^ 64) (l .waiting) (l .inv .3) (no-lines _ _) all)
+    (waits-some everyExplanation block _ _ _ (l .taken) ((l .written + l .waiting) % 2 ^ 64) (l .waiting) (l .inv .3)))
 
 pub explain-block-spec : {M : Type 1} → statement M
 explain-block-spec =

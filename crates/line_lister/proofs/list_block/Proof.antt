@@ -14,7 +14,7 @@ use Rattle.ucp_receiver.specs.Octet.{State, stateOf}
 use Rattle.text_ucp_listing.specs.Lists.{lines, Lists, behindAll, everyLine}
 use Rattle.text_ucp_listing.proofs.Whole.{same-long}
 use Rattle.text_ucp_listing.proofs.Slices.{lists-within, lists-moves, lists-onward, lists-text}
-use Rattle.io_ucp.proofs.Blocks.{Reached, reached-first, reached-more, reached-last, WentOut, went-first, went-more, went-last}
+use Rattle.io_ucp.proofs.Blocks.{Reached, reached-first, reached-more, reached-last, WentOut, went-first, went-more, went-last, text-some}
 use borrow.Author.Needs.{needs}
 use Rattle.line_lister.proofs.list_block.Statement.{statement}
 use Rattle.line_lister.proofs.list_block.Tie as tie
@@ -23,7 +23,7 @@ abbrev Inv-loop : tie.InvT-loop
 Inv-loop store₀ room₀ block text₀ receiver₀ taken₀ written₀ store room text receiver taken written =
     (length text ≡ length text₀)
     × Reached block (behindAll (stateOf (receiver₀ .rest) store₀) (receiver₀ .counts) block) (stateOf (receiver .rest) store) (receiver .counts) taken
-    × WentOut everyLine block (everyLine (stateOf (receiver₀ .rest) store₀) (receiver₀ .counts) block) (stateOf (receiver .rest) store) (receiver .counts) taken written
+    × WentOut everyLine block (everyLine (stateOf (receiver₀ .rest) store₀) (receiver₀ .counts) block) (stateOf (receiver .rest) store) (receiver .counts) taken written 0
 
 abbrev μ-loop : tie.MeasureT-loop
 μ-loop store₀ room₀ block text₀ receiver₀ taken₀ written₀ store room text receiver taken written = length block - taken
@@ -67,7 +67,18 @@ same-length : tie.Need-same-length Inv-loop μ-loop
 same-length c = text-long (c .before .before .before .before .before .before .before .before .before)
 
 returns : tie.Need-returns Inv-loop μ-loop
-returns c = rw (c .block-done .ensures) (tt, tt)
+returns c =
+    let t = c .before .before .before .before .before .before .before .before .before in
+    let l = c .before .before .before .before .before .before .before .before .before .before .before .before .before .before .before .loop in
+    let block = now (c .before .before .before .before .before .before .before .before .before .before .before .before .before .before .before .before .before .before .args .block) in
+    let fails : 0 < min (t .list-some .result .written) (length (t .list-some .last .1 .1 .1 .1 .0)) = rw (c .before .enum-told .given .1) at (c .before .before .before .write-lines .ensures) in
+    let long = listed t .puts .ends ∙ zero-add _ in
+    rw (c .block-done .ensures) (
+      tt,
+      text-some everyLine block _ _ _ (l .taken) (l .written) 0 (l .inv .2)
+          (lines (stateOf (l .receiver .rest) (l .store)) (l .receiver .counts) (l .room) (drop (l .taken) block) (length (l .text)) .text) _
+          (lists-text (listed t)) (omega (arith, fails, long)),
+    )
 
 loop-less : tie.Need-loop-less Inv-loop μ-loop
 loop-less c = omega (arith, turn-within (c .before .before .before .before .before .before .before .before .before .before))
@@ -88,9 +99,9 @@ loop-again c =
     let block = now (t .before .before .before .before .before .before .before .before .before .args .block) in (
       text-long t,
       reached-more block _ _ _ (l .taken) (l .inv .1) _ _ (t .list-some .result .taken) (lists-within (listed t)) (lists-onward (listed t)),
-      went-more everyLine block _ _ _ (l .taken) (l .written) (l .inv .2) _ _ (t .list-some .result .taken) (c .before .before .output .given .0 .0) _
+      went-more everyLine block _ _ _ (l .taken) (l .written) 0 (l .inv .2) _ _ (t .list-some .result .taken) (c .before .before .output .given .0 .0) _ 0
           (lines (stateOf (l .receiver .rest) (l .store)) (l .receiver .counts) (l .room) (drop (l .taken) block) (length (l .text)) .text)
-          (lists-text (listed t)) (out-long (c .before .before) ∙ listed t .puts .ends ∙ zero-add _) (c .wrapping-add-usize .ensures),
+          (lists-text (listed t)) (out-long (c .before .before) ∙ listed t .puts .ends ∙ zero-add _) (c .wrapping-add-usize .ensures) (omega arith),
     )
 
 same-length-2 : tie.Need-same-length-2 Inv-loop μ-loop
@@ -101,7 +112,7 @@ returns-2 c =
     let block = now (c .before .before .before .before .before .args .block) in
     let l = c .before .before .loop in
     rw (c .block-done2 .ensures)
-    (reached-last block _ _ _ (l .taken) (l .inv .1) (c .before .loop-test .left), went-last everyLine block _ _ _ (l .taken) (l .written) (l .inv .2) (no-lines _ _) (c .before .loop-test .left))
+    (reached-last block _ _ _ (l .taken) (l .inv .1) (c .before .loop-test .left), went-last everyLine block _ _ _ (l .taken) (l .written) 0 (l .inv .2) (no-lines _ _) (c .before .loop-test .left))
 
 pub list-block-spec : {M : Type 1} → statement M
 list-block-spec =
