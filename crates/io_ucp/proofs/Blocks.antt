@@ -15,7 +15,7 @@ use Rattle.io_streams.specs.declared.Input.the-variants.{More}
 use Rattle.io_streams.specs.declared.Output.{Output}
 use Rattle.io_streams.specs.declared.Output.the-variants.{Wrote, Failed as WriteFailed}
 use Rattle.io_streams.specs.Gathering.{WritesWaiting}
-use Rattle.io_ucp.specs.Records.{Leaves, blockDone, WritesLines, LinesOf}
+use Rattle.io_ucp.specs.Records.{BehindSome, Leaves, blockDone, WritesLines, LinesOf}
 
 abbrev pub Reached : List ℕ → RecordBehind → State → Counts → ℕ → Type 0
 Reached block last s c taken = (taken ≤ length block) × (last ≡ behindAll s c (drop taken block))
@@ -30,11 +30,23 @@ module _ (block : List ℕ) where
     reached-more t d more within same =
         (omega (arith, length-drop taken block, r .0), r .1 ∙ same ∙ ap (behindAll t d) (drop-drop more taken block))
 
-    pub reached-last : length block ≤ taken → Leaves More s c last
+    pub reached-last : length block ≤ taken → Leaves More s c last block
     unfolding behindAll
     reached-last all =
         let end : last ≡ record { state = s; counts = c } = r .1 ∙ ap (behindAll s c) (drop-of-length-le block all) in
         (sym (ap (λ (b : RecordBehind). b .state) end), sym (ap (λ (b : RecordBehind). b .counts) end))
+
+    pub reached-some : BehindSome s c last block
+    reached-some = record { taken = taken; within = r .0; leads = r .1 }
+
+  pub behind-all : (s : State) (c : Counts) (b : RecordBehind) → Leaves More s c b block → BehindSome s c b block
+  unfolding behindAll
+  behind-all s c b l =
+      record {
+        taken = length block;
+        within = omega arith;
+        leads = rw (drop-of-length-le block {i = length block} (omega arith)) (λ i. record { state = sym (l .0) i; counts = sym (l .1) i });
+      }
 
 -- ---- what went out
 
@@ -84,11 +96,11 @@ module _ (every : LinesOf) (block : List ℕ) where
 
 -- ---- the end of a block: what waits goes out
 
-pub done-block : (receiver : Record) (output : Output) (store : List ℕ) (b : RecordBehind) (lines : List ℕ) (written waiting k : ℕ)
+pub done-block : (receiver : Record) (output : Output) (store block : List ℕ) (b : RecordBehind) (lines : List ℕ) (written waiting k : ℕ)
     → WritesWaiting written k output → k ≡ waiting
-    → Leaves More (stateOf (receiver .rest) store) (receiver .counts) b → WritesLines More ((written + waiting) % 2 ^ 64) lines
+    → Leaves More (stateOf (receiver .rest) store) (receiver .counts) b block → WritesLines More ((written + waiting) % 2 ^ 64) lines
     → (0 < waiting → 0 < length lines)
     → let d = blockDone receiver output in
-    Leaves (d .progress .input) (stateOf (d .progress .receiver .rest) store) (d .progress .receiver .counts) b × WritesLines (d .progress .input) (d .written) lines
-done-block receiver (Wrote n) store b lines written waiting k w e l o some = (l, w ∙ ap (λ (m : ℕ). (written + m) % 2 ^ 64) e ∙ o)
-done-block receiver WriteFailed store b lines written waiting k w e l o some = (tt, some (omega (arith, w, e)))
+    Leaves (d .progress .input) (stateOf (d .progress .receiver .rest) store) (d .progress .receiver .counts) b block × WritesLines (d .progress .input) (d .written) lines
+done-block receiver (Wrote n) store block b lines written waiting k w e l o some = (l, w ∙ ap (λ (m : ℕ). (written + m) % 2 ^ 64) e ∙ o)
+done-block receiver WriteFailed store block b lines written waiting k w e l o some = (behind-all block _ _ b l, some (omega (arith, w, e)))

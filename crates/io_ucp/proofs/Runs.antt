@@ -78,7 +78,7 @@ module _ (every : LinesOf) (onto : Onto every) (s : State) (c : Counts) where
         before = record { state = stateOf (receiver .rest) store; counts = receiver .counts }
 
         go : (i : Input)
-            → Leaves i (stateOf (given .receiver .rest) after) (given .receiver .counts) (behindAll (stateOf (receiver .rest) store) (receiver .counts) (take (turn .octets) block))
+            → Leaves i (stateOf (given .receiver .rest) after) (given .receiver .counts) (behindAll (stateOf (receiver .rest) store) (receiver .counts) (take (turn .octets) block)) (take (turn .octets) block)
             → WritesLines i (given .written) (every (stateOf (receiver .rest) store) (receiver .counts) (take (turn .octets) block))
             → BlockTurns i (turn .left) (length block) 0 (given .turn)
             → UnlessFailed (given .turn .input) (Passed every s c m n (record { state = stateOf (given .receiver .rest) after; counts = given .receiver .counts }))
@@ -99,22 +99,22 @@ module _ (every : LinesOf) (onto : Onto every) (s : State) (c : Counts) where
   run-ends Ended octets written b false before after p e h = absurd (true≢false (sym h))
   run-ends Failed octets written b whole before after p e h = absurd (true≢false (sym h ∙ e .0))
 
-leaves-as : (i : Input) (r t : Record) (after : List ℕ) (b : RecordBehind) → t ≡ r → Leaves i (stateOf (r .rest) after) (r .counts) b
-    → Leaves i (stateOf (t .rest) after) (t .counts) b
-leaves-as i r t after b e = subst (λ (u : Record). Leaves i (stateOf (u .rest) after) (u .counts) b) (sym e)
+leaves-as : (i : Input) (r t : Record) (after : List ℕ) (b : RecordBehind) (block : List ℕ) → t ≡ r
+    → Leaves i (stateOf (r .rest) after) (r .counts) b block → Leaves i (stateOf (t .rest) after) (t .counts) b block
+leaves-as i r t after b block e = subst (λ (u : Record). Leaves i (stateOf (u .rest) after) (u .counts) b block) (sym e)
 
 writes-as : (i : Input) (m n : ℕ) (lines : List ℕ) → n ≡ m → WritesLines i m lines → WritesLines i n lines
 writes-as i m n lines e = subst (λ (k : ℕ). WritesLines i k lines) (sym e)
 
 -- a turn by its block, and by what follows
 pub turn-works : (every : LinesOf) (receiver : Record) (store block : List ℕ) (turn : Turn) (done : BlockDone) (after : List ℕ) (given : TurnDone)
-    → Leaves (done .progress .input) (stateOf (done .progress .receiver .rest) after) (done .progress .receiver .counts) (behindAll (stateOf (receiver .rest) store) (receiver .counts) (take (turn .octets) block))
+    → Leaves (done .progress .input) (stateOf (done .progress .receiver .rest) after) (done .progress .receiver .counts) (behindAll (stateOf (receiver .rest) store) (receiver .counts) (take (turn .octets) block)) (take (turn .octets) block)
     → WritesLines (done .progress .input) (done .written) (every (stateOf (receiver .rest) store) (receiver .counts) (take (turn .octets) block))
     → Follows done (turn .left) (length block) given → WorksTurn every receiver store block turn given after
 turn-works every receiver store block turn done after given l w f =
     record {
       input = done .progress .input;
-      leaves = leaves-as (done .progress .input) (done .progress .receiver) (given .receiver) after _ (f .receiver) l;
+      leaves = leaves-as (done .progress .input) (done .progress .receiver) (given .receiver) after _ _ (f .receiver) l;
       writes = writes-as (done .progress .input) (done .written) (given .written) _ (f .written) w;
       follows = f .follows;
     }

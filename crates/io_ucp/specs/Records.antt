@@ -2,8 +2,8 @@
 use mathlib.Core.Path.{_≡_}
 use mathlib.Core.Bool.{Bool, true, false}
 use mathlib.Core.List.{List}
-use Prim.Native.Nat.{ℕ, _%_, _^_, _<_}
-use lib.ListN.{length, take}
+use Prim.Native.Nat.{ℕ, _%_, _^_, _<_, _≤_}
+use lib.ListN.{length, take, drop}
 use Rattle.ucp_receiver.specs.declared.Counts.{Counts}
 use Rattle.ucp_receiver.specs.declared.Record.{Record}
 use Rattle.ucp_receiver.specs.Octet.{State, stateOf}
@@ -19,11 +19,17 @@ use Rattle.io_ucp.specs.declared.BlockDone.{BlockDone}
 use Rattle.io_ucp.specs.declared.TurnDone.{TurnDone}
 use Rattle.io_ucp.specs.declared.Run.{Run}
 
--- the input goes on: the record is the one behind the whole block. It does not end in a block; a write may have failed
-abbrev pub Leaves : Input → State → Counts → RecordBehind → Type 0
-Leaves More s c b = (s ≡ b .state) × (c ≡ b .counts)
-Leaves Ended s c b = ⊥
-Leaves Failed s c b = Unit {0}
+-- a record behind some of a block's octets: those that are left lead to the record behind the block
+pub record BehindSome (s : State) (c : Counts) (b : RecordBehind) (block : List ℕ) : Type 0 where
+  pub taken : ℕ
+  pub within : taken ≤ length block
+  pub leads : b ≡ behindAll s c (drop taken block)
+
+-- the input goes on: the record is the one behind the whole block. It does not end in a block. Where a write failed, behind some of it
+abbrev pub Leaves : Input → State → Counts → RecordBehind → List ℕ → Type 0
+Leaves More s c b block = (s ≡ b .state) × (c ≡ b .counts)
+Leaves Ended s c b block = ⊥
+Leaves Failed s c b block = BehindSome s c b block
 
 -- the closing line stands at the start of the text, up to this place, as `text_ucp_listing::put_closing` puts it; it is written where
 -- there was no room for it, and so nothing to write
@@ -67,7 +73,7 @@ LinesOf = State → Counts → List ℕ → List ℕ
 -- what that came to
 pub record WorksTurn (every : LinesOf) (receiver : Record) (store block : List ℕ) (turn : Turn) (given : TurnDone) (storeAfter : List ℕ) : Type 0 where
   pub input : Input
-  pub leaves : Leaves input (stateOf (given .receiver .rest) storeAfter) (given .receiver .counts) (behindAll (stateOf (receiver .rest) store) (receiver .counts) (take (turn .octets) block))
+  pub leaves : Leaves input (stateOf (given .receiver .rest) storeAfter) (given .receiver .counts) (behindAll (stateOf (receiver .rest) store) (receiver .counts) (take (turn .octets) block)) (take (turn .octets) block)
   pub writes : WritesLines input (given .written) (every (stateOf (receiver .rest) store) (receiver .counts) (take (turn .octets) block))
   pub follows : BlockTurns input (turn .left) (length block) 0 (given .turn)
 

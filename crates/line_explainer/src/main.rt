@@ -37,7 +37,7 @@ fn explain_block(
     buffer: &mut [u8],
 ) -> BlockDone
     requires { ⌜ textRoom ≤ length (now buffer) ⌝ }
-    ensures { λ r. ⌜ Leaves (r .progress .input) (stateOf (r .progress .receiver .rest) (now (store .exit))) (r .progress .receiver .counts) (behindAll (stateOf (receiver .rest) (now (store .entry))) (receiver .counts) (now (block .entry))) ⌝ }
+    ensures { λ r. ⌜ Leaves (r .progress .input) (stateOf (r .progress .receiver .rest) (now (store .exit))) (r .progress .receiver .counts) (behindAll (stateOf (receiver .rest) (now (store .entry))) (receiver .counts) (now (block .entry))) (now (block .entry)) ⌝ }
     ensures { λ r. ⌜ WritesLines (r .progress .input) (r .written) (everyExplanation (stateOf (receiver .rest) (now (store .entry))) (receiver .counts) (now (block .entry))) ⌝ }
 {
     let mut receiver = receiver;

@@ -33,7 +33,7 @@ fn list_block(
     text: &mut [u8],
 ) -> BlockDone
     requires { ⌜ longestLine ≤ length (now text) ⌝ }
-    ensures { λ r. ⌜ Leaves (r .progress .input) (stateOf (r .progress .receiver .rest) (now (store .exit))) (r .progress .receiver .counts) (behindAll (stateOf (receiver .rest) (now (store .entry))) (receiver .counts) (now (block .entry))) ⌝ }
+    ensures { λ r. ⌜ Leaves (r .progress .input) (stateOf (r .progress .receiver .rest) (now (store .exit))) (r .progress .receiver .counts) (behindAll (stateOf (receiver .rest) (now (store .entry))) (receiver .counts) (now (block .entry))) (now (block .entry)) ⌝ }
     ensures { λ r. ⌜ WritesLines (r .progress .input) (r .written) (everyLine (stateOf (receiver .rest) (now (store .entry))) (receiver .counts) (now (block .entry))) ⌝ }
 {
     let mut receiver = receiver;

@@ -25,7 +25,7 @@ pub record BlockCall : Type 0 where
 abbrev pub BlockRuns : Record → List ℕ → List BlockCall → Type 0
 BlockRuns receiver store [] = Unit
 BlockRuns receiver store (b ∷ bs) =
-    Leaves More (stateOf (b .receiver .rest) (b .storeAfter)) (b .receiver .counts) (behindAll (stateOf (receiver .rest) store) (receiver .counts) (b .block))
+    Leaves More (stateOf (b .receiver .rest) (b .storeAfter)) (b .receiver .counts) (behindAll (stateOf (receiver .rest) store) (receiver .counts) (b .block)) (b .block)
     × WritesLines More (b .written) (everyLine (stateOf (receiver .rest) store) (receiver .counts) (b .block))
     × BlockRuns (b .receiver) (b .storeAfter) bs
 

@@ -19,7 +19,7 @@ use Rattle.text_ucp_explanation.specs.Explanation.{explanation, everyExplanatio
 use Rattle.text_ucp_explanation.specs.Calls.{ExplainsAnswer}
 use Rattle.text_ucp_explanation.proofs.Continuation.{takes-onward, takes-text}
 use Rattle.io_streams.proofs.Gathering.{gathered-line, makes-up}
-use Rattle.io_ucp.proofs.Blocks.{Reached, reached-first, reached-more, reached-last, WentOut, went-first, went-more, went-last, waits-some, text-some, done-block}
+use Rattle.io_ucp.proofs.Blocks.{Reached, reached-first, reached-more, reached-last, reached-some, WentOut, went-first, went-more, went-last, waits-some, text-some, done-block}
 use borrow.Author.Needs.{needs}
 use Rattle.line_explainer.proofs.explain_block.Statement.{statement}
 use Rattle.line_explainer.proofs.explain_block.Tie as tie
@@ -81,7 +81,7 @@ returns c =
     let taken = length-take (min n (length (l .buffer))) (t .explain-next .last .1 .1 .1 .1 .0) in
     let long = e .puts .ends ∙ zero-add _ in
     rw (c .block-done .ensures) (
-      tt,
+      reached-some block _ _ _ _ (reached-more block _ _ _ (l .taken) (l .inv .2) _ _ (t .explain-next .result .taken .taken) (takes-within (e .takes) .0) (takes-onward (e .takes) (e .long))),
       text-some everyExplanation block _ _ _ (l .taken) ((l .written + l .waiting) % 2 ^ 64) (l .waiting) (l .inv .3)
           (explanation (run .verdict)) _ (takes-text (e .takes) (e .long)) (omega (arith, fails .0, taken, long, l .inv .1)),
     )
@@ -129,7 +129,7 @@ returns-2 c =
     let all = c .before .before .before .loop-test .left in
     let waits : min (l .waiting) (length (l .buffer)) ≡ l .waiting = omega (arith, l .inv .1) in
     rw (c .block-done2 .ensures)
-    (done-block (l .receiver) (c .before .write-waiting .result) (l .store) _ _ (l .written) (l .waiting) (min (l .waiting) (length (l .buffer))) (c .before .write-waiting .ensures) waits
+    (done-block (l .receiver) (c .before .write-waiting .result) (l .store) block _ _ (l .written) (l .waiting) (min (l .waiting) (length (l .buffer))) (c .before .write-waiting .ensures) waits
     (reached-last block _ _ _ (l .taken) (l .inv .2) all)
     (went-last everyExplanation block _ _ _ (l .taken) ((l .written + l .waiting) % 2 ^ 64) (l .waiting) (l .inv .3) (no-lines _ _) all)
     (waits-some everyExplanation block _ _ _ (l .taken) ((l .written + l .waiting) % 2 ^ 64) (l .waiting) (l .inv .3)))

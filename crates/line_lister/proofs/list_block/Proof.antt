@@ -14,7 +14,7 @@ use Rattle.ucp_receiver.specs.Octet.{State, stateOf}
 use Rattle.text_ucp_listing.specs.Lists.{lines, Lists, behindAll, everyLine}
 use Rattle.text_ucp_listing.proofs.Whole.{same-long}
 use Rattle.text_ucp_listing.proofs.Slices.{lists-within, lists-moves, lists-onward, lists-text}
-use Rattle.io_ucp.proofs.Blocks.{Reached, reached-first, reached-more, reached-last, WentOut, went-first, went-more, went-last, text-some}
+use Rattle.io_ucp.proofs.Blocks.{Reached, reached-first, reached-more, reached-last, reached-some, WentOut, went-first, went-more, went-last, text-some}
 use borrow.Author.Needs.{needs}
 use Rattle.line_lister.proofs.list_block.Statement.{statement}
 use Rattle.line_lister.proofs.list_block.Tie as tie
@@ -74,7 +74,7 @@ returns c =
     let fails : 0 < min (t .list-some .result .written) (length (t .list-some .last .1 .1 .1 .1 .0)) = rw (c .before .enum-told .given .1) at (c .before .before .before .write-lines .ensures) in
     let long = listed t .puts .ends ∙ zero-add _ in
     rw (c .block-done .ensures) (
-      tt,
+      reached-some block _ _ _ _ (reached-more block _ _ _ (l .taken) (l .inv .1) _ _ (t .list-some .result .taken) (lists-within (listed t)) (lists-onward (listed t))),
       text-some everyLine block _ _ _ (l .taken) (l .written) 0 (l .inv .2)
           (lines (stateOf (l .receiver .rest) (l .store)) (l .receiver .counts) (l .room) (drop (l .taken) block) (length (l .text)) .text) _
           (lists-text (listed t)) (omega (arith, fails, long)),
