@@ -9,7 +9,7 @@ use Rattle.io_streams.specs.declared.Input.the-variants.{More, Ended, Failed}
 use Rattle.io_streams.specs.declared.Output.{Output}
 use Rattle.io_streams.specs.declared.Output.the-variants.{Wrote, Failed as WriteFailed}
 use Rattle.io_streams.specs.declared.Turn.{Turn}
-use Rattle.io_streams.specs.Turns.{BlockTurns, hasEnded, UnlessFailed}
+use Rattle.io_streams.specs.Turns.{ReadsBlock, BlockTurns, hasEnded, UnlessFailed}
 use Rattle.mavlink_explainer.specs.declared.Progress.{Progress}
 use Rattle.mavlink_explainer.specs.declared.TurnDone.{TurnDone}
 use Rattle.mavlink_messages.specs.Messages.{readDue}
@@ -84,3 +84,24 @@ pub record WorksFrames (frames bytes : ℕ) (before : List ℕ) (turn : Turn) (g
 pub record FramesClosed (frames bytes : ℕ) (before after : List ℕ) : Type 0 where
   pub written : ℕ
   pub line : WholeLine before (framesLine frames bytes) written after
+
+-- ---- a run
+
+-- turns one after the other, from a first read and from nothing explained on: the counts, the block and the turn that they come to
+pub data FramesRun : ℕ → ℕ → List ℕ → Turn → Type 0 where
+  first : {block : List ℕ} {turn : Turn} → ReadsBlock (turn .input) 18446744073709551615 (length block) 0 turn → FramesRun 0 0 block turn
+  later : {frames bytes : ℕ} {before : List ℕ} {turn : Turn} {given : TurnDone} {after : List ℕ} → FramesRun frames bytes before turn
+      → 0 < turn .left → WorksFrames frames bytes before turn given after
+      → FramesRun (given .progress .frames) (given .progress .bytes) after (given .turn)
+
+-- a run, whole: no turn is left, and where the input has ended the closing line in the text has the run's counts; else it says no
+pub record RunsFrames (whole : Bool) (after : List ℕ) : Type 0 where
+  pub frames : ℕ
+  pub bytes : ℕ
+  pub block : List ℕ
+  pub turn : Turn
+  pub before : List ℕ
+  pub runs : FramesRun frames bytes block turn
+  pub none : turn .left ≡ 0
+  pub closes : hasEnded (turn .input) ≡ true → FramesClosed frames bytes before after
+  pub unfinished : hasEnded (turn .input) ≡ false → whole ≡ false

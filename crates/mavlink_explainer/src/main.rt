@@ -2,7 +2,7 @@
 // a line for each frame that says what it means. It closes with how many frames were explained and the octets that they used.
 // `text_mavlink_explanation` has the text, `io_streams` the reading and the writing. What the frames of one block are is proved
 // (`Explores`), that as many octets went out as their lines have, and of a turn that the octets behind its frames are carried over
-// and read on behind (`WorksFrames`); that a run hands counts and block on from turn to turn is its text, and tested.
+// and read on behind (`WorksFrames`); a run is such turns, one after the other, and its closing line has their counts (`RunsFrames`).
 //
 // Lines wait in a buffer, and go out where the next one does not fit, and at the end of every block that a read brought.
 //
@@ -22,7 +22,7 @@ ghost use Rattle.io_streams.specs.declared.Input.the-variants.{More, Ended, Fai
 ghost use Rattle.io_streams.specs.Blocks.{Zeroed};
 ghost use Rattle.text_output.specs.Clips.{textRoom};
 ghost use Rattle.text_mavlink_explanation.specs.Decided.{frameRoom};
-ghost use Rattle.mavlink_explainer.specs.Blocks.{inputOf, octetsOut, explains, Explores, WorksFrames, FramesClosed};
+ghost use Rattle.mavlink_explainer.specs.Blocks.{inputOf, octetsOut, explains, Explores, WorksFrames, FramesClosed, RunsFrames};
 
 // How far the frames are explained: how many, the octets that they used, and how many octets behind them are left of the block.
 // The input has ended where it is at its end or a frame was refused. So many octets of text went out for the block, modulo
@@ -189,6 +189,7 @@ fn explain_turn(
 // Explains all of the input, and answers whether it came to its end or to a refused frame, and all was written.
 fn explain_input(block: &mut [u8], text: &mut TextRoom, buffer: &mut [u8]) -> bool
     requires { ⌜ textRoom ≤ length (now buffer) ⌝ }
+    ensures { λ r. ⌜ RunsFrames r (now (text .exit)) ⌝ }
 {
     let mut frames: u64 = 0;
     let mut bytes: u64 = 0;
@@ -201,10 +202,10 @@ fn explain_input(block: &mut [u8], text: &mut TextRoom, buffer: &mut [u8]) -> bo
         turn = done.turn;
     }
     let input = turn.input;
-    if !io_streams::has_ended(input) {
-        return false;
+    if io_streams::has_ended(input) {
+        return write_closing(text, frames, bytes);
     }
-    write_closing(text, frames, bytes)
+    false
 }
 
 // Frames, and what they say, passed through all of these. What was carried over stood in the block.
