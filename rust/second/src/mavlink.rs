@@ -21,8 +21,8 @@ const CHECK: usize = 2;
 /// significant bit of an octet first.
 const X25: u16 = 0x8408;
 
-/// What stands for no squawk in a traffic report (document 01, MAVLink kinds;
-/// document 001, Traffic Report Message).
+/// What stands for no squawk in a traffic report, and in no other kind
+/// (document 01, MAVLink kinds; document 001, Traffic Report Message).
 const NO_SQUAWK: u16 = 65_535;
 
 /// A frame that was read (document 01, the paragraph below the refusal table).
@@ -122,7 +122,7 @@ pub struct Dynamic {
     pub east_velocity: i16,
     /// State flags.
     pub state: u16,
-    /// Squawk, 0 to 7777 (document 01, MAVLink kinds).
+    /// Squawk, four octal digits sent as a decimal number (document 02, c).
     pub squawk: u16,
     /// Fix type, 0 to 5 (document 01, MAVLink kinds).
     pub fix: u8,
@@ -160,7 +160,8 @@ pub struct Traffic {
     pub vertical_velocity: i16,
     /// Flags of the fields that are valid.
     pub valid: u16,
-    /// Squawk, 0 to 7777 or 65535 (document 01, MAVLink kinds).
+    /// Squawk, four octal digits sent as a decimal number, or 65535 (document
+    /// 02, c).
     pub squawk: u16,
     /// Altitude type.
     pub altitude_type: u8,

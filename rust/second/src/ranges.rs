@@ -1,5 +1,5 @@
 //! The ranges of fields, one rule for all kinds that share it (document 01,
-//! Message kinds on the UCP line and MAVLink kinds).
+//! Message kinds on the UCP line and MAVLink kinds; document 02, c).
 
 /// Whether an unsigned number fits in this many bits, fewer than 32.
 pub(crate) fn fits(number: impl Into<u32>, width: u32) -> bool {
@@ -12,9 +12,11 @@ pub(crate) fn fits_signed(number: impl Into<i32>, width: u32) -> bool {
     (-end..end).contains(&number.into())
 }
 
-/// Squawks of 45, 202 and 246.
+/// Squawks of 45, 202 and 246: four octal digits sent as a decimal number, so
+/// at most four decimal digits, and each of them 0 to 7 (document 02, c).
 pub(crate) fn squawk(number: u16) -> bool {
-    number <= 7777
+    let digits = number.to_string();
+    digits.len() <= 4 && digits.bytes().all(|digit| matches!(digit, b'0'..=b'7'))
 }
 
 /// Emitters of 117 and 201.

@@ -1,6 +1,9 @@
 //! MAVLink frames: document 001's packets, vectors worked out by hand, every
 //! refusal and many random values.
 
+mod codes;
+
+use codes::{by_hand, code, codes};
 use second::mavlink::{
     read, write, x25, Dynamic, Frame, Message, RequestDataStream, Static, Status, Traffic, START,
 };
@@ -60,6 +63,11 @@ impl Random {
         std::array::from_fn(|_| letters[self.below(37) as usize])
     }
 
+    /// Four octal digits, sent as a decimal number.
+    fn code(&mut self) -> u16 {
+        code(std::array::from_fn(|_| self.below(8)))
+    }
+
     fn request(&mut self) -> RequestDataStream {
         RequestDataStream {
             rate: self.next() as u16,
@@ -98,7 +106,7 @@ impl Random {
             north_velocity: self.next() as i16,
             east_velocity: self.next() as i16,
             state: self.next() as u16,
-            squawk: self.below(7778) as u16,
+            squawk: self.code(),
             fix: self.octet(6),
             satellites: self.octet(256),
             emergency: self.octet(256),
@@ -116,9 +124,9 @@ impl Random {
             horizontal_velocity: self.next() as u16,
             vertical_velocity: self.next() as i16,
             valid: self.next() as u16,
-            squawk: match self.below(7779) as u16 {
-                7778 => 65_535,
-                squawk => squawk,
+            squawk: match self.below(8) {
+                0 => 65_535,
+                _ => self.code(),
             },
             altitude_type: self.octet(256),
             callsign: std::array::from_fn(|_| self.octet(256)),
@@ -235,7 +243,7 @@ fn framed(header: [u8; 3], id: u8, payload: &[u8]) -> Vec<u8> {
     frame
 }
 
-/// A payload with one octet changed.
+/// A payload or frame with one octet changed.
 fn changed(payload: &[u8], place: usize, octet: u8) -> Vec<u8> {
     let mut payload = payload.to_vec();
     payload[place] = octet;
@@ -265,8 +273,8 @@ fn assert_25(message: &Message, place: &str) {
     assert_eq!(write(1, 2, 3, message, &mut []), Err(25), "{place}");
 }
 
-/// Asserts that a payload is refused with 25, or carries this message both
-/// ways.
+/// Asserts that a payload is refused with 25, and with 24 behind a wrong check,
+/// or carries this message both ways.
 fn assert_payload(id: u8, payload: &[u8], message: &Message, right: bool) {
     let header = [0x11, 0x22, 0x33];
     let frame = framed(header, id, payload);
@@ -277,6 +285,9 @@ fn assert_payload(id: u8, payload: &[u8], message: &Message, right: bool) {
     } else {
         assert_eq!(read(&frame), Err(25), "payload {payload:02X?}");
         assert_25(message, "a field outside its range");
+        let last = frame.len() - 1;
+        let wrong = changed(&frame, last, !frame[last]);
+        assert_eq!(read(&wrong), Err(24), "payload {payload:02X?}");
     }
 }
 
@@ -532,26 +543,46 @@ fn check_takes_in_the_extra_octet_of_its_kind() {
 }
 
 #[test]
-fn squawks_of_202_and_246_have_ranges() {
-    let dynamic = payload(DYNAMIC_PACKET);
-    let traffic = traffic_payload();
+fn squawks_of_202_and_246_are_four_octal_digits() {
+    let codes = codes();
+    assert_eq!(codes.len(), 4096);
     for squawk in 0..=u16::MAX {
-        let [low, high] = squawk.to_le_bytes();
-        let message = Message::Dynamic(Dynamic {
-            squawk,
-            ..dynamic_message()
-        });
-        let payload = changed(&changed(&dynamic, 36, low), 37, high);
-        assert_payload(202, &payload, &message, squawk <= 7777);
-
-        let message = Message::Traffic(Traffic {
-            squawk,
-            ..traffic_message()
-        });
-        let payload = changed(&changed(&traffic, 24, low), 25, high);
-        let right = squawk <= 7777 || squawk == 65_535;
-        assert_payload(246, &payload, &message, right);
+        let right = codes.contains(&squawk);
+        assert_dynamic_squawk(squawk, right);
+        assert_traffic_squawk(squawk, right || squawk == 65_535);
     }
+}
+
+#[test]
+fn squawks_of_202_and_246_by_hand() {
+    for (squawk, right) in by_hand() {
+        assert_dynamic_squawk(squawk, right);
+        assert_traffic_squawk(squawk, right);
+    }
+    assert_dynamic_squawk(65_535, false);
+    assert_traffic_squawk(65_535, true);
+}
+
+/// Asserts how 202 has a squawk.
+fn assert_dynamic_squawk(squawk: u16, right: bool) {
+    let [low, high] = squawk.to_le_bytes();
+    let payload = changed(&changed(&payload(DYNAMIC_PACKET), 36, low), 37, high);
+    let message = Message::Dynamic(Dynamic {
+        squawk,
+        ..dynamic_message()
+    });
+    assert_payload(202, &payload, &message, right);
+}
+
+/// Asserts how 246 has a squawk.
+fn assert_traffic_squawk(squawk: u16, right: bool) {
+    let [low, high] = squawk.to_le_bytes();
+    let payload = changed(&changed(&traffic_payload(), 24, low), 25, high);
+    let message = Message::Traffic(Traffic {
+        squawk,
+        ..traffic_message()
+    });
+    assert_payload(246, &payload, &message, right);
 }
 
 #[test]

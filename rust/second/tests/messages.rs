@@ -1,6 +1,9 @@
 //! The message kinds of the UCP line, on vectors worked out by hand, at the
 //! edges of their ranges and on many random values.
 
+mod codes;
+
+use codes::{by_hand, code, codes};
 use second::messages::{
     altitude_feet, degrees, geometric_altitude_feet, read, vertical_rate_feet_per_minute, write,
     Control, GeometricAltitude, Heartbeat, Initialization, Message, Report, Request, Uplink,
@@ -110,7 +113,7 @@ impl Random {
             air_ground: self.octet(4),
             barometer_checked: self.octet(2),
             pressure_altitude: self.next() as i32,
-            squawk: self.below(7778) as u16,
+            squawk: code(std::array::from_fn(|_| self.below(8))),
             emergency: self.octet(256),
             flight_identity: self.flight_identity(),
         }
@@ -428,8 +431,8 @@ fn refusals_come_in_their_order() {
     assert_eq!(read(&[0x2E]), Err(10));
     // Version 1 of the request has two octets.
     assert_eq!(read(&[0x2C, 0x01]), Err(11));
-    // Too long, wrong version, squawk out of range.
-    let control = changed(&changed(&CONTROL, 8, 0xFF), 1, 2);
+    // Too long, wrong version, squawk 1280.
+    let control = changed(&changed_squawk(1280), 1, 2);
     assert_eq!(read(&[&control[..], &[0x20]].concat()), Err(11));
     assert_eq!(read(&control), Err(12));
     assert_eq!(read(&changed(&control, 1, 1)), Err(13));
@@ -441,21 +444,43 @@ fn refusals_come_in_their_order() {
 }
 
 #[test]
-fn squawk_runs_from_0_to_7777() {
+fn squawks_are_four_octal_digits() {
+    let codes = codes();
+    assert_eq!(codes.len(), 4096);
     for squawk in 0..=u16::MAX {
-        let [low, high] = squawk.to_le_bytes();
-        let body = changed(&changed(&CONTROL, 7, low), 8, high);
-        let message = Message::Control(Control {
-            squawk,
-            ..control()
-        });
-        if squawk <= 7777 {
-            assert_eq!(read(&body), Ok(message.clone()));
-            assert_eq!(written(&message), body);
-        } else {
-            assert_eq!(read(&body), Err(13), "squawk {squawk}");
-            assert_13(&message, "squawk");
-        }
+        assert_squawk(squawk, codes.contains(&squawk));
+    }
+}
+
+#[test]
+fn squawks_by_hand() {
+    for (squawk, right) in by_hand() {
+        assert_squawk(squawk, right);
+    }
+    // It stands for no squawk in 246 alone.
+    assert_squawk(65_535, false);
+}
+
+/// The control message with another squawk.
+fn changed_squawk(squawk: u16) -> Vec<u8> {
+    let [low, high] = squawk.to_le_bytes();
+    changed(&changed(&CONTROL, 7, low), 8, high)
+}
+
+/// Asserts how a squawk is read and written; a wrong version is found first.
+fn assert_squawk(squawk: u16, right: bool) {
+    let body = changed_squawk(squawk);
+    let message = Message::Control(Control {
+        squawk,
+        ..control()
+    });
+    if right {
+        assert_eq!(read(&body), Ok(message.clone()));
+        assert_eq!(written(&message), body);
+    } else {
+        assert_eq!(read(&changed(&body, 1, 2)), Err(12));
+        assert_eq!(read(&body), Err(13), "squawk {squawk}");
+        assert_13(&message, "squawk");
     }
 }
 

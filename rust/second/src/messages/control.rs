@@ -23,7 +23,7 @@ pub struct Control {
     pub barometer_checked: u8,
     /// External barometric pressure altitude.
     pub pressure_altitude: i32,
-    /// Squawk, 0 to 7777 (document 01, Message kinds on the UCP line).
+    /// Squawk, four octal digits sent as a decimal number (document 02, c).
     pub squawk: u16,
     /// Emergency state.
     pub emergency: u8,
