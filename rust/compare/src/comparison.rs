@@ -86,6 +86,11 @@ impl Comparison {
         }
     }
 
+    /// How many inputs got this answer.
+    pub fn met(&self, answer: &str) -> u64 {
+        self.answers.tried(answer)
+    }
+
     /// Prints the counts, and fails where an input differed, where fewer than
     /// `least` were tried in all or of one of `kinds`, or where an answer that
     /// is due was never met, for then nothing was shown of it.
@@ -97,8 +102,7 @@ impl Comparison {
             assert!(tried >= least, "{title}: only {tried} of {kind}");
         }
         for answer in due {
-            let met = self.answers.tried(answer) > 0;
-            assert!(met, "{title}: never {answer}");
+            assert!(self.met(answer) > 0, "{title}: never {answer}");
         }
     }
 

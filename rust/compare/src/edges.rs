@@ -1,17 +1,32 @@
 //! The numbers at which a field's answer changes.
 
 use crate::generator::Generator;
+use crate::squawks;
 
 /// The numbers that a field takes, within those that its type holds.
 #[derive(Clone, Copy, Debug)]
 pub struct Edges {
-    first: i64,
-    last: i64,
+    takes: Takes,
     least: i64,
     most: i64,
 }
 
+#[derive(Clone, Copy, Debug)]
+enum Takes {
+    /// All numbers from the first to the last.
+    Range(i64, i64),
+    /// Squawks alone.
+    Squawks,
+}
+
 impl Edges {
+    /// A squawk, in an unsigned type of 16 bits.
+    pub const SQUAWK: Self = Self {
+        takes: Takes::Squawks,
+        least: 0,
+        most: 65_535,
+    };
+
     /// An unsigned field of so many bits, in a type of so many.
     pub const fn unsigned(bits: u32, of: u32) -> Self {
         Self::up_to((1 << bits) - 1, of)
@@ -20,8 +35,7 @@ impl Edges {
     /// A field in two's complement of so many bits, in a type of so many.
     pub const fn signed(bits: u32, of: u32) -> Self {
         Self {
-            first: -1 << (bits - 1),
-            last: (1 << (bits - 1)) - 1,
+            takes: Takes::Range(-1 << (bits - 1), (1 << (bits - 1)) - 1),
             least: -1 << (of - 1),
             most: (1 << (of - 1)) - 1,
         }
@@ -30,20 +44,24 @@ impl Edges {
     /// A field from 0 to `last`, in an unsigned type of so many bits.
     pub const fn up_to(last: i64, of: u32) -> Self {
         Self {
-            first: 0,
-            last,
+            takes: Takes::Range(0, last),
             least: 0,
             most: (1 << of) - 1,
         }
     }
 
-    /// The ends of both ranges, one off them, and every power of two with one
-    /// off it: so each bit that a field lacks is tried alone.
+    /// The edges of what the field takes and of what the type holds, one off
+    /// them, and every power of two with one off it: so each bit that a field
+    /// lacks is tried alone.
     pub fn values(self) -> Vec<i64> {
+        let taken = match self.takes {
+            Takes::Range(first, last) => vec![first, last],
+            Takes::Squawks => squawks::edges(),
+        };
         let powers = (0..33).flat_map(|bit| [1 << bit, -1 << bit]);
-        let ends = [self.first, self.last, self.least, self.most];
         let mut values: Vec<_> = powers
-            .chain(ends)
+            .chain(taken)
+            .chain([self.least, self.most])
             .flat_map(|edge| [edge - 1, edge, edge + 1])
             .filter(|value| (self.least..=self.most).contains(value))
             .collect();
@@ -54,12 +72,18 @@ impl Edges {
 
     /// A number that the field takes.
     pub fn within(self, generator: &mut Generator) -> i64 {
-        between(self.first, self.last, generator)
+        match self.takes {
+            Takes::Range(first, last) => between(first, last, generator),
+            Takes::Squawks => squawks::code(generator),
+        }
     }
 
     /// A number that the type holds.
     pub fn wild(self, generator: &mut Generator) -> i64 {
-        between(self.least, self.most, generator)
+        match self.takes {
+            Takes::Range(..) => between(self.least, self.most, generator),
+            Takes::Squawks => squawks::wild(generator),
+        }
     }
 }
 
@@ -97,15 +121,28 @@ mod tests {
 
     #[test]
     fn values_hold_both_ends_and_one_off_them() {
-        let squawks = Edges::up_to(7777, 16).values();
-        for squawk in [0, 7776, 7777, 7778, 65_534, 65_535] {
-            assert!(squawks.contains(&squawk));
+        let fixes = Edges::up_to(5, 8).values();
+        for fix in [0, 1, 4, 5, 6, 254, 255] {
+            assert!(fixes.contains(&fix));
         }
-        assert!(!squawks.contains(&-1) && !squawks.contains(&65_536));
+        assert!(!fixes.contains(&-1) && !fixes.contains(&256));
         let rates = Edges::signed(12, 16).values();
         for rate in [-32_768, -2049, -2048, 2047, 2048, 4096, 32_767] {
             assert!(rates.contains(&rate));
         }
         assert_eq!(Edges::unsigned(1, 1).values(), [0, 1]);
+    }
+
+    #[test]
+    fn values_of_a_squawk_hold_the_edges_of_every_digit() {
+        let squawks = Edges::SQUAWK.values();
+        let alone = [7, 8, 9, 10, 70, 80, 90, 100, 700, 800, 900, 1000, 7000];
+        let between = [7778, 7779, 7787, 7797, 7877, 7977, 8777, 9777];
+        let behind = [7777, 7780, 7790, 7800, 7900, 8000, 9000];
+        let others = [0, 1280, 9999, 10_000, 65_534, 65_535];
+        for squawk in [&alone[..], &between, &behind, &others].concat() {
+            assert!(squawks.contains(&squawk), "{squawk}");
+        }
+        assert!(!squawks.contains(&-1) && !squawks.contains(&65_536));
     }
 }

@@ -20,5 +20,6 @@ pub mod mavlink_sides;
 pub mod messages;
 pub mod programs;
 pub mod rooms;
+pub mod squawks;
 pub mod tally;
 pub mod texts;

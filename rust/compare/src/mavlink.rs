@@ -54,6 +54,9 @@ impl Kind {
         }
     }
 
+    /// The kinds that have a squawk.
+    pub const WITH_SQUAWK: [Self; 2] = [Self::Dynamic, Self::Traffic];
+
     /// The names of all kinds.
     pub fn names() -> [&'static str; 5] {
         Self::ALL.map(Self::name)
@@ -145,6 +148,33 @@ impl Kind {
         message
     }
 
+    /// A message that is right but perhaps for this squawk, and its frame with a
+    /// right check.
+    pub fn with_squawk(
+        self,
+        squawk: u16,
+        header: Header,
+        generator: &mut Generator,
+    ) -> (Message, Vec<u8>) {
+        let mut message = self.message(generator);
+        let mut frame = frame_of(header, &message);
+        match &mut message {
+            Message::Dynamic(of) => of.squawk = squawk,
+            Message::Traffic(of) => of.squawk = squawk,
+            _ => unreachable!("a kind without a squawk"),
+        }
+        self.put_squawk(&mut frame, squawk);
+        self.seal(&mut frame);
+        (message, frame)
+    }
+
+    /// Puts a squawk in a frame, if the kind has one.
+    pub fn put_squawk(self, frame: &mut [u8], squawk: u16) {
+        if let Some(place) = self.squawk_place() {
+            frame[place..place + 2].copy_from_slice(&squawk.to_le_bytes());
+        }
+    }
+
     /// The text of the kind, if it has one.
     pub const fn text(self) -> Option<&'static TextField<Message>> {
         match self {
@@ -166,7 +196,7 @@ impl Kind {
     }
 
     /// Where the squawk begins in the frame, if the kind has one.
-    pub const fn squawk_place(self) -> Option<usize> {
+    const fn squawk_place(self) -> Option<usize> {
         match self {
             Self::Dynamic => Some(HEAD + 36),
             Self::Traffic => Some(HEAD + 24),
@@ -283,7 +313,6 @@ const U16: Edges = Edges::unsigned(16, 16);
 const U32: Edges = Edges::unsigned(32, 32);
 const I16: Edges = Edges::signed(16, 16);
 const I32: Edges = Edges::signed(32, 32);
-const SQUAWK: Edges = Edges::up_to(7777, 16);
 
 static DATA_STREAM: [Field<Message>; 5] = [
     field!(RequestDataStream, rate, U16),
@@ -317,7 +346,7 @@ static DYNAMIC: [Field<Message>; 17] = [
     field!(Dynamic, north_velocity, I16),
     field!(Dynamic, east_velocity, I16),
     field!(Dynamic, state, U16),
-    field!(Dynamic, squawk, SQUAWK),
+    field!(Dynamic, squawk, Edges::SQUAWK),
     field!(Dynamic, fix, Edges::up_to(5, 8)),
     field!(Dynamic, satellites, U8),
     field!(Dynamic, emergency, U8),
@@ -337,7 +366,7 @@ static TRAFFIC: [Field<Message>; 13] = [
     field!(Traffic, horizontal_velocity, U16),
     field!(Traffic, vertical_velocity, I16),
     field!(Traffic, valid, U16),
-    field!(Traffic, squawk, SQUAWK),
+    field!(Traffic, squawk, Edges::SQUAWK),
     field!(Traffic, altitude_type, U8),
     field!(Traffic, callsign[8], U8),
     field!(Traffic, emitter, U8),

@@ -8,6 +8,7 @@ mod report;
 mod request;
 mod uplink;
 
+pub use control::CONTROL;
 pub use uplink::UPLINK;
 
 use ostrogosz::messages as ours;
@@ -50,7 +51,7 @@ pub static KINDS: [&Kind; 8] = [
     &geometric_altitude::GEOMETRIC_ALTITUDE,
     &report::TRAFFIC,
     &request::REQUEST,
-    &control::CONTROL,
+    &CONTROL,
     &initialization::INITIALIZATION,
 ];
 
@@ -130,6 +131,25 @@ impl Kind {
             uplink.octets.resize(any_payload(generator), 0x7D);
         }
         message
+    }
+
+    /// A message that is right but perhaps for this squawk, and its body.
+    pub fn with_squawk(&self, squawk: u16, generator: &mut Generator) -> (Message, Vec<u8>) {
+        let mut message = self.message(generator);
+        let mut body = body_of(&message);
+        match &mut message {
+            Message::Control(of) => of.squawk = squawk,
+            _ => unreachable!("a kind without a squawk"),
+        }
+        self.put_squawk(&mut body, squawk);
+        (message, body)
+    }
+
+    /// Puts a squawk in a body, if the kind has one.
+    pub fn put_squawk(&self, body: &mut [u8], squawk: u16) {
+        if self.head == CONTROL.head {
+            body[7..9].copy_from_slice(&squawk.to_le_bytes());
+        }
     }
 }
 

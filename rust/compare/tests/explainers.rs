@@ -1,11 +1,12 @@
 //! The explaining programs, beside what the second program's values say in
 //! Rust's own formatting.
 
+use compare::edges::Edges;
 use compare::explained;
 use compare::generator::Generator;
 use compare::lines;
 use compare::mavlink;
-use compare::messages::{Kind, KINDS};
+use compare::messages::{Kind, CONTROL, KINDS};
 use compare::programs::output_of;
 use compare::tally::Tally;
 use second::frame::frame;
@@ -52,6 +53,21 @@ fn messages_of_every_kind() {
         tally.count_many(kind.name, frames as u64, difference);
     }
     tally.close("line explainer, in frames of messages", 160_000);
+}
+
+#[test]
+fn every_squawk_of_a_line() {
+    let mut tally = Tally::default();
+    let mut generator = Generator::new(39);
+    let mut line = Vec::new();
+    for squawk in 0..=u16::MAX {
+        let (_, body) = CONTROL.with_squawk(squawk, &mut generator);
+        lines::share_flag(&mut line, &frame(&body));
+    }
+    let differs = output_of("line_explainer", &line) != explained::line(&line);
+    let difference = differs.then(|| "a squawk".to_owned());
+    tally.count_many(CONTROL.name, 65_536, difference);
+    tally.close("line explainer, in squawks", 65_536);
 }
 
 #[test]
@@ -133,6 +149,26 @@ fn captures_with_a_refused_frame() {
         tally.count("captures with a damaged frame", difference);
     }
     tally.close("MAVLink explainer, in captures", 3_000);
+}
+
+/// A squawk at an edge, between right frames: nothing is shown behind one that
+/// is refused.
+#[test]
+fn squawks_at_their_edges() {
+    let mut tally = Tally::default();
+    let mut generator = Generator::new(40);
+    for kind in mavlink::Kind::WITH_SQUAWK {
+        for squawk in Edges::SQUAWK.values() {
+            let header = mavlink::any_header(&mut generator);
+            let mut capture = frames(kind, 2, &mut generator);
+            capture.extend(kind.with_squawk(squawk as u16, header, &mut generator).1);
+            capture.extend(frames(kind, 2, &mut generator));
+            let differs = output_of("mavlink_explainer", &capture) != explained::mavlink(&capture);
+            let difference = differs.then(|| format!("squawk {squawk}"));
+            tally.count(kind.name(), difference);
+        }
+    }
+    tally.close("MAVLink explainer, in squawks", 200);
 }
 
 /// A frame across every place about the end of a block of 65,536 octets.

@@ -4,6 +4,7 @@ use compare::comparison::Comparison;
 use compare::generator::Generator;
 use compare::mavlink::{any_header, seal, Header, Kind, CHECK, HEAD, LONGEST_FRAME};
 use compare::mavlink_sides::{read, second_read, second_write, write};
+use compare::squawks;
 use compare::texts::{texts, TextField};
 use second::mavlink::{Frame, Message};
 
@@ -71,8 +72,9 @@ fn try_write(
     );
 }
 
-/// A frame of the kind: at random behind its head, right, or right but for a few
-/// octets, mostly with a right check; perhaps cut off, or with octets behind it.
+/// A frame of the kind: at random behind its head, right, or right but for a
+/// squawk or a few octets, mostly with a right check; perhaps cut off, or with
+/// octets behind it.
 fn any_input(kind: Kind, generator: &mut Generator) -> Vec<u8> {
     let mut input = match generator.below(4) {
         0 => kind.random_frame(generator),
@@ -92,6 +94,9 @@ fn any_input(kind: Kind, generator: &mut Generator) -> Vec<u8> {
 
 fn damaged_frame(kind: Kind, generator: &mut Generator) -> Vec<u8> {
     let mut frame = kind.right_frame(generator);
+    if generator.below(4) == 0 {
+        kind.put_squawk(&mut frame, squawks::wild(generator) as u16);
+    }
     for _ in 0..generator.below(3) {
         let place = generator.below(frame.len());
         frame[place] = generator.number() as u8;
@@ -262,39 +267,30 @@ fn every_octet_at_every_place() {
     comparison.close(title, &Kind::names(), least as u64, &READ[2..]);
 }
 
-/// The kinds that have a squawk, and where it begins.
-fn with_squawk() -> impl Iterator<Item = (Kind, usize)> {
-    let kinds = Kind::ALL.into_iter();
-    kinds.filter_map(|kind| Some((kind, kind.squawk_place()?)))
-}
-
+/// Every squawk, read behind a right check and a wrong one, and written into
+/// room that is exact and one short.
 #[test]
 fn every_squawk_in_both_directions() {
     let mut comparison = Comparison::new(47, LONGEST_FRAME);
-    for (kind, place) in with_squawk() {
+    for kind in Kind::WITH_SQUAWK {
         for squawk in 0..=u16::MAX {
             let header = any_header(&mut comparison.generator);
-            let mut message = kind.message(&mut comparison.generator);
-            let mut frame = compare::mavlink::frame_of(header, &message);
-            frame[place..place + 2].copy_from_slice(&squawk.to_le_bytes());
-            kind.seal(&mut frame);
+            let (message, mut frame) = kind.with_squawk(squawk, header, &mut comparison.generator);
             try_read(&mut comparison, kind.name(), &frame);
-
-            put_squawk(&mut message, squawk);
-            try_write(&mut comparison, kind, header, &message, kind.octets());
+            frame[kind.octets() - 1] ^= 1;
+            try_read(&mut comparison, kind.name(), &frame);
+            for room in [kind.octets(), kind.octets() - 1] {
+                try_write(&mut comparison, kind, header, &message, room);
+            }
         }
     }
-    let kinds: Vec<_> = with_squawk().map(|(kind, _)| kind.name()).collect();
+    let kinds = Kind::WITH_SQUAWK.map(Kind::name);
+    let due = [&WRITTEN[..], &["refused with 24"]].concat();
     let title = "MAVLink, every squawk, read and written";
-    comparison.close(title, &kinds, 2 * 65_536, &WRITTEN[..2]);
-}
-
-fn put_squawk(message: &mut Message, squawk: u16) {
-    match message {
-        Message::Dynamic(dynamic) => dynamic.squawk = squawk,
-        Message::Traffic(traffic) => traffic.squawk = squawk,
-        _ => unreachable!("a kind without a squawk"),
-    }
+    comparison.close(title, &kinds, 4 * 65_536, &due);
+    // Each code is read, written back and written, in 246 also 65535.
+    let accepted = 3 * (squawks::CODES + squawks::CODES + 1);
+    assert_eq!(comparison.met("accepted"), accepted);
 }
 
 /// The kinds that have a text.

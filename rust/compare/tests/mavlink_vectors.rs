@@ -1,8 +1,10 @@
 //! Published MAVLink frames: the two packets of source document 001, the
-//! published value of its check, and what document 01 says of a status.
+//! published value of its check, what document 01 says of a status, and the
+//! squawks of documents 01 and 02.
 
 use ostrogosz::mavlink::{
-    read_frame, write_frame, Dynamic, Frame, Header, Message, Static, Status, LONGEST_FRAME,
+    read_frame, write_frame, Dynamic, Frame, Header, Message, Static, Status, Traffic,
+    LONGEST_FRAME,
 };
 use ostrogosz::{MavlinkReadRefusal, MavlinkWriteRefusal};
 
@@ -67,6 +69,11 @@ fn the_published_static_packet() {
 /// Its text says control 06; its octets decide.
 #[test]
 fn the_published_dynamic_packet() {
+    assert_both_ways(&DYNAMIC, dynamic(1200));
+}
+
+/// What the dynamic packet says, but for the squawk.
+fn dynamic(squawk: u16) -> Frame {
     let message = Message::Dynamic(Dynamic {
         utc_time: 1_166_374_037,
         latitude: 371_135_267,
@@ -80,18 +87,17 @@ fn the_published_dynamic_packet() {
         ns_vog: -300,
         ew_vog: 130,
         state: 8,
-        squawk: 1200,
+        squawk,
         fix_type: 3,
         num_sats: 5,
         em_status: 0,
         control: 0,
     });
-    let frame = Frame {
+    Frame {
         header: sequence(0x59),
         message,
         used: 50,
-    };
-    assert_both_ways(&DYNAMIC, frame);
+    }
 }
 
 /// The library exports no check of its own; the second program's, to which the
@@ -183,4 +189,90 @@ fn squawk_7777_is_accepted_and_7778_refused_before_the_room() {
         read_frame(&output).map(|frame| frame.message),
         Ok(with(7777))
     );
+}
+
+/// A squawk, its two octets, and the check behind it in the dynamic packet and
+/// in a traffic report that has zeros else.
+type Squawk = (u16, [u8; 2], [u8; 2], [u8; 2]);
+
+/// 7 is 0007.
+const CODES: [Squawk; 6] = [
+    (7, [0x07, 0x00], [0xEE, 0xD0], [0xA5, 0xFC]),
+    (777, [0x09, 0x03], [0xB2, 0x5A], [0x04, 0x96]),
+    (1200, [0xB0, 0x04], [0x0D, 0x57], [0x93, 0x2F]),
+    (1277, [0xFD, 0x04], [0x44, 0xBE], [0xC0, 0x85]),
+    (7770, [0x5A, 0x1E], [0x7C, 0xF7], [0xCB, 0xC3]),
+    (7777, [0x61, 0x1E], [0xB4, 0x57], [0xFA, 0xA5]),
+];
+
+const NO_CODES: [Squawk; 8] = [
+    (8, [0x08, 0x00], [0x1A, 0xC9], [0x10, 0x5D]),
+    (80, [0x50, 0x00], [0x39, 0x65], [0x34, 0x35]),
+    (800, [0x20, 0x03], [0x08, 0x78], [0x85, 0xC2]),
+    (1280, [0x00, 0x05], [0x71, 0x03], [0x31, 0x81]),
+    (7778, [0x62, 0x1E], [0xDA, 0xFF], [0x84, 0x7D]),
+    (8000, [0x40, 0x1F], [0xC9, 0xAF], [0xE3, 0xDE]),
+    (10_000, [0x10, 0x27], [0x8E, 0x3B], [0xBE, 0x7B]),
+    (65_534, [0xFE, 0xFF], [0xAC, 0xFB], [0x3A, 0x87]),
+];
+
+/// No squawk, in a traffic report alone.
+const NONE: Squawk = (65_535, [0xFF, 0xFF], [0x79, 0x64], [0x10, 0xCF]);
+
+/// The dynamic packet with this squawk, and what it says.
+fn dynamic_with((squawk, octets, check, _): Squawk) -> (Vec<u8>, Frame) {
+    let packet = [&DYNAMIC[..42], &octets, &DYNAMIC[44..48], &check].concat();
+    (packet, dynamic(squawk))
+}
+
+/// A traffic report with this squawk, and what it says.
+fn traffic_with((squawk, octets, _, check): Squawk) -> (Vec<u8>, Frame) {
+    let head = [0xFE, 0x26, 0x00, 0x00, 0x00, 0xF6];
+    let packet = [&head[..], &[0; 24], &octets, &[0; 12], &check].concat();
+    let message = Message::Traffic(Traffic {
+        squawk,
+        ..Traffic::default()
+    });
+    let frame = Frame {
+        header: sequence(0),
+        message,
+        used: 46,
+    };
+    (packet, frame)
+}
+
+#[test]
+fn squawks_by_hand() {
+    for code in CODES {
+        for (packet, frame) in [dynamic_with(code), traffic_with(code)] {
+            assert_both_ways(&packet, frame);
+        }
+    }
+    for code in NO_CODES {
+        for (packet, frame) in [dynamic_with(code), traffic_with(code)] {
+            assert_refused(&packet, frame);
+        }
+    }
+    let (packet, frame) = traffic_with(NONE);
+    assert_both_ways(&packet, frame);
+    let (packet, frame) = dynamic_with(NONE);
+    assert_refused(&packet, frame);
+}
+
+/// Neither reads the packet, nor writes the message with whatever room, and
+/// finds nothing changed; a wrong check is found before the field.
+fn assert_refused(packet: &[u8], frame: Frame) {
+    let refusal = Err(MavlinkReadRefusal::MavlinkField);
+    assert_eq!(read_frame(packet), refusal, "{packet:02X?}");
+    let mut wrong = packet.to_vec();
+    wrong[packet.len() - 1] ^= 1;
+    let refusal = Err(MavlinkReadRefusal::MavlinkCheck);
+    assert_eq!(read_frame(&wrong), refusal, "{packet:02X?}");
+    let mut output = [HELD; LONGEST_FRAME];
+    for room in [0, packet.len()] {
+        let written = write_frame(&frame.message, frame.header, &mut output[..room]);
+        let refusal = Err(MavlinkWriteRefusal::MavlinkField);
+        assert_eq!(written, refusal, "{:?}", frame.message);
+    }
+    assert_eq!(output, [HELD; LONGEST_FRAME]);
 }

@@ -1,5 +1,5 @@
 //! Published messages: the traffic report and the heartbeat printed in the
-//! GDL90 public ICD Rev A, and document 01's squawks.
+//! GDL90 public ICD Rev A, and the squawks of documents 01 and 02.
 
 use ostrogosz::messages::{
     read_message, send_message, write_message, Control, Heartbeat, Message, Report,
@@ -95,6 +95,50 @@ fn squawk_7777_is_accepted_and_7778_refused() {
     assert_eq!(body, accepted);
     body[7..9].copy_from_slice(&7778_u16.to_le_bytes());
     assert_eq!(read_message(&body), Err(ReadRefusal::Field));
+}
+
+/// Whole bodies; 7 is 0007.
+#[test]
+fn squawks_by_hand() {
+    let codes: [(u16, &[u8; 18]); 6] = [
+        (7, b"\x2D\x01\0\0\0\0\0\x07\x00\0N825V   "),
+        (777, b"\x2D\x01\0\0\0\0\0\x09\x03\0N825V   "),
+        (1200, b"\x2D\x01\0\0\0\0\0\xB0\x04\0N825V   "),
+        (1277, b"\x2D\x01\0\0\0\0\0\xFD\x04\0N825V   "),
+        (7770, b"\x2D\x01\0\0\0\0\0\x5A\x1E\0N825V   "),
+        (7777, b"\x2D\x01\0\0\0\0\0\x61\x1E\0N825V   "),
+    ];
+    for (squawk, body) in codes {
+        assert_both_ways(body, control(squawk));
+    }
+    let no_codes: [(u16, &[u8; 18]); 9] = [
+        (8, b"\x2D\x01\0\0\0\0\0\x08\x00\0N825V   "),
+        (80, b"\x2D\x01\0\0\0\0\0\x50\x00\0N825V   "),
+        (800, b"\x2D\x01\0\0\0\0\0\x20\x03\0N825V   "),
+        (1280, b"\x2D\x01\0\0\0\0\0\x00\x05\0N825V   "),
+        (7778, b"\x2D\x01\0\0\0\0\0\x62\x1E\0N825V   "),
+        (8000, b"\x2D\x01\0\0\0\0\0\x40\x1F\0N825V   "),
+        (10_000, b"\x2D\x01\0\0\0\0\0\x10\x27\0N825V   "),
+        (65_534, b"\x2D\x01\0\0\0\0\0\xFE\xFF\0N825V   "),
+        (65_535, b"\x2D\x01\0\0\0\0\0\xFF\xFF\0N825V   "),
+    ];
+    for (squawk, body) in no_codes {
+        assert_refused(body, control(squawk));
+    }
+}
+
+/// Neither reads the body nor writes or sends the message, with whatever room,
+/// and finds nothing changed.
+fn assert_refused(body: &[u8], message: Message<'_>) {
+    assert_eq!(read_message(body), Err(ReadRefusal::Field), "{body:02X?}");
+    let mut output = [HELD; LONGEST_FRAME];
+    for room in [0, body.len()] {
+        let written = write_message(&message, &mut output[..room]);
+        assert_eq!(written, Err(WriteRefusal::Field), "{message:?}");
+    }
+    let sent = send_message(&message, &mut output);
+    assert_eq!(sent, Err(SendRefusal::Field), "{message:?}");
+    assert_eq!(output, [HELD; LONGEST_FRAME]);
 }
 
 /// Every frame of a message fits the buffer, the longest too: an uplink all

@@ -4,7 +4,8 @@
 use compare::bodies::Kind as Body;
 use compare::both_sides::{read, send, write};
 use compare::comparison::Comparison;
-use compare::messages::{names, Kind, KINDS, UPLINK};
+use compare::messages::{names, Kind, CONTROL, KINDS, UPLINK};
+use compare::squawks;
 use compare::texts::{texts, TextField};
 use second::messages::{Message, Uplink};
 
@@ -62,8 +63,8 @@ fn try_send(comparison: &mut Comparison, kind: &Kind, message: &Message) {
     );
 }
 
-/// A body of the kind: at random behind its head, right, or right but for a few
-/// octets and perhaps its length.
+/// A body of the kind: at random behind its head, right, or right but for a
+/// squawk or a few octets and perhaps its length.
 fn any_body(kind: &Kind, comparison: &mut Comparison) -> Vec<u8> {
     let generator = &mut comparison.generator;
     match generator.below(4) {
@@ -71,6 +72,9 @@ fn any_body(kind: &Kind, comparison: &mut Comparison) -> Vec<u8> {
         1 => kind.right_body(generator),
         _ => {
             let mut body = kind.right_body(generator);
+            if generator.below(4) == 0 {
+                kind.put_squawk(&mut body, squawks::wild(generator) as u16);
+            }
             for _ in 0..generator.below(3) {
                 let place = generator.below(body.len());
                 body[place] = generator.number() as u8;
@@ -181,6 +185,28 @@ fn every_pair_of_octets() {
     }
     let title = "reading, every pair of octets";
     comparison.close(title, &names(|kind| kind.ranged), BODIES, &READ);
+}
+
+/// Every squawk, read behind a right version and a wrong one, written into room
+/// that is exact and one short, and sent.
+#[test]
+fn every_squawk_in_both_directions() {
+    let mut comparison = Comparison::new(36, BUFFER);
+    for squawk in 0..=u16::MAX {
+        let (message, mut body) = CONTROL.with_squawk(squawk, &mut comparison.generator);
+        try_read(&mut comparison, CONTROL.name, &body);
+        body[1] ^= 1;
+        try_read(&mut comparison, CONTROL.name, &body);
+        for room in [CONTROL.octets, CONTROL.octets - 1] {
+            try_write(&mut comparison, &CONTROL, &message, room);
+        }
+        try_send(&mut comparison, &CONTROL, &message);
+    }
+    let due = [&WRITTEN[..], &["refused with 12"]].concat();
+    let title = "every squawk, read, written and sent";
+    comparison.close(title, &[CONTROL.name], 5 * 65_536, &due);
+    // Each code is read, written and sent.
+    assert_eq!(comparison.met("accepted"), 3 * squawks::CODES);
 }
 
 /// The kinds that have a text.
