@@ -15,6 +15,7 @@ mod messages;
 mod messages_rows;
 mod receiver;
 mod receiver_rows;
+mod squawk;
 mod table;
 mod timing;
 mod writer;

@@ -9,6 +9,7 @@ use ostrogosz::mavlink::{DataStream, Dynamic, Header, Static, Status, Traffic};
 use ostrogosz::mavlink::{Frame, Message};
 use ostrogosz::Refusal;
 
+use crate::squawk::is_squawk;
 use crate::x25::x25;
 
 /// The octet that starts a frame.
@@ -283,7 +284,7 @@ fn dynamic(octets: &[u8; 42]) -> Result<Dynamic, Refusal> {
 
 #[inline]
 fn dynamic_fits(of: &Dynamic) -> bool {
-    of.squawk <= 7777 && of.fix_type <= 5
+    is_squawk(of.squawk) && of.fix_type <= 5
 }
 
 #[inline]
@@ -330,7 +331,7 @@ fn traffic(octets: &[u8; 38]) -> Result<Traffic, Refusal> {
 
 #[inline]
 fn traffic_fits(of: &Traffic) -> bool {
-    of.squawk <= 7777 || of.squawk == u16::MAX
+    is_squawk(of.squawk) || of.squawk == u16::MAX
 }
 
 #[inline]
@@ -410,6 +411,19 @@ mod tests {
                 let exact = kind.octets();
                 let room = generator.pick(&[0, exact - 1, exact, exact + 1, LONGEST_FRAME + 4]);
                 assert_same_writing(&our_message(&message), header, room);
+            }
+        }
+    }
+
+    #[test]
+    fn every_squawk_is_answered_alike() {
+        let mut generator = Generator::new(64);
+        for kind in Kind::WITH_SQUAWK {
+            for squawk in 0..=u16::MAX {
+                let header = any_header(&mut generator);
+                let (message, frame) = kind.with_squawk(squawk, header, &mut generator);
+                assert_same_reading(&frame);
+                assert_same_writing(&our_message(&message), our_header(header), kind.octets());
             }
         }
     }

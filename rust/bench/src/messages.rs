@@ -10,6 +10,7 @@ use ostrogosz::messages::{
 };
 use ostrogosz::{Refusal, LONGEST_FRAME};
 
+use crate::squawk::is_squawk;
 use crate::writer::one_pass;
 
 /// What a body means, of whatever kind.
@@ -254,7 +255,7 @@ fn control(octets: &[u8; 17]) -> Result<Control, Refusal> {
     let [version, flags, a0, a1, a2, a3, s0, s1, emergency, identity @ ..] = *octets;
     ensure(version == 1, Refusal::Fixed)?;
     let squawk = u16::from_le_bytes([s0, s1]);
-    ensure(squawk <= 7777 && is_identity(&identity), Refusal::Field)?;
+    ensure(is_squawk(squawk) && is_identity(&identity), Refusal::Field)?;
     Ok(Control {
         es_enabled: flags & 0x80 != 0,
         mode_s: flags & 0x40 != 0,
@@ -272,7 +273,7 @@ fn control(octets: &[u8; 17]) -> Result<Control, Refusal> {
 
 #[inline]
 fn control_fits(control: &Control) -> bool {
-    control.air_ground < 1 << 2 && control.squawk <= 7777 && is_identity(&control.identity)
+    control.air_ground < 1 << 2 && is_squawk(control.squawk) && is_identity(&control.identity)
 }
 
 #[inline]
@@ -369,7 +370,7 @@ fn is_callsign(text: &[u8; 8]) -> bool {
 mod tests {
     use super::*;
     use compare::generator::Generator;
-    use compare::messages::{ours, KINDS};
+    use compare::messages::{ours, CONTROL, KINDS};
     use ostrogosz::messages::{read_message, write_message};
 
     fn assert_same_reading(body: &[u8]) {
@@ -415,6 +416,16 @@ mod tests {
                 let room = generator.pick(&[0, exact - 1, exact, exact + 1, 440]);
                 assert_same_writing(&ours(&message), room);
             }
+        }
+    }
+
+    #[test]
+    fn every_squawk_is_answered_alike() {
+        let mut generator = Generator::new(35);
+        for squawk in 0..=u16::MAX {
+            let (message, body) = CONTROL.with_squawk(squawk, &mut generator);
+            assert_same_reading(&body);
+            assert_same_writing(&ours(&message), CONTROL.octets);
         }
     }
 }
