@@ -93,7 +93,7 @@ struct ostrogosz_mavlink_dynamic {
     int16_t ns_vog;     /* nsVog: velocity, cm/s, north +; unknown: INT16_MAX */
     int16_t ew_vog;     /* ewVog: velocity, cm/s, east +; unknown: INT16_MAX */
     uint16_t state;
-    uint16_t squawk;   /* decimal, range 0 to 7777 */
+    uint16_t squawk;   /* decimal, range four digits of 0 to 7 */
     uint8_t fix_type;  /* fixType: range 0 to 5 */
     uint8_t num_sats;  /* numSats: satellites visible; unknown: UINT8_MAX */
     uint8_t em_status; /* emStatus: emergency status */
@@ -136,7 +136,7 @@ struct ostrogosz_mavlink_traffic {
     uint16_t hor_velocity;  /* horizontal, cm/s */
     int16_t ver_velocity;   /* vertical, cm/s */
     uint16_t valid_flags;   /* validFlags: which fields are valid */
-    uint16_t squawk;        /* decimal, range 0 to 7777, or 65535 for none */
+    uint16_t squawk;        /* decimal, range as in 202, or 65535 for none */
     uint8_t altitude_type;  /* 0 pressure altitude, 1 geometric */
     uint8_t callsign[8];    /* any octets */
     uint8_t callsign_ninth; /* the callsign's ninth octet */

@@ -166,6 +166,20 @@ pub struct Static {
 }
 
 /// Message 202.
+///
+/// ```
+/// use ostrogosz::MavlinkWriteRefusal;
+/// use ostrogosz::mavlink::{Dynamic, Header};
+///
+/// let mut dynamic = Dynamic { squawk: 1277, ..Dynamic::default() };
+/// let mut frame = [0; 50];
+/// assert_eq!(dynamic.write_to(&Header::default(), &mut frame), Ok(50));
+/// // A Mode A code has no digit 8 or 9.
+/// dynamic.squawk = 1280;
+/// let refused = dynamic.write_to(&Header::default(), &mut frame);
+/// assert_eq!(refused, Err(MavlinkWriteRefusal::MavlinkField));
+/// assert_eq!(MavlinkWriteRefusal::MavlinkField.number(), 25);
+/// ```
 #[derive(Clone, Copy, Debug, Default, PartialEq, Eq)]
 #[repr(C)]
 pub struct Dynamic {
@@ -193,7 +207,8 @@ pub struct Dynamic {
     pub ew_vog: i16,
     /// State flags.
     pub state: u16,
-    /// Squawk, its four digits read as a decimal number: range 0 to 7777.
+    /// Squawk, four octal digits sent as a decimal number: range 0 to 7777,
+    /// every digit 0 to 7. 1200 is one, 1280 is refused.
     pub squawk: u16,
     /// Kind of position fix: range 0 to 5.
     pub fix_type: u8,
@@ -234,8 +249,8 @@ pub struct Traffic {
     pub ver_velocity: i16,
     /// Which fields are valid.
     pub valid_flags: u16,
-    /// Squawk, its four digits read as a decimal number: range 0 to 7777, or
-    /// 65535 for none.
+    /// Squawk, four octal digits sent as a decimal number: range 0 to 7777,
+    /// every digit 0 to 7, or 65535 for none. 1200 is one, 1280 is refused.
     pub squawk: u16,
     /// 0 for pressure altitude, 1 for geometric.
     pub altitude_type: u8,

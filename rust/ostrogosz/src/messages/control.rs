@@ -5,6 +5,20 @@ use crate::boundary::{layout, ucp_calls};
 use crate::hidden::debug_without;
 
 /// Message 45, version 1. The debug form leaves the identity out.
+///
+/// ```
+/// use ostrogosz::WriteRefusal;
+/// use ostrogosz::messages::Control;
+///
+/// let mut control = Control { identity: *b"N825V   ", ..Control::default() };
+/// let mut body = [0; 18];
+/// control.squawk = 1277;
+/// assert_eq!(control.write_to(&mut body), Ok(18));
+/// // A Mode A code has no digit 8 or 9.
+/// control.squawk = 1280;
+/// assert_eq!(control.write_to(&mut body), Err(WriteRefusal::Field));
+/// assert_eq!(WriteRefusal::Field.number(), 13);
+/// ```
 #[derive(Clone, Copy, Default, PartialEq, Eq)]
 #[repr(C)]
 pub struct Control {
@@ -24,7 +38,8 @@ pub struct Control {
     pub baro_checked: bool,
     /// Pressure altitude in millimetres. Unknown: [`i32::MAX`].
     pub altitude: i32,
-    /// Squawk, its four digits read as a decimal number: range 0 to 7777.
+    /// Squawk, four octal digits sent as a decimal number: range 0 to 7777,
+    /// every digit 0 to 7. 1200 is one, 1280 is refused.
     pub squawk: u16,
     /// Emergency state.
     pub emergency: u8,
