@@ -4,6 +4,7 @@
 #include "expect.h"
 #include "ostrogosz.h"
 #include "output.h"
+#include "squawks.h"
 
 #define HEAD 6
 #define LONGEST OSTROGOSZ_MAVLINK_LONGEST_FRAME
@@ -354,11 +355,7 @@ static void try_fields(void)
     TRY_FIELD(201, static_data.alw_encode, 0, 16);
     TRY_FIELD(201, static_data.gps_lat_offs, 7, 8);
     TRY_FIELD(201, static_data.gps_lon_offs, 31, 32);
-    TRY_FIELD(202, dynamic.squawk, 7777, 7778);
-    TRY_FIELD(202, dynamic.squawk, 0, 65535);
     TRY_FIELD(202, dynamic.fix_type, 5, 6);
-    TRY_FIELD(246, traffic.squawk, 7777, 7778);
-    TRY_FIELD(246, traffic.squawk, 65535, 65534);
 }
 
 /* The check as document 001 adds an octet to it. */
@@ -382,6 +379,52 @@ static void seal(uint8_t *frame, size_t length, uint8_t extra)
     check = next_check(check, extra);
     frame[length - 2] = (uint8_t)(check & 0xFF);
     frame[length - 1] = (uint8_t)(check >> 8);
+}
+
+/* The frame of 202 or 246 with this squawk, which m gets too. */
+static uint8_t *with_squawk(size_t kind, unsigned squawk, struct message *m)
+{
+    static uint8_t frame[LONGEST];
+    size_t place = HEAD + (kinds[kind].id == 202 ? 36 : 24);
+
+    memcpy(frame, kinds[kind].frame, sizeof frame);
+    frame[place] = (uint8_t)(squawk & 0xFF);
+    frame[place + 1] = (uint8_t)(squawk >> 8);
+    seal(frame, kinds[kind].length, kinds[kind].extra);
+    m->dynamic.squawk = m->traffic.squawk = (uint16_t)squawk;
+    return frame;
+}
+
+static int takes_squawk(size_t kind, unsigned squawk)
+{
+    struct message m = sample;
+    size_t length = kinds[kind].length;
+    const uint8_t *frame = with_squawk(kind, squawk, &m);
+
+    return reads(frame, length, length, &m) &&
+           wrote(write_frame(kinds[kind].id, &m, length), frame, length);
+}
+
+/* 25, and behind a wrong check 24. */
+static int refuses_squawk(size_t kind, unsigned squawk)
+{
+    struct message m = sample;
+    uint32_t id = kinds[kind].id;
+    size_t length = kinds[kind].length;
+    uint8_t *frame = with_squawk(kind, squawk, &m);
+    int held = read_refused(id, frame, length, 25) && field_refused(id, &m);
+
+    frame[length - 1] ^= 1;
+    return held && read_refused(id, frame, length, 24);
+}
+
+/* 65535 in a traffic report alone. */
+static void try_both_squawks(void)
+{
+    try_squawks(2, takes_squawk, refuses_squawk);
+    EXPECT(refuses_squawk(2, 65535));
+    try_squawks(4, takes_squawk, refuses_squawk);
+    EXPECT(takes_squawk(4, 65535));
 }
 
 /* A frame with one octet changed is refused: with its check as it was, and with
@@ -494,6 +537,7 @@ int main(void)
     try_packets();
     try_statuses();
     try_fields();
+    try_both_squawks();
     try_read_refusals();
     try_other_kinds();
     try_checks();

@@ -4,6 +4,7 @@
 #include "expect.h"
 #include "ostrogosz.h"
 #include "output.h"
+#include "squawks.h"
 
 #define PAYLOAD OSTROGOSZ_UCP_UPLINK_PAYLOAD
 
@@ -433,7 +434,6 @@ static void try_report_fields(void)
 static void try_other_fields(void)
 {
     TRY_FIELD(45, control.air_ground, 3, 4);
-    TRY_FIELD(45, control.squawk, 7777, 7778);
     TRY_FIELD(45, control.identity[4], ' ', '_');
     /* A space inside, before the Z. */
     TRY_FIELD(45, control.identity[3], 'A', ' ');
@@ -443,6 +443,38 @@ static void try_other_fields(void)
     TRY_FIELD(117, initialization.size, 0, 16);
     TRY_FIELD(117, initialization.lateral, 7, 8);
     TRY_FIELD(117, initialization.longitudinal, 31, 32);
+}
+
+/* The body with this squawk, which m gets too. */
+static uint8_t *with_squawk(size_t kind, unsigned squawk, struct message *m)
+{
+    static uint8_t body[28];
+
+    memcpy(body, kinds[kind].body, sizeof body);
+    body[7] = (uint8_t)(squawk & 0xFF);
+    body[8] = (uint8_t)(squawk >> 8);
+    m->control.squawk = (uint16_t)squawk;
+    return body;
+}
+
+static int takes_squawk(size_t kind, unsigned squawk)
+{
+    struct message m = sample;
+    const uint8_t *body = with_squawk(kind, squawk, &m);
+
+    return reads(body, 18, &m) && wrote(write_body(45, &m, 18), body, 18) &&
+           sends(45, &m, body, 18);
+}
+
+/* 13, and behind a wrong version 12. */
+static int refuses_squawk(size_t kind, unsigned squawk)
+{
+    struct message m = sample;
+    uint8_t *body = with_squawk(kind, squawk, &m);
+    int held = read_refused(body, 18, 13) && field_refused(45, &m);
+
+    body[1] = 2;
+    return held && read_refused(body, 18, 12);
 }
 
 /* A payload has 435 octets, no more and no fewer. */
@@ -550,6 +582,8 @@ int main(void)
     try_flags();
     try_report_fields();
     try_other_fields();
+    try_squawks(5, takes_squawk, refuses_squawk);
+    EXPECT(refuses_squawk(5, 65535));
     try_payloads();
     try_read_refusals();
     try_no_pointer();
