@@ -6,4 +6,18 @@ use Rattle.field_codes.specs.Edges.{CodeEdges}
 pub edges : CodeEdges
 unfolding isSquawk isEmitter isSizeCode
 edges =
-    record { squawk-7777 = refl; squawk-7778 = refl; emitter-19 = refl; emitter-20 = refl; size-15 = refl; size-16 = refl }
+    record {
+      squawk-7 = refl;
+      squawk-8 = refl;
+      squawk-1277 = refl;
+      squawk-1280 = refl;
+      squawk-1800 = refl;
+      squawk-7777 = refl;
+      squawk-7778 = refl;
+      squawk-8000 = refl;
+      squawk-10000 = refl;
+      emitter-19 = refl;
+      emitter-20 = refl;
+      size-15 = refl;
+      size-16 = refl;
+    }

@@ -1,1 +1,3 @@
 pub mod Edges
+mod Digits
+pub mod Squawks

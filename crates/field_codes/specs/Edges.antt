@@ -1,11 +1,19 @@
--- The last code in each range, and the first outside. Assumes nothing.
+-- The last code in each range, and the first outside; of the squawk also a digit 8 in each place. Assumes nothing.
 use mathlib.Core.Path.{_≡_}
 use mathlib.Core.Bool.{true, false}
 use Rattle.field_codes.specs.Codes.{isSquawk, isEmitter, isSizeCode}
 
 pub record CodeEdges : Type 0 where
+  -- 7 is the code 0007; 1280 was sent once as a code
+  pub squawk-7 : isSquawk 7 ≡ true
+  pub squawk-8 : isSquawk 8 ≡ false
+  pub squawk-1277 : isSquawk 1277 ≡ true
+  pub squawk-1280 : isSquawk 1280 ≡ false
+  pub squawk-1800 : isSquawk 1800 ≡ false
   pub squawk-7777 : isSquawk 7777 ≡ true
   pub squawk-7778 : isSquawk 7778 ≡ false
+  pub squawk-8000 : isSquawk 8000 ≡ false
+  pub squawk-10000 : isSquawk 10000 ≡ false
   pub emitter-19 : isEmitter 19 ≡ true
   pub emitter-20 : isEmitter 20 ≡ false
   pub size-15 : isSizeCode 15 ≡ true

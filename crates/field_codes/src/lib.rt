@@ -2,11 +2,33 @@
 ghost use mathlib.Core.Path.{_≡_};
 ghost use Rattle.field_codes.specs.Codes.{isSquawk, isEmitter, isSizeCode};
 
-// Whether a number is a Mode A code.
+// One, its decimal parts and 0.8, in parts of 2^32, rounded up.
+const ONE: u64 = 4294967296;
+
+const THOUSANDTH: u64 = 4294968;
+
+const HUNDREDTH: u64 = 42949673;
+
+const TENTH: u64 = 429496730;
+
+const EIGHT_TENTHS: u64 = 3435973837;
+
+// Whether a number is a Mode A code. The first digit behind the point is at most 7 where the fraction is below 0.8: 1280 hundredths are
+// 12.80, so 1280 is none. A product for each digit is quicker than divisions.
 pub fn is_squawk(code: u16) -> bool
     ensures { λ r. ⌜ r ≡ isSquawk code ⌝ }
 {
-    code <= 7777
+    let number = code as u64;
+    if number > 7777 {
+        return false;
+    }
+    if number * THOUSANDTH % ONE >= EIGHT_TENTHS {
+        return false;
+    }
+    if number * HUNDREDTH % ONE >= EIGHT_TENTHS {
+        return false;
+    }
+    number * TENTH % ONE < EIGHT_TENTHS
 }
 
 // Whether a number is an emitter category.

@@ -19,10 +19,10 @@ staticFits address callsign capability emitter size lateral longitudinal =
     && leb lateral 7
     && leb longitudinal 31
 
--- 202: a squawk of 0 to 7777 and a fix of 0 to 5
+-- 202: a squawk, and a fix of 0 to 5
 unfoldable pub dynamicFits : ℕ → ℕ → Bool
 dynamicFits squawk fix = isSquawk squawk && leb fix 5
 
--- 246: a squawk of 0 to 7777, or 65535 for none
+-- 246: a squawk, or 65535 for none
 unfoldable pub trafficFits : ℕ → Bool
 trafficFits squawk = isSquawk squawk || eqb squawk 65535

@@ -1,0 +1,59 @@
+-- Whether a digit is at most 7, by the number's fraction from that digit on, in parts of 2^32. Assumes nothing.
+use mathlib.Core.Path.{_≡_, refl, _∙_, sym}
+use mathlib.Core.Bool.{Bool, true, false, _&&_}
+use Prim.Native.Nat.{ℕ, _+_, _*_, _/_, _%_, _≤_, _<_}
+use native.Mathlib.Omega.{arith}
+use lib.Dec.{leb, ltb}
+use borrow.Author.Tests.{ltb-true, ltb-false, lt-leb, le-leb}
+use Rattle.field_codes.specs.Codes.{isSquawk}
+
+-- two tests of numbers that hold together are equal
+tests-agree : (a b c d : ℕ) → (a < b → c ≤ d) → (b ≤ a → d < c) → ltb a b ≡ leb c d
+tests-agree a b c d held failed = by (ltb a b) refl
+  where
+    by : (t : Bool) → ltb a b ≡ t → ltb a b ≡ leb c d
+    by true e = e ∙ sym (le-leb c d (held (ltb-true a b e)))
+    by false e = e ∙ sym (lt-leb c d (failed (ltb-false a b e)))
+
+pub last-digit : (m q d : ℕ) → m ≡ q * 10 + d → d < 10 → m % 10 ≡ d
+last-digit m q d e l = omega arith
+
+-- a place's inverse is rounded up, so that a product is past whole parts of 2^32 by the fraction and a little
+hundreds-of : (n : ℕ) → n ≤ 7777 → n * 4294968 % 4294967296 ≡ n / 1000 * 704 + n % 1000 * 4294968
+hundreds-of n h = omega arith
+
+tens-of : (n : ℕ) → n ≤ 7777 → n * 42949673 % 4294967296 ≡ n / 100 * 4 + n % 100 * 42949673
+tens-of n h = omega arith
+
+units-of : (n : ℕ) → n ≤ 7777 → n * 429496730 % 4294967296 ≡ n / 10 * 4 + n % 10 * 429496730
+units-of n h = omega arith
+
+hundreds : (n : ℕ) → n ≤ 7777 → ltb (n * 4294968 % 4294967296) 3435973837 ≡ leb (n / 100 % 10) 7
+hundreds n h =
+    let f = hundreds-of n h in
+    let e : n / 100 ≡ n / 1000 * 10 + n % 1000 / 100 = omega arith in
+    let d = last-digit (n / 100) (n / 1000) (n % 1000 / 100) e (omega arith) in
+    tests-agree (n * 4294968 % 4294967296) 3435973837 (n / 100 % 10) 7
+    (λ l. let r : n % 1000 < 800 = omega (arith, f, l) in omega (arith, d, r))
+    (λ l. let r : 800 ≤ n % 1000 = omega (arith, f, l) in omega (arith, d, r))
+
+tens : (n : ℕ) → n ≤ 7777 → ltb (n * 42949673 % 4294967296) 3435973837 ≡ leb (n / 10 % 10) 7
+tens n h =
+    let f = tens-of n h in
+    let e : n / 10 ≡ n / 100 * 10 + n % 100 / 10 = omega arith in
+    let d = last-digit (n / 10) (n / 100) (n % 100 / 10) e (omega arith) in
+    tests-agree (n * 42949673 % 4294967296) 3435973837 (n / 10 % 10) 7
+    (λ l. let r : n % 100 < 80 = omega (arith, f, l) in omega (arith, d, r))
+    (λ l. let r : 80 ≤ n % 100 = omega (arith, f, l) in omega (arith, d, r))
+
+units : (n : ℕ) → n ≤ 7777 → ltb (n * 429496730 % 4294967296) 3435973837 ≡ leb (n % 10) 7
+units n h =
+    tests-agree (n * 429496730 % 4294967296) 3435973837 (n % 10) 7 (λ l. omega (arith, units-of n h)) (λ l. omega (arith, units-of n h))
+
+pub runs : (n : ℕ) → n ≤ 7777
+    → isSquawk n
+    ≡ (ltb (n * 4294968 % 4294967296) 3435973837
+    && ltb (n * 42949673 % 4294967296) 3435973837
+    && ltb (n * 429496730 % 4294967296) 3435973837)
+unfolding isSquawk
+runs n h = rw (le-leb n 7777 h, le-leb (n / 1000 % 10) 7 (omega arith), hundreds n h, tens n h, units n h)
