@@ -4,7 +4,7 @@ use mathlib.Core.Bool.{Bool, true, false, _&&_}
 use Prim.Native.Nat.{ℕ, _+_, _*_, _/_, _%_, _≤_, _<_}
 use native.Mathlib.Omega.{arith}
 use lib.Dec.{leb, ltb}
-use borrow.Author.Tests.{ltb-true, ltb-false, lt-leb, le-leb}
+use borrow.Author.Tests.{ltb-true, ltb-false, leb-true, lt-leb, le-leb}
 use Rattle.field_codes.specs.Codes.{isSquawk}
 
 -- two tests of numbers that hold together are equal
@@ -50,10 +50,23 @@ units : (n : ℕ) → n ≤ 7777 → ltb (n * 429496730 % 4294967296) 3435973837
 units n h =
     tests-agree (n * 429496730 % 4294967296) 3435973837 (n % 10) 7 (λ l. omega (arith, units-of n h)) (λ l. omega (arith, units-of n h))
 
-pub runs : (n : ℕ) → n ≤ 7777
-    → isSquawk n
-    ≡ (ltb (n * 4294968 % 4294967296) 3435973837
+-- the test that runs, of every number
+pub runs : (n : ℕ)
+    → (leb n 7777
+    && ltb (n * 4294968 % 4294967296) 3435973837
     && ltb (n * 42949673 % 4294967296) 3435973837
     && ltb (n * 429496730 % 4294967296) 3435973837)
+    ≡ isSquawk n
 unfolding isSquawk
-runs n h = rw (le-leb n 7777 h, le-leb (n / 1000 % 10) 7 (omega arith), hundreds n h, tens n h, units n h)
+runs n = by (leb n 7777) refl
+  where
+    by : (most : Bool) → leb n 7777 ≡ most
+        → (leb n 7777
+        && ltb (n * 4294968 % 4294967296) 3435973837
+        && ltb (n * 42949673 % 4294967296) 3435973837
+        && ltb (n * 429496730 % 4294967296) 3435973837)
+        ≡ (leb n 7777 && leb (n / 1000 % 10) 7 && leb (n / 100 % 10) 7 && leb (n / 10 % 10) 7 && leb (n % 10) 7)
+    by true e =
+        let h = leb-true n 7777 e in
+        rw (e, le-leb (n / 1000 % 10) 7 (omega (arith, h)), hundreds n h, tens n h, units n h)
+    by false e = rw e

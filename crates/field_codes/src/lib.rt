@@ -19,16 +19,10 @@ pub fn is_squawk(code: u16) -> bool
     ensures { λ r. ⌜ r ≡ isSquawk code ⌝ }
 {
     let number = code as u64;
-    if number > 7777 {
-        return false;
-    }
-    if number * THOUSANDTH % ONE >= EIGHT_TENTHS {
-        return false;
-    }
-    if number * HUNDREDTH % ONE >= EIGHT_TENTHS {
-        return false;
-    }
-    number * TENTH % ONE < EIGHT_TENTHS
+    (number <= 7777)
+        & (number * THOUSANDTH % ONE < EIGHT_TENTHS)
+        & (number * HUNDREDTH % ONE < EIGHT_TENTHS)
+        & (number * TENTH % ONE < EIGHT_TENTHS)
 }
 
 // Whether a number is an emitter category.
