@@ -93,7 +93,7 @@ struct ostrogosz_mavlink_dynamic {
     int16_t ns_vog;     /* nsVog: velocity, cm/s, north +; unknown: INT16_MAX */
     int16_t ew_vog;     /* ewVog: velocity, cm/s, east +; unknown: INT16_MAX */
     uint16_t state;
-    uint16_t squawk;   /* decimal, range four digits of 0 to 7 */
+    uint16_t squawk;   /* decimal, range: at most four digits, each 0 to 7 */
     uint8_t fix_type;  /* fixType: range 0 to 5 */
     uint8_t num_sats;  /* numSats: satellites visible; unknown: UINT8_MAX */
     uint8_t em_status; /* emStatus: emergency status */

@@ -309,7 +309,7 @@ struct ostrogosz_ucp_control {
     uint8_t air_ground;   /* 2 bits */
     uint8_t baro_checked; /* yes or no: external barometer cross checked */
     int32_t altitude;     /* pressure altitude, mm; unknown: INT32_MAX */
-    uint16_t squawk;      /* decimal, range four digits of 0 to 7 */
+    uint16_t squawk;      /* decimal, range: at most four digits, each 0 to 7 */
     uint8_t emergency;
     uint8_t identity[8]; /* range 0-9, A-Z, spaces at the end alone */
 };

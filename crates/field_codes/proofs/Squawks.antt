@@ -8,7 +8,7 @@ use lib.Dec.{T, leb, leb→le}
 use mir.Facts.{and-yes}
 use borrow.Author.Tests.{le-leb, lt-leb}
 use Rattle.field_codes.specs.Codes.{isSquawk}
-use Rattle.field_codes.specs.Squawks.{FourOctalDigits, sentFor, modeA, passing, SquawkLaws}
+use Rattle.field_codes.specs.Squawks.{FourOctalDigits, sentFor, modeA, countBelow, SquawkLaws}
 
 -- ---- digits
 
@@ -31,14 +31,14 @@ record Octal (n : ℕ) : Type 0 where
   pub tens : n / 10 % 10 ≤ 7
   pub units : n % 10 ≤ 7
 
-is-good : (n : ℕ) → Octal n → isSquawk n ≡ true
+is-squawk : (n : ℕ) → Octal n → isSquawk n ≡ true
 unfolding isSquawk
-is-good n o =
+is-squawk n o =
     rw (le-leb n 7777 (o .most), le-leb (n / 1000 % 10) 7 (omega (arith, o .most)), le-leb (n / 100 % 10) 7 (o .hundreds), le-leb (n / 10 % 10) 7 (o .tens), le-leb (n % 10) 7 (o .units))
 
-good-is : (n : ℕ) → isSquawk n ≡ true → Octal n
+octal-of : (n : ℕ) → isSquawk n ≡ true → Octal n
 unfolding isSquawk
-good-is n e =
+octal-of n e =
     let (to-tens, units) = and-yes (leb n 7777 && leb (n / 1000 % 10) 7 && leb (n / 100 % 10) 7 && leb (n / 10 % 10) 7) (leb (n % 10) 7) (subst T (sym e) tt) in
     let (to-hundreds, tens) = and-yes (leb n 7777 && leb (n / 1000 % 10) 7 && leb (n / 100 % 10) 7) (leb (n / 10 % 10) 7) to-tens in
     let (to-thousands, hundreds) = and-yes (leb n 7777 && leb (n / 1000 % 10) 7) (leb (n / 100 % 10) 7) to-hundreds in
@@ -72,8 +72,8 @@ module _ (a b c d : ℕ) (ha : a ≤ 7) (hb : b ≤ 7) (hc : c ≤ 7) (hd : d �
       let units : (512 * a + 64 * b + 8 * c + d) % 8 ≡ d = omega arith in
       rw (thousands, hundreds, tens, units)
 
-four-digits : (n : ℕ) → Octal n → FourOctalDigits n
-four-digits n o = record {
+digits-of : (n : ℕ) → Octal n → FourOctalDigits n
+digits-of n o = record {
   a = n / 1000;
   b = n / 100 % 10;
   c = n / 10 % 10;
@@ -85,10 +85,10 @@ four-digits n o = record {
   sent = decimal n;
 }
 
-of-four : (n : ℕ) → FourOctalDigits n → isSquawk n ≡ true
-of-four n f =
+of-digits : (n : ℕ) → FourOctalDigits n → isSquawk n ≡ true
+of-digits n f =
     ap isSquawk (f .sent)
-    ∙ is-good (1000 * f .a + 100 * f .b + 10 * f .c + f .d)
+    ∙ is-squawk (1000 * f .a + 100 * f .b + 10 * f .c + f .d)
     (sent-digits (f .a) (f .b) (f .c) (f .d) (f .a-octal) (f .b-octal) (f .c-octal) (f .d-octal) .1)
 
 -- ---- 12 bits
@@ -110,34 +110,31 @@ sent-back n o =
 
 -- ---- how many
 
-passing-from : (f : ℕ → Bool) (a b : ℕ) → passing f (a + b) ≡ passing (λ r. f (a + r)) b + passing f a
-unfolding passing
-passing-from f a zero = simp unary-clauses (omega arith)
-passing-from f a (suc b) =
-    let e = passing-from f a b in
-    simp unary-clauses (omega (arith, e))
+count-from : (f : ℕ → Bool) (a b : ℕ) → countBelow (a + b) f ≡ countBelow b (λ r. f (a + r)) + countBelow a f
+unfolding countBelow
+count-from f a zero = simp unary-clauses (omega arith)
+count-from f a (suc b) = let e = count-from f a b in simp unary-clauses (omega (arith, e))
 
-passing-same : (f g : ℕ → Bool) (n : ℕ) → ((r : ℕ) → r < n → f r ≡ g r) → passing f n ≡ passing g n
-unfolding passing
-passing-same f g zero same = refl
-passing-same f g (suc n) same =
-    rw (same n (omega arith), passing-same f g n (λ r l. same r (omega arith)))
+count-same : (f g : ℕ → Bool) (n : ℕ) → ((r : ℕ) → r < n → f r ≡ g r) → countBelow n f ≡ countBelow n g
+unfolding countBelow
+count-same f g zero same = refl
+count-same f g (suc n) same = rw (same n (omega arith), count-same f g n (λ r l. same r (omega arith)))
 
-passing-none : (n : ℕ) → passing (λ r. false) n ≡ 0
-unfolding passing
-passing-none zero = refl
-passing-none (suc n) = let e = passing-none n in omega (arith, e)
+count-none : (n : ℕ) → countBelow n (λ r. false) ≡ 0
+unfolding countBelow
+count-none zero = refl
+count-none (suc n) = let e = count-none n in omega (arith, e)
 
 -- a digit more: of every ten numbers with the same digits before the last, eight pass where those pass
-one-digit-more : (f : ℕ → Bool) (n : ℕ) → passing (λ r. f (r / 10) && leb (r % 10) 7) (n * 10) ≡ passing f n * 8
-unfolding passing
+one-digit-more : (f : ℕ → Bool) (n : ℕ) → countBelow (n * 10) (λ r. f (r / 10) && leb (r % 10) 7) ≡ countBelow n f * 8
+unfolding countBelow
 one-digit-more f zero = refl
 one-digit-more f (suc n) =
     let e = one-digit-more f n in
     let next : suc n * 10 ≡ n * 10 + 10 = omega arith in
-    ap (passing digits) next
-    ∙ passing-from digits (n * 10) 10
-    ∙ ap (λ (k : ℕ). k + passing digits (n * 10)) (passing-same (λ r. digits (n * 10 + r)) (λ r. f n && leb r 7) 10 same ∙ eight (f n))
+    ap (λ (k : ℕ). countBelow k digits) next
+    ∙ count-from digits (n * 10) 10
+    ∙ ap (λ (k : ℕ). k + countBelow (n * 10) digits) (count-same (λ r. digits (n * 10 + r)) (λ r. f n && leb r 7) 10 same ∙ eight (f n))
     ∙ omega (arith, e)
   where
     digits : ℕ → Bool
@@ -149,75 +146,71 @@ one-digit-more f (suc n) =
         let last : (n * 10 + r) % 10 ≡ r = omega arith in
         rw (before, last)
 
-    eight : (t : Bool) → passing (λ r. t && leb r 7) 10 ≡ cond t 1 0 * 8
+    eight : (t : Bool) → countBelow 10 (λ r. t && leb r 7) ≡ cond t 1 0 * 8
     eight true = refl
     eight false = refl
 
--- the last k digits
-last-digits : ℕ → ℕ → Bool
-last-digits zero n = true
-last-digits (suc k) n = last-digits k (n / 10) && leb (n % 10) 7
+-- the last k digits are octal
+octalDigits : ℕ → ℕ → Bool
+octalDigits zero n = true
+octalDigits (suc k) n = octalDigits k (n / 10) && leb (n % 10) 7
 
-same-test : (a b : Bool) → (a ≡ true → b ≡ true) → (b ≡ true → a ≡ true) → a ≡ b
-same-test true b there back = sym (there refl)
-same-test false true there back = back refl
-same-test false false there back = refl
+-- eight times as many for each of four digits
+count-four : countBelow 10000 (octalDigits 4) ≡ 4096
+unfolding octalDigits countBelow
+count-four =
+    one-digit-more (octalDigits 3) 1000
+    ∙ ap (λ (k : ℕ). k * 8) (one-digit-more (octalDigits 2) 100
+    ∙ ap (λ (k : ℕ). k * 8) (one-digit-more (octalDigits 1) 10
+    ∙ ap (λ (k : ℕ). k * 8) (one-digit-more (octalDigits 0) 1)))
 
-at-most : (n a b c d : ℕ) → a ≤ 7 → b ≤ 7 → c ≤ 7 → d ≤ 7 → n ≡ 1000 * a + 100 * b + 10 * c + d → n ≤ 7777
-at-most n a b c d ha hb hc hd e = omega arith
+-- below 10000 the four digits decide: octal ones make 7777 at most
+most : (n a b c d : ℕ) → a ≤ 7 → b ≤ 7 → c ≤ 7 → d ≤ 7 → n ≡ 1000 * a + 100 * b + 10 * c + d → n ≤ 7777
+most n a b c d ha hb hc hd e = omega arith
 
 module _ (n : ℕ) (l : n < 10000) where
-  to-hundreds : n / 10 / 10 ≡ n / 100
-  to-hundreds = omega arith
+  hundreds-of : n / 10 / 10 ≡ n / 100
+  hundreds-of = omega arith
 
-  to-thousands : n / 10 / 10 / 10 ≡ n / 1000
-  to-thousands = omega arith
+  thousands-of : n / 10 / 10 / 10 ≡ n / 1000
+  thousands-of = omega arith
 
-  are-four : isSquawk n ≡ true → last-digits 4 n ≡ true
-  unfolding last-digits
-  are-four e =
-      let o = good-is n e in
-      rw (to-thousands, to-hundreds, le-leb (n / 1000 % 10) 7 (omega (arith, o .most)), le-leb (n / 100 % 10) 7 (o .hundreds), le-leb (n / 10 % 10) 7 (o .tens), le-leb (n % 10) 7 (o .units))
-
-  four-are : last-digits 4 n ≡ true → isSquawk n ≡ true
-  unfolding last-digits
-  four-are e =
-      let (third, units) = and-yes (last-digits 3 (n / 10)) (leb (n % 10) 7) (subst T (sym e) tt) in
-      let (second, tens) = and-yes (last-digits 2 (n / 10 / 10)) (leb (n / 10 % 10) 7) third in
-      let (first, hundreds) = and-yes (last-digits 1 (n / 10 / 10 / 10)) (leb (n / 10 / 10 % 10) 7) second in
-      let last : n / 1000 % 10 ≤ 7 = rw to-thousands at (leb→le (n / 10 / 10 / 10 % 10) 7 first) in
+  at-most : octalDigits 4 n ≡ true → leb n 7777 ≡ true
+  unfolding octalDigits
+  at-most e =
+      let (third, units) = and-yes (octalDigits 3 (n / 10)) (leb (n % 10) 7) (subst T (sym e) tt) in
+      let (second, tens) = and-yes (octalDigits 2 (n / 10 / 10)) (leb (n / 10 % 10) 7) third in
+      let (first, hundreds) = and-yes (octalDigits 1 (n / 10 / 10 / 10)) (leb (n / 10 / 10 % 10) 7) second in
+      let last : n / 1000 % 10 ≤ 7 = rw thousands-of at (leb→le (n / 10 / 10 / 10 % 10) 7 first) in
       let a : n / 1000 ≤ 7 = omega arith in
-      let b : n / 100 % 10 ≤ 7 = rw to-hundreds at (leb→le (n / 10 / 10 % 10) 7 hundreds) in
-      let c : n / 10 % 10 ≤ 7 = leb→le (n / 10 % 10) 7 tens in
-      let d : n % 10 ≤ 7 = leb→le (n % 10) 7 units in
-      is-good n (record { most = at-most n (n / 1000) (n / 100 % 10) (n / 10 % 10) (n % 10) a b c d (decimal n); hundreds = b; tens = c; units = d })
+      let b : n / 100 % 10 ≤ 7 = rw hundreds-of at (leb→le (n / 10 / 10 % 10) 7 hundreds) in
+      le-leb n 7777 (most n (n / 1000) (n / 100 % 10) (n / 10 % 10) (n % 10) a b (leb→le (n / 10 % 10) 7 tens) (leb→le (n % 10) 7 units) (decimal n))
 
-  is-four : isSquawk n ≡ last-digits 4 n
-  is-four = same-test (isSquawk n) (last-digits 4 n) are-four four-are
-
-passing-four : passing (last-digits 4) 10000 ≡ 4096
-unfolding last-digits passing
-passing-four =
-    one-digit-more (last-digits 3) 1000
-    ∙ ap (λ (k : ℕ). k * 8) (one-digit-more (last-digits 2) 100
-    ∙ ap (λ (k : ℕ). k * 8) (one-digit-more (last-digits 1) 10
-    ∙ ap (λ (k : ℕ). k * 8) (one-digit-more (last-digits 0) 1)))
+  is-four : isSquawk n ≡ octalDigits 4 n
+  unfolding isSquawk octalDigits
+  is-four = by (leb n 7777) refl (octalDigits 4 n) refl
+    where
+      by : (m : Bool) → leb n 7777 ≡ m → (t : Bool) → octalDigits 4 n ≡ t → isSquawk n ≡ octalDigits 4 n
+      by true e t u = rw (e, thousands-of, hundreds-of)
+      by false e true u = rw (e, u) (sym e ∙ at-most u)
+      by false e false u = rw (e, u)
 
 past : (r : ℕ) → isSquawk (10000 + r) ≡ false
 unfolding isSquawk
 past r = rw (lt-leb (10000 + r) 7777 (omega arith))
 
-counted : passing isSquawk 65536 ≡ 4096
+counted : countBelow 65536 isSquawk ≡ 4096
 counted =
-    passing-from isSquawk 10000 55536
-    ∙ ap (λ (k : ℕ). k + passing isSquawk 10000) (passing-same (λ r. isSquawk (10000 + r)) (λ r. false) 55536 (λ r l. past r) ∙ passing-none 55536)
-    ∙ ap (λ (k : ℕ). 0 + k) (passing-same isSquawk (last-digits 4) 10000 is-four ∙ passing-four)
+    count-from isSquawk 10000 55536
+    ∙ ap (λ (k : ℕ). k + countBelow 10000 isSquawk) (count-same (λ r. isSquawk (10000 + r)) (λ r. false) 55536 (λ r l. past r) ∙ count-none 55536)
+    ∙ ap (λ (k : ℕ). 0 + k) (count-same isSquawk (octalDigits 4) 10000 is-four ∙ count-four)
 
 pub laws : SquawkLaws
 laws = record {
-  four-octal-digits = λ n. ((λ e. four-digits n (good-is n e)), of-four n);
-  sent-is-good = λ n l. is-good (sentFor n) (twelve-bits n l .1);
-  bits-return = λ n l. twelve-bits n l .0;
-  number-returns = λ n e. sent-back n (good-is n e);
-  good-numbers = counted;
+  four-octal-digits = λ n. ((λ e. digits-of n (octal-of n e)), of-digits n);
+  same-digits = λ a b c d ha hb hc hd. sent-digits a b c d ha hb hc hd .0;
+  sent-is-squawk = λ n l. is-squawk (sentFor n) (twelve-bits n l .1);
+  code-returns = λ n l. twelve-bits n l .0;
+  number-returns = λ n e. sent-back n (octal-of n e);
+  codes = counted;
 }

@@ -2,10 +2,12 @@
 use mathlib.Core.Path.{_≡_}
 use mathlib.Core.Bool.{true, false}
 use Rattle.field_codes.specs.Codes.{isSquawk, isEmitter, isSizeCode}
+use Rattle.field_codes.specs.Squawks.{modeA}
 
 pub record CodeEdges : Type 0 where
-  -- 7 is the code 0007; 1280 was sent once as a code
+  -- 7 is the code 0007; 1280 is what a renter typed (document 02, c)
   pub squawk-7 : isSquawk 7 ≡ true
+  pub code-of-7 : modeA 7 ≡ 7
   pub squawk-8 : isSquawk 8 ≡ false
   pub squawk-1277 : isSquawk 1277 ≡ true
   pub squawk-1280 : isSquawk 1280 ≡ false
@@ -14,6 +16,7 @@ pub record CodeEdges : Type 0 where
   pub squawk-7778 : isSquawk 7778 ≡ false
   pub squawk-8000 : isSquawk 8000 ≡ false
   pub squawk-10000 : isSquawk 10000 ≡ false
+  pub squawk-65535 : isSquawk 65535 ≡ false
   pub emitter-19 : isEmitter 19 ≡ true
   pub emitter-20 : isEmitter 20 ≡ false
   pub size-15 : isSizeCode 15 ≡ true

@@ -1,3 +1,3 @@
 pub mod Codes
-pub mod Edges
 pub mod Squawks
+pub mod Edges

@@ -14,7 +14,7 @@ const TENTH: u64 = 429496730;
 const EIGHT_TENTHS: u64 = 3435973837;
 
 // Whether a number is a Mode A code. The first digit behind the point is at most 7 where the fraction is below 0.8: 1280 hundredths are
-// 12.80, so 1280 is none. A product for each digit is quicker than divisions.
+// 12.80, so 1280 is no code. A product for each digit is quicker than divisions.
 pub fn is_squawk(code: u16) -> bool
     ensures { λ r. ⌜ r ≡ isSquawk code ⌝ }
 {

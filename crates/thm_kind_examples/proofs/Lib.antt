@@ -1,2 +1,3 @@
 pub mod Ucp
 pub mod Mavlink
+pub mod Squawks

@@ -1,3 +1,4 @@
 pub mod Octets
 pub mod Ucp
 pub mod Mavlink
+pub mod Squawks
