@@ -62,7 +62,7 @@ struct ostrogosz_mavlink_static {
     uint16_t stall_speed; /* stallSpeed: cm/s */
     uint8_t callsign[8];  /* range A-Z, 0-9, space */
     uint8_t capability;   /* range 0: a unit that announces one is refused */
-    uint8_t emitter;      /* range 0 to 19 */
+    uint8_t emitter;      /* range 0 to 21, OSTROGOSZ_EMITTER_ */
     uint8_t alw_encode;   /* alwEncode: range 0 to 15, length and width code */
     uint8_t gps_lat_offs; /* gpsLatOffs: range 0 to 7, lateral antenna offset */
     uint8_t gps_lon_offs; /* gpsLonOffs: range 0 to 31, longitudinal one */
@@ -140,8 +140,8 @@ struct ostrogosz_mavlink_traffic {
     uint8_t altitude_type;  /* 0 pressure altitude, 1 geometric */
     uint8_t callsign[8];    /* any octets */
     uint8_t callsign_ninth; /* the callsign's ninth octet */
-    uint8_t emitter_type;
-    uint8_t tslc; /* seconds since the last communication */
+    uint8_t emitter_type;   /* any octet, OSTROGOSZ_EMITTER_ */
+    uint8_t tslc;           /* seconds since the last communication */
 };
 OSTROGOSZ_SIZE(ostrogosz_mavlink_traffic, 40);
 OSTROGOSZ_OFFSET(ostrogosz_mavlink_traffic, icao_address, 0);

@@ -260,10 +260,10 @@ struct ostrogosz_ucp_report {
     uint16_t speed;        /* 12 bits; knots; in GDL90 0xFFF is no data */
     int16_t vertical_rate; /* 12 bits; 64 n feet per minute; no data: -2048 */
     uint8_t track;         /* steps of 360 / 256 degrees */
-    uint8_t emitter;
-    uint8_t callsign[8]; /* any octets */
-    uint8_t emergency;   /* 4 bits */
-    uint8_t spare;       /* 4 bits */
+    uint8_t emitter;       /* any octet, OSTROGOSZ_EMITTER_ */
+    uint8_t callsign[8];   /* any octets */
+    uint8_t emergency;     /* 4 bits */
+    uint8_t spare;         /* 4 bits */
 };
 OSTROGOSZ_SIZE(ostrogosz_ucp_report, 40);
 OSTROGOSZ_OFFSET(ostrogosz_ucp_report, alert, 0);
@@ -330,7 +330,7 @@ OSTROGOSZ_OFFSET(ostrogosz_ucp_control, identity, 15);
 struct ostrogosz_ucp_initialization {
     uint8_t version;      /* any */
     uint32_t address;     /* 24 bits */
-    uint8_t emitter;      /* range 0 to 19 */
+    uint8_t emitter;      /* range 0 to 21, OSTROGOSZ_EMITTER_ */
     uint8_t callsign[8];  /* range A-Z, 0-9, space */
     uint8_t stall_speed;  /* knots */
     uint8_t size;         /* range 0 to 15, a code of length and width */

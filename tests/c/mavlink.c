@@ -1,6 +1,7 @@
 /* MAVLink frames, called as a driver calls them. */
 #include <string.h>
 
+#include "emitters.h"
 #include "expect.h"
 #include "ostrogosz.h"
 #include "output.h"
@@ -351,7 +352,7 @@ static void try_fields(void)
     TRY_FIELD(201, static_data.callsign[0], ' ', 'a');
     TRY_FIELD(201, static_data.callsign[7], '0', 0);
     TRY_FIELD(201, static_data.capability, 0, 1);
-    TRY_FIELD(201, static_data.emitter, 0, 20);
+    TRY_FIELD(201, static_data.emitter, 0, 22);
     TRY_FIELD(201, static_data.alw_encode, 0, 16);
     TRY_FIELD(201, static_data.gps_lat_offs, 7, 8);
     TRY_FIELD(201, static_data.gps_lon_offs, 31, 32);
@@ -395,27 +396,64 @@ static uint8_t *with_squawk(size_t kind, unsigned squawk, struct message *m)
     return frame;
 }
 
-static int takes_squawk(size_t kind, unsigned squawk)
+/* The frame of 201 or 246 with this emitter, which m gets too. */
+static uint8_t *with_emitter(size_t kind, unsigned emitter, struct message *m)
 {
-    struct message m = sample;
-    size_t length = kinds[kind].length;
-    const uint8_t *frame = with_squawk(kind, squawk, &m);
+    static uint8_t frame[LONGEST];
 
-    return reads(frame, length, length, &m) &&
-           wrote(write_frame(kinds[kind].id, &m, length), frame, length);
+    memcpy(frame, kinds[kind].frame, sizeof frame);
+    frame[HEAD + (kinds[kind].id == 201 ? 15 : 36)] = (uint8_t)emitter;
+    seal(frame, kinds[kind].length, kinds[kind].extra);
+    m->static_data.emitter = m->traffic.emitter_type = (uint8_t)emitter;
+    return frame;
+}
+
+/* Each way. */
+static int takes(size_t kind, const uint8_t *frame, const struct message *m)
+{
+    size_t length = kinds[kind].length;
+
+    return reads(frame, length, length, m) &&
+           wrote(write_frame(kinds[kind].id, m, length), frame, length);
 }
 
 /* 25, and behind a wrong check 24. */
-static int refuses_squawk(size_t kind, unsigned squawk)
+static int refuses(size_t kind, uint8_t *frame, const struct message *m)
 {
-    struct message m = sample;
     uint32_t id = kinds[kind].id;
     size_t length = kinds[kind].length;
-    uint8_t *frame = with_squawk(kind, squawk, &m);
-    int held = read_refused(id, frame, length, 25) && field_refused(id, &m);
+    int held = read_refused(id, frame, length, 25) && field_refused(id, m);
 
     frame[length - 1] ^= 1;
     return held && read_refused(id, frame, length, 24);
+}
+
+static int takes_squawk(size_t kind, unsigned squawk)
+{
+    struct message m = sample;
+
+    return takes(kind, with_squawk(kind, squawk, &m), &m);
+}
+
+static int refuses_squawk(size_t kind, unsigned squawk)
+{
+    struct message m = sample;
+
+    return refuses(kind, with_squawk(kind, squawk, &m), &m);
+}
+
+static int takes_emitter(size_t kind, unsigned emitter)
+{
+    struct message m = sample;
+
+    return takes(kind, with_emitter(kind, emitter, &m), &m);
+}
+
+static int refuses_emitter(size_t kind, unsigned emitter)
+{
+    struct message m = sample;
+
+    return refuses(kind, with_emitter(kind, emitter, &m), &m);
 }
 
 /* 65535 in a traffic report alone. */
@@ -510,7 +548,7 @@ static void try_read_fields(void)
     EXPECT(changed_refused(1, HEAD + 6, 'a', 24, 25));   /* 201: callsign */
     EXPECT(changed_refused(1, HEAD + 13, '_', 24, 25));  /* 201: callsign */
     EXPECT(changed_refused(1, HEAD + 14, 0x10, 24, 25)); /* 201: capability */
-    EXPECT(changed_refused(1, HEAD + 15, 20, 24, 25));   /* 201: emitter */
+    EXPECT(changed_refused(1, HEAD + 15, 22, 24, 25));   /* 201: emitter */
     EXPECT(changed_refused(1, HEAD + 16, 16, 24, 25));   /* 201: alw_encode */
     EXPECT(changed_refused(1, HEAD + 17, 8, 24, 25));    /* 201: gps_lat_offs */
     EXPECT(changed_refused(1, HEAD + 18, 32, 24, 25));   /* 201: gps_lon_offs */
@@ -538,6 +576,8 @@ int main(void)
     try_statuses();
     try_fields();
     try_both_squawks();
+    try_ranged_emitters(1, takes_emitter, refuses_emitter);
+    try_carried_emitters(4, takes_emitter);
     try_read_refusals();
     try_other_kinds();
     try_checks();

@@ -1,6 +1,7 @@
 /* The messages of the UCP line, called as a driver calls them. */
 #include <string.h>
 
+#include "emitters.h"
 #include "expect.h"
 #include "ostrogosz.h"
 #include "output.h"
@@ -438,7 +439,7 @@ static void try_other_fields(void)
     /* A space inside, before the Z. */
     TRY_FIELD(45, control.identity[3], 'A', ' ');
     TRY_FIELD(117, initialization.address, 0xFFFFFF, 0x1000000);
-    TRY_FIELD(117, initialization.emitter, 0, 20);
+    TRY_FIELD(117, initialization.emitter, 0, 22);
     TRY_FIELD(117, initialization.callsign[7], ' ', 0);
     TRY_FIELD(117, initialization.size, 0, 16);
     TRY_FIELD(117, initialization.lateral, 7, 8);
@@ -457,24 +458,66 @@ static uint8_t *with_squawk(size_t kind, unsigned squawk, struct message *m)
     return body;
 }
 
+/* The body of 10, 20 or 117 with this emitter, which m gets too. */
+static uint8_t *with_emitter(size_t kind, unsigned emitter, struct message *m)
+{
+    static uint8_t body[28];
+
+    memcpy(body, kinds[kind].body, sizeof body);
+    body[kinds[kind].id == 117 ? 7 : 18] = (uint8_t)emitter;
+    m->report.emitter = m->initialization.emitter = (uint8_t)emitter;
+    return body;
+}
+
+/* Each way. */
+static int takes(size_t kind, const uint8_t *body, const struct message *m)
+{
+    uint32_t id = kinds[kind].id;
+    size_t length = kinds[kind].length;
+
+    return reads(body, length, m) &&
+           wrote(write_body(id, m, length), body, length) &&
+           sends(id, m, body, length);
+}
+
+/* 13, behind a wrong version or signature 12, and cut short 11. */
+static int refuses(size_t kind, uint8_t *body, const struct message *m)
+{
+    size_t length = kinds[kind].length;
+    int held =
+        read_refused(body, length, 13) && field_refused(kinds[kind].id, m);
+
+    body[1] = 2;
+    return held && read_refused(body, length, 12) &&
+           read_refused(body, length - 1, 11);
+}
+
 static int takes_squawk(size_t kind, unsigned squawk)
 {
     struct message m = sample;
-    const uint8_t *body = with_squawk(kind, squawk, &m);
 
-    return reads(body, 18, &m) && wrote(write_body(45, &m, 18), body, 18) &&
-           sends(45, &m, body, 18);
+    return takes(kind, with_squawk(kind, squawk, &m), &m);
 }
 
-/* 13, and behind a wrong version 12. */
 static int refuses_squawk(size_t kind, unsigned squawk)
 {
     struct message m = sample;
-    uint8_t *body = with_squawk(kind, squawk, &m);
-    int held = read_refused(body, 18, 13) && field_refused(45, &m);
 
-    body[1] = 2;
-    return held && read_refused(body, 18, 12);
+    return refuses(kind, with_squawk(kind, squawk, &m), &m);
+}
+
+static int takes_emitter(size_t kind, unsigned emitter)
+{
+    struct message m = sample;
+
+    return takes(kind, with_emitter(kind, emitter, &m), &m);
+}
+
+static int refuses_emitter(size_t kind, unsigned emitter)
+{
+    struct message m = sample;
+
+    return refuses(kind, with_emitter(kind, emitter, &m), &m);
 }
 
 /* A payload has 435 octets, no more and no fewer. */
@@ -525,7 +568,7 @@ static void try_read_refusals(void)
     EXPECT(changed_refused(5, 8, 0x1F, OSTROGOSZ_REFUSAL_FIELD)); /* squawk */
     EXPECT(changed_refused(5, 13, ' ', 13)); /* identity: space inside */
     EXPECT(changed_refused(5, 17, 'a', 13)); /* identity: letter */
-    EXPECT(changed_refused(6, 7, 20, 13));   /* emitter */
+    EXPECT(changed_refused(6, 7, 22, 13));   /* emitter */
     EXPECT(changed_refused(6, 8, 'n', 13));  /* callsign */
     EXPECT(changed_refused(6, 17, 16, 13));  /* size */
 }
@@ -584,6 +627,9 @@ int main(void)
     try_other_fields();
     try_squawks(5, takes_squawk, refuses_squawk);
     EXPECT(refuses_squawk(5, 65535));
+    try_ranged_emitters(6, takes_emitter, refuses_emitter);
+    try_carried_emitters(1, takes_emitter);
+    try_carried_emitters(3, takes_emitter);
     try_payloads();
     try_read_refusals();
     try_no_pointer();

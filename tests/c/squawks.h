@@ -3,13 +3,7 @@
 #ifndef SQUAWKS_H
 #define SQUAWKS_H
 
-#include <stddef.h>
-#include <stdint.h>
-
-#include "expect.h"
-
-/* Whether a kind takes a squawk, or refuses it, each way. */
-typedef int (*squawk_test)(size_t kind, unsigned squawk);
+#include "numbers.h"
 
 /* Codes, and beside each a number that is none: an 8 in every place, or too
  * many digits. 7 is 0007. */
@@ -19,20 +13,9 @@ static const unsigned by_hand[][2] = {
     {1200, 9999}, {0, 10000},   {777, 57777}, {77, 65534},
 };
 
-/* Says which squawk it was where a test fails. */
-static inline int squawk_holds(squawk_test test, size_t kind, unsigned squawk)
-{
-    int holds = test(kind, squawk);
-
-    if (!holds) {
-        printf("kind %u, squawk %u\n", (unsigned)kind, squawk);
-    }
-    return holds;
-}
-
 /* Every number but 65535, of which each kind has its own to say. */
-static inline void try_squawks(size_t kind, squawk_test takes,
-                               squawk_test refuses)
+static inline void try_squawks(size_t kind, number_test takes,
+                               number_test refuses)
 {
     static uint8_t is_code[65535];
     unsigned octal, squawk;
@@ -40,8 +23,8 @@ static inline void try_squawks(size_t kind, squawk_test takes,
     int held = 1;
 
     for (i = 0; i < sizeof by_hand / sizeof by_hand[0]; i++) {
-        EXPECT(squawk_holds(takes, kind, by_hand[i][0]));
-        EXPECT(squawk_holds(refuses, kind, by_hand[i][1]));
+        EXPECT(number_holds(takes, kind, by_hand[i][0]));
+        EXPECT(number_holds(refuses, kind, by_hand[i][1]));
     }
     /* Put together from digits: the rule takes numbers apart. */
     for (octal = 0; octal < 4096; octal++) {
@@ -50,7 +33,7 @@ static inline void try_squawks(size_t kind, squawk_test takes,
     }
     for (squawk = 0; squawk < sizeof is_code; squawk++) {
         held = held &&
-               squawk_holds(is_code[squawk] ? takes : refuses, kind, squawk);
+               number_holds(is_code[squawk] ? takes : refuses, kind, squawk);
     }
     EXPECT(held);
 }

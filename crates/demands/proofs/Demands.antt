@@ -50,6 +50,8 @@ use Rattle.thm_ucp_examples.proofs.Examples as frame-examples
 use Rattle.thm_ucp_examples.proofs.LinePremises.{ends-in-met, stretch-met, slice-line-met, writer-call-met}
 use Rattle.thm_kind_examples.proofs.Ucp as ucp-kinds
 use Rattle.thm_kind_examples.proofs.Mavlink as mavlink-kinds
+use Rattle.thm_kind_examples.proofs.Squawks as squawk-ranges
+use Rattle.thm_kind_examples.proofs.Emitters as emitter-ranges
 use Rattle.thm_c_examples.proofs.Structs.{struct-examples}
 use Rattle.thm_c_examples.proofs.Numbers.{number-examples}
 use Rattle.thm_c_examples.proofs.Premises.{struct-premises}
@@ -284,6 +286,10 @@ examples =
       packets = packet-examples.examples;
       ucpKinds = ucp-kinds.examples;
       mavlinkKinds = mavlink-kinds.examples;
+      squawks = squawk-ranges.ranges;
+      digit8 = squawk-ranges.examples;
+      emitters = emitter-ranges.ranges;
+      obstacles = emitter-ranges.examples;
       structs = struct-examples;
       numbers = number-examples;
       bodies = premises-met;

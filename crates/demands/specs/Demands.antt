@@ -65,6 +65,8 @@ use Rattle.thm_ucp_examples.specs.LinePremises.{EndsInMet, StretchMet, SliceLin
 use Rattle.thm_mavlink_messages.specs.Examples.{PacketExamples}
 use Rattle.thm_kind_examples.specs.Ucp.{UcpKindExamples}
 use Rattle.thm_kind_examples.specs.Mavlink.{MavlinkKindExamples}
+use Rattle.thm_kind_examples.specs.Squawks.{SquawkRanges, Refuses1280}
+use Rattle.thm_kind_examples.specs.Emitters.{EmitterRanges, Obstacles}
 use Rattle.thm_c_examples.specs.Structs.{StructExamples}
 use Rattle.thm_c_examples.specs.Numbers.{NumberExamples}
 use Rattle.thm_c_examples.specs.Premises.{StructPremises}
@@ -325,6 +327,12 @@ pub record Examples : Type 0 where
   -- which every value fits; what raw numbers mean
   pub ucpKinds : UcpKindExamples
   pub mavlinkKinds : MavlinkKindExamples
+  -- ---- the ranges that document 02 changed, of every message that has such a field, both ways, and by example: c, the squawk; e, the
+  -- emitter
+  pub squawks : SquawkRanges
+  pub digit8 : Refuses1280
+  pub emitters : EmitterRanges
+  pub obstacles : Obstacles
   -- ---- C: each message struct has its fields, by name, at their offsets; the line, the answers, a measure and the failures have their
   -- numbers in the header's order
   pub structs : StructExamples

@@ -19,8 +19,9 @@ edges =
       squawk-8000 = refl;
       squawk-10000 = refl;
       squawk-65535 = refl;
-      emitter-19 = refl;
       emitter-20 = refl;
+      emitter-21 = refl;
+      emitter-22 = refl;
       size-15 = refl;
       size-16 = refl;
     }

@@ -1,5 +1,5 @@
--- The ranges of coded fields (document 01, "Message kinds on the UCP line" and "MAVLink kinds"; of the squawk document 02, c): each
--- rule is named once, here. Assumes nothing.
+-- The ranges of coded fields (document 01, "Message kinds on the UCP line" and "MAVLink kinds"; of the squawk document 02, c, and of the
+-- emitter e): each rule is named once, here. Assumes nothing.
 use mathlib.Core.Bool.{Bool, _&&_}
 use Prim.Native.Nat.{ℕ, _/_, _%_}
 use lib.Dec.{leb}
@@ -13,9 +13,9 @@ unfoldable pub isSquawk : ℕ → Bool
 isSquawk code =
     leb code 7777 && endsOctal (code / 1000) && endsOctal (code / 100) && endsOctal (code / 10) && endsOctal code
 
--- an emitter category: 0 to 19
+-- an emitter category: 0 to 21, of which 20 is a cluster obstacle and 21 a line obstacle (document 004)
 unfoldable pub isEmitter : ℕ → Bool
-isEmitter category = leb category 19
+isEmitter category = leb category 21
 
 -- a code of the aircraft's length and width: 0 to 15
 unfoldable pub isSizeCode : ℕ → Bool

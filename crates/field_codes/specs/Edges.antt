@@ -17,7 +17,9 @@ pub record CodeEdges : Type 0 where
   pub squawk-8000 : isSquawk 8000 ≡ false
   pub squawk-10000 : isSquawk 10000 ≡ false
   pub squawk-65535 : isSquawk 65535 ≡ false
-  pub emitter-19 : isEmitter 19 ≡ true
-  pub emitter-20 : isEmitter 20 ≡ false
+  -- obstacles of the ground crews (document 02, e)
+  pub emitter-20 : isEmitter 20 ≡ true
+  pub emitter-21 : isEmitter 21 ≡ true
+  pub emitter-22 : isEmitter 22 ≡ false
   pub size-15 : isSizeCode 15 ≡ true
   pub size-16 : isSizeCode 16 ≡ false

@@ -29,7 +29,7 @@ pub fn is_squawk(code: u16) -> bool
 pub fn is_emitter(category: u8) -> bool
     ensures { λ r. ⌜ r ≡ isEmitter category ⌝ }
 {
-    category <= 19
+    category <= 21
 }
 
 // Whether a number is a code of the aircraft's length and width.

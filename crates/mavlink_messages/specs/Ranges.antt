@@ -7,8 +7,8 @@ use Rattle.field_texts.specs.Text.{isSpaced}
 use Rattle.field_layout.specs.declared.Text.{Text}
 use Rattle.field_layout.specs.Layout.{textOctets}
 
--- 201: an address of 24 bits, a callsign of eight of A-Z, 0-9 and space and then 00, an emitter of 0 to 19, a size of 0 to 15,
--- a lateral offset of 0 to 7 and a longitudinal one of 0 to 31
+-- 201: an address of 24 bits, a callsign of eight of A-Z, 0-9 and space and then 00, an emitter, a size code, a lateral offset of
+-- 0 to 7 and a longitudinal one of 0 to 31
 unfoldable pub staticFits : ℕ → Text → ℕ → ℕ → ℕ → ℕ → ℕ → Bool
 staticFits address callsign capability emitter size lateral longitudinal =
     ltb address 0x1000000

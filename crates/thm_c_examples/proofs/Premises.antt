@@ -42,8 +42,8 @@ struct-premises =
       request = record { small = octets requestHeld refl; size = refl; fit = refl; read = record { answers = refl; leaves = refl } };
       squawk-7777 = record { small = octets (withSquawk 12 0x61 controlGiven) refl; size = refl; fit = refl; read = record { answers = refl; leaves = refl } };
       squawk-7778 = refl;
-      emitter-19 = record { small = octets (withOctet 8 19 initializationHeld) refl; size = refl; fit = refl; read = record { answers = refl; leaves = refl } };
-      emitter-20 = refl;
+      emitter-21 = record { small = octets (withOctet 8 21 initializationHeld) refl; size = refl; fit = refl; read = record { answers = refl; leaves = refl } };
+      emitter-22 = refl;
       notLonger = λ m. let z : _≡_ {A = ℕ} 2 1 = m .size in omega arith;
       notOctet = λ m. omega (arith, m .small 0);
       written = record { answers = refl; leaves = refl };
@@ -53,8 +53,8 @@ struct-premises =
       headerSmall = octets headerHeld refl;
       headerSize = refl;
       stream = record { small = octets streamHeld refl; size = refl; fit = refl };
-      static-emitter-19 = record { small = octets (withOctet 15 19 staticHeld) refl; size = refl; fit = refl };
-      static-emitter-20 = refl;
+      static-emitter-21 = record { small = octets (withOctet 15 21 staticHeld) refl; size = refl; fit = refl };
+      static-emitter-22 = refl;
       static-address = refl;
       dynamic-7777 = record { small = octets (withSquawk 36 0x61 dynamicHeld) refl; size = refl; fit = refl };
       dynamic-7778 = refl;

@@ -75,8 +75,8 @@ pub record StructPremises : Type 0 where
   pub request : StructMet requestFormat requestStruct requestHeld
   pub squawk-7777 : StructMet controlFormat controlStruct (withSquawk 12 0x61 controlGiven)
   pub squawk-7778 : StructUnfit controlFormat controlStruct (withSquawk 12 0x62 controlGiven)
-  pub emitter-19 : StructMet initializationFormat initializationStruct (withOctet 8 19 initializationHeld)
-  pub emitter-20 : StructUnfit initializationFormat initializationStruct (withOctet 8 20 initializationHeld)
+  pub emitter-21 : StructMet initializationFormat initializationStruct (withOctet 8 21 initializationHeld)
+  pub emitter-22 : StructUnfit initializationFormat initializationStruct (withOctet 8 22 initializationHeld)
   -- a struct with an octet more, and a number that is no octet
   pub notLonger : StructMet requestFormat requestStruct (0x2B ∷ 0x00 ∷ []) → ⊥
   pub notOctet : StructMet requestFormat requestStruct (0x100 ∷ []) → ⊥
@@ -89,8 +89,8 @@ pub record StructPremises : Type 0 where
   pub headerSmall : Octets headerHeld
   pub headerSize : length headerHeld ≡ structSize headerStruct
   pub stream : MavlinkStructMet dataStreamStruct DataStream streamHeld
-  pub static-emitter-19 : MavlinkStructMet staticStruct Static (withOctet 15 19 staticHeld)
-  pub static-emitter-20 : MavlinkStructUnfit staticStruct Static (withOctet 15 20 staticHeld)
+  pub static-emitter-21 : MavlinkStructMet staticStruct Static (withOctet 15 21 staticHeld)
+  pub static-emitter-22 : MavlinkStructUnfit staticStruct Static (withOctet 15 22 staticHeld)
   pub static-address : MavlinkStructUnfit staticStruct Static (withOctet 3 1 staticHeld)
   pub dynamic-7777 : MavlinkStructMet dynamicStruct Dynamic (withSquawk 36 0x61 dynamicHeld)
   pub dynamic-7778 : MavlinkStructUnfit dynamicStruct Dynamic (withSquawk 36 0x62 dynamicHeld)

@@ -1,10 +1,10 @@
 -- What the three kinds' ranges say of a squawk: the laws of the rule, and the examples by computation. Assumes nothing.
-use mathlib.Core.Path.{_≡_, refl, _∙_, ap₂}
-use mathlib.Core.Bool.{Bool, true, false, _&&_, _||_, or-true}
+use mathlib.Core.Path.{_≡_, refl}
+use mathlib.Core.Bool.{Bool, true, false, _||_, or-true}
 use mathlib.Core.Logic.{_⊎_, inl, inr, _↔_}
-use Prim.Native.Nat.{ℕ, _≤_}
-use lib.Dec.{eqb, leb}
-use borrow.Author.Tests.{leb-true, le-leb, eqb-true, eq-eqb}
+use Prim.Native.Nat.{ℕ}
+use lib.Dec.{eqb}
+use borrow.Author.Tests.{eqb-true, eq-eqb}
 use Rattle.crc_polynomial.specs.Polynomial.{step, reduced, polynomial}
 use Rattle.crc_x25.specs.Check.{bitsUp, wireBits, next, register, mirrored, x25}
 use Rattle.field_codes.specs.Codes.{isSquawk}
@@ -14,7 +14,6 @@ use Rattle.field_texts.specs.Text.{allSpaces, isPadded}
 use Rattle.field_layout.specs.Layout.{textOctets}
 use Rattle.field_signed.specs.Signed.{signed, holds}
 use Rattle.field_format.specs.Format.{bodyOf, valueIn, fits}
-use Rattle.field_format.proofs.Conjunction.{both}
 use Rattle.ucp_answers.specs.Refusals.{refusalBy, refusalOf, reads}
 use Rattle.ucp_messages.specs.Kinds.{kindOf}
 use Rattle.ucp_messages.specs.Messages.{answerAs, messageFits}
@@ -22,13 +21,7 @@ use Rattle.mavlink_frame.specs.Frame.{mavlinkKind, mavlinkFrame}
 use Rattle.mavlink_frame.specs.Reader.{foundOf, found}
 use Rattle.mavlink_messages.specs.Ranges.{dynamicFits, trafficFits}
 use Rattle.thm_kind_examples.specs.Squawks.{SquawkRanges, Refuses1280}
-
--- the rule and another test, together or one of them
-with-test : (n : ℕ) (test : Bool) → ((isSquawk n && test) ≡ true) ↔ (FourOctalDigits n × (test ≡ true))
-with-test n test = (
-  (λ e. let (code, t) = both (isSquawk n) test e in (laws .four-octal-digits n .0 code, t)),
-  (λ (f, t). ap₂ _&&_ (laws .four-octal-digits n .1 f) t),
-)
+use Rattle.thm_kind_examples.proofs.Tests.{most, itself, also}
 
 -- of 246
 or-mark : (n : ℕ) → ((isSquawk n || eqb n 65535) ≡ true) ↔ (FourOctalDigits n ⊎ (n ≡ 65535))
@@ -46,11 +39,8 @@ pub ranges : SquawkRanges
 unfolding dynamicFits trafficFits
 ranges =
     record {
-      control = λ c. with-test (c .squawk) (isPadded (textOctets (c .identity)));
-      dynamic = λ d. (
-        (λ e. let (code, fix) = with-test (d .squawk) (leb (d .«fix_type») 5) .0 e in (code, leb-true (d .«fix_type») 5 fix)),
-        (λ (code, fix). with-test (d .squawk) (leb (d .«fix_type») 5) .1 (code, le-leb (d .«fix_type») 5 fix)),
-      );
+      control = λ c. also _ _ (laws .four-octal-digits (c .squawk)) (itself (isPadded (textOctets (c .identity))));
+      dynamic = λ d. also _ _ (laws .four-octal-digits (d .squawk)) (most (d .«fix_type») 5);
       traffic = λ t. or-mark (t .squawk);
     }
 

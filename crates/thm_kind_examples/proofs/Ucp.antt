@@ -82,13 +82,13 @@ examples =
       lateral-in-the-top-bits = record { read = refl; fit = refl; written = refl };
       signature-66 = refl;
       subtype-2 = refl;
-      emitter-20 = refl;
+      emitter-22 = refl;
       lower-case-callsign = refl;
       callsign-ends-in-00 = refl;
       size-16 = refl;
       address-wide = refl;
       lateral-8 = refl;
       longitudinal-32 = refl;
-      emitter-20-unfit = refl;
+      emitter-22-unfit = refl;
       size-16-unfit = refl;
     }

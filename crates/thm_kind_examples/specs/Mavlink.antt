@@ -57,22 +57,22 @@ streamValue =
 abbrev pub staticFrame : List ℕ
 staticFrame = 0xFE ∷ 0x13 ∷ 0x01 ∷ 0x02 ∷ 0x03 ∷ 0xC9 ∷ 0xFF ∷ 0xFF ∷ 0xFF ∷ 0xFF ∷ 0x34 ∷ 0x12 ∷ 0x41 ∷ 0x20 ∷ 0x42 ∷ 0x20 ∷ 0x39 ∷ 0x5A ∷ 0x30 ∷ 0x20 ∷ 0x00 ∷ 0x13 ∷ 0x0F ∷ 0x07 ∷ 0x1F ∷ 0x11 ∷ 0x77 ∷ []
 
-abbrev pub staticWith : ℕ → static-as.Static
-staticWith address =
+abbrev pub staticWith : ℕ → ℕ → static-as.Static
+staticWith address emitter =
     record {
       icao = address;
       integrity = 0xFF;
       «stall_speed» = 0x1234;
       callsign = letters 0x41 0x20 0x42 0x20 0x39 0x5A 0x30 0x20;
       capability = 0;
-      emitter = 19;
+      emitter = emitter;
       «alw_encode» = 15;
       «gps_lat_offs» = 7;
       «gps_lon_offs» = 31;
     }
 
 abbrev pub staticValue : static-as.Static
-staticValue = staticWith 0xFFFFFF
+staticValue = staticWith 0xFFFFFF 19
 
 -- ---- 202: squawk 7777, fix 5, signed fields on both sides of zero
 abbrev pub dynamicFrame : List ℕ
@@ -146,11 +146,11 @@ pub record MavlinkKindExamples : Type 0 where
   pub stream : FrameCarries streamFrame (DataStream streamValue) (failures 0 none)
   -- ---- 201
   pub static : FrameCarries staticFrame (Static staticValue) (failures 0 none)
-  pub address-of-25-bits : inRange (Static (staticWith 0x1000000)) ≡ false
+  pub address-of-25-bits : inRange (Static (staticWith 0x1000000 19)) ≡ false
   pub lower-case : OutOfRange 201 6 0x61 (Static staticValue)
   pub hyphen : OutOfRange 201 6 0x2D (Static staticValue)
   pub ninth-octet : OutOfRange 201 14 0x20 (Static staticValue)
-  pub emitter-20 : OutOfRange 201 15 20 (Static staticValue)
+  pub emitter-22 : OutOfRange 201 15 22 (Static staticValue)
   pub size-16 : OutOfRange 201 16 16 (Static staticValue)
   pub lateral-8 : OutOfRange 201 17 8 (Static staticValue)
   pub longitudinal-32 : OutOfRange 201 18 32 (Static staticValue)

@@ -7,6 +7,7 @@
 mod best;
 mod best_rows;
 mod check;
+mod emitter;
 mod lister;
 mod lister_rows;
 mod mavlink;

@@ -9,6 +9,7 @@ use ostrogosz::mavlink::{DataStream, Dynamic, Header, Static, Status, Traffic};
 use ostrogosz::mavlink::{Frame, Message};
 use ostrogosz::Refusal;
 
+use crate::emitter::is_emitter;
 use crate::squawk::is_squawk;
 use crate::x25::x25;
 
@@ -240,7 +241,7 @@ fn static_fits(of: &Static) -> bool {
     of.icao < 1 << 24
         && is_callsign(&of.callsign)
         && of.capability == 0
-        && of.emitter <= 19
+        && is_emitter(of.emitter)
         && of.alw_encode <= 15
         && of.gps_lat_offs <= 7
         && of.gps_lon_offs <= 31
@@ -415,16 +416,31 @@ mod tests {
         }
     }
 
-    #[test]
-    fn every_squawk_is_answered_alike() {
-        let mut generator = Generator::new(64);
-        for kind in Kind::WITH_SQUAWK {
-            for squawk in 0..=u16::MAX {
+    /// Every number of a field in each kind that has it: how many were tried.
+    fn assert_same_numbers(name: &'static str, seed: u64) -> u64 {
+        let mut generator = Generator::new(seed);
+        let mut tried = 0;
+        for (kind, field) in Kind::with_field(name) {
+            for number in field.edges.every() {
                 let header = any_header(&mut generator);
-                let (message, frame) = kind.with_squawk(squawk, header, &mut generator);
+                let (message, frame) = kind.with(field, number, header, &mut generator);
                 assert_same_reading(&frame);
                 assert_same_writing(&our_message(&message), our_header(header), kind.octets());
+                tried += 1;
             }
         }
+        tried
+    }
+
+    /// In 202 and 246.
+    #[test]
+    fn every_squawk_is_answered_alike() {
+        assert_eq!(assert_same_numbers("squawk", 64), 2 * 65_536);
+    }
+
+    /// In 201 and 246.
+    #[test]
+    fn every_emitter_is_answered_alike() {
+        assert_eq!(assert_same_numbers("emitter", 65), 2 * 256);
     }
 }

@@ -10,6 +10,7 @@ use ostrogosz::messages::{
 };
 use ostrogosz::{Refusal, LONGEST_FRAME};
 
+use crate::emitter::is_emitter;
 use crate::squawk::is_squawk;
 use crate::writer::one_pass;
 
@@ -298,7 +299,7 @@ fn initialization(octets: &[u8; 18]) -> Result<Initialization, Refusal> {
     let [signature, subtype, version, a0, a1, a2, emitter, callsign @ .., stall_speed, size, antenna] =
         *octets;
     ensure([signature, subtype] == [65, 1], Refusal::Fixed)?;
-    let fits = emitter <= 19 && is_callsign(&callsign) && size <= 15;
+    let fits = is_emitter(emitter) && is_callsign(&callsign) && size <= 15;
     ensure(fits, Refusal::Field)?;
     Ok(Initialization {
         version,
@@ -314,7 +315,7 @@ fn initialization(octets: &[u8; 18]) -> Result<Initialization, Refusal> {
 
 fn initialization_fits(of: &Initialization) -> bool {
     of.address < 1 << 24
-        && of.emitter <= 19
+        && is_emitter(of.emitter)
         && is_callsign(&of.callsign)
         && of.size <= 15
         && of.lateral < 1 << 3
@@ -370,7 +371,7 @@ fn is_callsign(text: &[u8; 8]) -> bool {
 mod tests {
     use super::*;
     use compare::generator::Generator;
-    use compare::messages::{ours, CONTROL, KINDS};
+    use compare::messages::{ours, with_field, KINDS};
     use ostrogosz::messages::{read_message, write_message};
 
     fn assert_same_reading(body: &[u8]) {
@@ -419,13 +420,29 @@ mod tests {
         }
     }
 
+    /// Every number of a field in each kind that has it: how many were tried.
+    fn assert_same_numbers(name: &'static str, seed: u64) -> u64 {
+        let mut generator = Generator::new(seed);
+        let mut tried = 0;
+        for (kind, field) in with_field(name) {
+            for number in field.edges.every() {
+                let (message, body) = kind.with(field, number, &mut generator);
+                assert_same_reading(&body);
+                assert_same_writing(&ours(&message), kind.octets);
+                tried += 1;
+            }
+        }
+        tried
+    }
+
     #[test]
     fn every_squawk_is_answered_alike() {
-        let mut generator = Generator::new(35);
-        for squawk in 0..=u16::MAX {
-            let (message, body) = CONTROL.with_squawk(squawk, &mut generator);
-            assert_same_reading(&body);
-            assert_same_writing(&ours(&message), CONTROL.octets);
-        }
+        assert_eq!(assert_same_numbers("squawk", 35), 65_536);
+    }
+
+    /// In 10, 20 and 117.
+    #[test]
+    fn every_emitter_is_answered_alike() {
+        assert_eq!(assert_same_numbers("emitter", 36), 3 * 256);
     }
 }

@@ -91,6 +91,16 @@ impl Comparison {
         self.answers.tried(answer)
     }
 
+    /// Fails where one of these answers was met another number of times, or any
+    /// other answer at all.
+    pub fn assert_met(&self, answers: &[(&'static str, u64)]) {
+        for &(answer, times) in answers {
+            assert_eq!(self.met(answer), times, "{answer}");
+        }
+        let times: u64 = answers.iter().map(|(_, times)| times).sum();
+        assert_eq!(self.answers.total(), times, "any answer");
+    }
+
     /// Prints the counts, and fails where an input differed, where fewer than
     /// `least` were tried in all or of one of `kinds`, or where an answer that
     /// is due was never met, for then nothing was shown of it.

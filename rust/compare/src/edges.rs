@@ -3,6 +3,9 @@
 use crate::generator::Generator;
 use crate::squawks;
 
+/// How many emitters 117 and 201 take: 0 to 21, the last three obstacles.
+pub const EMITTERS: u64 = 22;
+
 /// The numbers that a field takes, within those that its type holds.
 #[derive(Clone, Copy, Debug)]
 pub struct Edges {
@@ -26,6 +29,9 @@ impl Edges {
         least: 0,
         most: 65_535,
     };
+
+    /// An emitter of 117 and 201; the other kinds carry every octet.
+    pub const EMITTER: Self = Self::up_to(21, 8);
 
     /// An unsigned field of so many bits, in a type of so many.
     pub const fn unsigned(bits: u32, of: u32) -> Self {
@@ -70,6 +76,19 @@ impl Edges {
         values
     }
 
+    /// Every number that the type holds.
+    pub fn every(self) -> Vec<i64> {
+        (self.least..=self.most).collect()
+    }
+
+    /// A number that the field doesn't take, if the type holds one.
+    pub fn past(self) -> Option<i64> {
+        match self.takes {
+            Takes::Range(_, last) => (last < self.most).then_some(last + 1),
+            Takes::Squawks => Some(1280),
+        }
+    }
+
     /// A number that the field takes.
     pub fn within(self, generator: &mut Generator) -> i64 {
         match self.takes {
@@ -94,10 +113,61 @@ fn between(first: i64, last: i64, generator: &mut Generator) -> i64 {
 /// A field of a message.
 #[derive(Debug)]
 pub struct Field<M> {
+    /// What it is called.
+    pub name: &'static str,
     /// The numbers it takes.
     pub edges: Edges,
+    /// Where it begins in a body or frame, if that was said.
+    pub place: Option<usize>,
     /// Puts a number that its type holds.
     pub put: fn(&mut M, i64),
+}
+
+impl<M> Field<M> {
+    /// The field, which is whole octets from this place on, the low one first.
+    pub const fn at(self, place: usize) -> Self {
+        Self {
+            place: Some(place),
+            ..self
+        }
+    }
+
+    /// Puts a number in a message and in its body or frame.
+    pub fn put_both(&self, message: &mut M, octets: &mut [u8], number: i64) {
+        (self.put)(message, number);
+        self.put_octets(octets, number);
+    }
+
+    fn put_octets(&self, octets: &mut [u8], number: i64) {
+        let place = self.place.expect("a field whose place was said");
+        let width = if self.edges.most > 255 { 2 } else { 1 };
+        octets[place..place + width].copy_from_slice(&number.to_le_bytes()[..width]);
+    }
+}
+
+/// The field of this name, if there is one.
+pub fn named<M>(fields: &'static [Field<M>], name: &str) -> Option<&'static Field<M>> {
+    fields.iter().find(|field| field.name == name)
+}
+
+/// The message and its octets with each field but this one out of range in
+/// turn, as far as places were said.
+pub fn beside<M: Clone>(
+    fields: &[Field<M>],
+    this: &Field<M>,
+    (message, octets): &(M, Vec<u8>),
+) -> Vec<(M, Vec<u8>)> {
+    let others = placed(fields).filter(|field| field.name != this.name);
+    let wrong = others.filter_map(|field| {
+        let (mut message, mut octets) = (message.clone(), octets.clone());
+        field.put_both(&mut message, &mut octets, field.edges.past()?);
+        Some((message, octets))
+    });
+    wrong.collect()
+}
+
+fn placed<M>(fields: &[Field<M>]) -> impl Iterator<Item = &Field<M>> {
+    fields.iter().filter(|field| field.place.is_some())
 }
 
 /// Puts a number that each field takes.
@@ -112,6 +182,15 @@ pub fn put_one_wild<M>(message: &mut M, fields: &[Field<M>], generator: &mut Gen
     if !fields.is_empty() {
         let field = &fields[generator.below(fields.len())];
         (field.put)(message, field.edges.wild(generator));
+    }
+}
+
+/// Puts such a number in one field of a body or frame, if a place was said.
+pub fn put_one_wild_octets<M>(octets: &mut [u8], fields: &[Field<M>], generator: &mut Generator) {
+    let placed: Vec<_> = placed(fields).collect();
+    if !placed.is_empty() {
+        let field = generator.pick(&placed);
+        field.put_octets(octets, field.edges.wild(generator));
     }
 }
 
@@ -131,6 +210,14 @@ mod tests {
             assert!(rates.contains(&rate));
         }
         assert_eq!(Edges::unsigned(1, 1).values(), [0, 1]);
+    }
+
+    #[test]
+    fn past_is_taken_by_no_field() {
+        assert_eq!(Edges::EMITTER.past(), Some(22));
+        assert_eq!(Edges::up_to(0, 8).past(), Some(1));
+        assert_eq!(Edges::unsigned(8, 8).past(), None);
+        assert_eq!(Edges::SQUAWK.past(), Some(1280));
     }
 
     #[test]

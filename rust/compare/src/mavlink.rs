@@ -2,7 +2,7 @@
 
 use second::mavlink::{x25, Dynamic, Message, RequestDataStream, Static, Status, Traffic};
 
-use crate::edges::{put_one_wild, put_within, Edges, Field};
+use crate::edges::{beside, named, put_one_wild, put_within, Edges, Field};
 use crate::generator::Generator;
 use crate::texts::{Characters, TextField};
 
@@ -54,12 +54,15 @@ impl Kind {
         }
     }
 
-    /// The kinds that have a squawk.
-    pub const WITH_SQUAWK: [Self; 2] = [Self::Dynamic, Self::Traffic];
-
     /// The names of all kinds.
     pub fn names() -> [&'static str; 5] {
         Self::ALL.map(Self::name)
+    }
+
+    /// The kinds that have a field of this name, and the field.
+    pub fn with_field(name: &'static str) -> impl Iterator<Item = (Self, &'static Field<Message>)> {
+        let kinds = Self::ALL.into_iter();
+        kinds.filter_map(move |kind| Some((kind, named(kind.fields(), name)?)))
     }
 
     /// The kind of an ID.
@@ -148,31 +151,34 @@ impl Kind {
         message
     }
 
-    /// A message that is right but perhaps for this squawk, and its frame with a
-    /// right check.
-    pub fn with_squawk(
+    /// A message that is right but perhaps for this number in a field, and its
+    /// frame with a right check.
+    pub fn with(
         self,
-        squawk: u16,
+        field: &Field<Message>,
+        number: i64,
         header: Header,
         generator: &mut Generator,
     ) -> (Message, Vec<u8>) {
         let mut message = self.message(generator);
         let mut frame = frame_of(header, &message);
-        match &mut message {
-            Message::Dynamic(of) => of.squawk = squawk,
-            Message::Traffic(of) => of.squawk = squawk,
-            _ => unreachable!("a kind without a squawk"),
-        }
-        self.put_squawk(&mut frame, squawk);
+        field.put_both(&mut message, &mut frame, number);
         self.seal(&mut frame);
         (message, frame)
     }
 
-    /// Puts a squawk in a frame, if the kind has one.
-    pub fn put_squawk(self, frame: &mut [u8], squawk: u16) {
-        if let Some(place) = self.squawk_place() {
-            frame[place..place + 2].copy_from_slice(&squawk.to_le_bytes());
+    /// The same with each other field out of range in turn, behind a right
+    /// check.
+    pub fn beside(
+        self,
+        field: &Field<Message>,
+        of: &(Message, Vec<u8>),
+    ) -> Vec<(Message, Vec<u8>)> {
+        let mut wrong = beside(self.fields(), field, of);
+        for (_, frame) in &mut wrong {
+            self.seal(frame);
         }
+        wrong
     }
 
     /// The text of the kind, if it has one.
@@ -192,15 +198,6 @@ impl Kind {
             Self::Dynamic => &DYNAMIC,
             Self::Status => &STATUS,
             Self::Traffic => &TRAFFIC,
-        }
-    }
-
-    /// Where the squawk begins in the frame, if the kind has one.
-    const fn squawk_place(self) -> Option<usize> {
-        match self {
-            Self::Dynamic => Some(HEAD + 36),
-            Self::Traffic => Some(HEAD + 24),
-            _ => None,
         }
     }
 
@@ -299,7 +296,9 @@ const BLANK_TRAFFIC: Traffic = Traffic {
 macro_rules! field {
     ($kind:ident, $field:ident $([$place:literal])?, $edges:expr) => {
         Field {
+            name: stringify!($field),
             edges: $edges,
+            place: None,
             put: |message, number| match message {
                 Message::$kind(of) => of.$field $([$place])? = number as _,
                 _ => unreachable!("another kind"),
@@ -326,11 +325,11 @@ static STATIC: [Field<Message>; 8] = [
     field!(Static, address, Edges::unsigned(24, 32)),
     field!(Static, integrity, U8),
     field!(Static, stall_speed, U16),
-    field!(Static, capability, Edges::up_to(0, 8)),
-    field!(Static, emitter, Edges::up_to(19, 8)),
-    field!(Static, size, Edges::up_to(15, 8)),
-    field!(Static, lateral, Edges::up_to(7, 8)),
-    field!(Static, longitudinal, Edges::up_to(31, 8)),
+    field!(Static, capability, Edges::up_to(0, 8)).at(HEAD + 14),
+    field!(Static, emitter, Edges::EMITTER).at(HEAD + 15),
+    field!(Static, size, Edges::up_to(15, 8)).at(HEAD + 16),
+    field!(Static, lateral, Edges::up_to(7, 8)).at(HEAD + 17),
+    field!(Static, longitudinal, Edges::up_to(31, 8)).at(HEAD + 18),
 ];
 
 static DYNAMIC: [Field<Message>; 17] = [
@@ -346,8 +345,8 @@ static DYNAMIC: [Field<Message>; 17] = [
     field!(Dynamic, north_velocity, I16),
     field!(Dynamic, east_velocity, I16),
     field!(Dynamic, state, U16),
-    field!(Dynamic, squawk, Edges::SQUAWK),
-    field!(Dynamic, fix, Edges::up_to(5, 8)),
+    field!(Dynamic, squawk, Edges::SQUAWK).at(HEAD + 36),
+    field!(Dynamic, fix, Edges::up_to(5, 8)).at(HEAD + 38),
     field!(Dynamic, satellites, U8),
     field!(Dynamic, emergency, U8),
     field!(Dynamic, control, U8),
@@ -366,10 +365,10 @@ static TRAFFIC: [Field<Message>; 13] = [
     field!(Traffic, horizontal_velocity, U16),
     field!(Traffic, vertical_velocity, I16),
     field!(Traffic, valid, U16),
-    field!(Traffic, squawk, Edges::SQUAWK),
+    field!(Traffic, squawk, Edges::SQUAWK).at(HEAD + 24),
     field!(Traffic, altitude_type, U8),
     field!(Traffic, callsign[8], U8),
-    field!(Traffic, emitter, U8),
+    field!(Traffic, emitter, U8).at(HEAD + 36),
     field!(Traffic, since_last, U8),
 ];
 

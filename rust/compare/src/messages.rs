@@ -8,13 +8,12 @@ mod report;
 mod request;
 mod uplink;
 
-pub use control::CONTROL;
 pub use uplink::UPLINK;
 
 use ostrogosz::messages as ours;
 use second::messages::Message;
 
-use crate::edges::{put_one_wild, put_within, Edges, Field};
+use crate::edges::{named, put_one_wild, put_within, Edges, Field};
 use crate::generator::Generator;
 use crate::texts::TextField;
 
@@ -51,7 +50,7 @@ pub static KINDS: [&Kind; 8] = [
     &geometric_altitude::GEOMETRIC_ALTITUDE,
     &report::TRAFFIC,
     &request::REQUEST,
-    &CONTROL,
+    &control::CONTROL,
     &initialization::INITIALIZATION,
 ];
 
@@ -65,6 +64,14 @@ pub fn kind(id: u8) -> &'static Kind {
 pub fn names(of: impl Fn(&Kind) -> bool) -> Vec<&'static str> {
     let kinds = KINDS.into_iter().filter(|kind| of(kind));
     kinds.map(|kind| kind.name).collect()
+}
+
+/// The kinds that have a field of this name, and the field.
+pub fn with_field(
+    name: &'static str,
+) -> impl Iterator<Item = (&'static Kind, &'static Field<Message>)> {
+    let kinds = KINDS.into_iter();
+    kinds.filter_map(move |kind| Some((kind, named(kind.fields, name)?)))
 }
 
 /// The same message in our types.
@@ -133,23 +140,18 @@ impl Kind {
         message
     }
 
-    /// A message that is right but perhaps for this squawk, and its body.
-    pub fn with_squawk(&self, squawk: u16, generator: &mut Generator) -> (Message, Vec<u8>) {
+    /// A message that is right but perhaps for this number in a field, and its
+    /// body.
+    pub fn with(
+        &self,
+        field: &Field<Message>,
+        number: i64,
+        generator: &mut Generator,
+    ) -> (Message, Vec<u8>) {
         let mut message = self.message(generator);
         let mut body = body_of(&message);
-        match &mut message {
-            Message::Control(of) => of.squawk = squawk,
-            _ => unreachable!("a kind without a squawk"),
-        }
-        self.put_squawk(&mut body, squawk);
+        field.put_both(&mut message, &mut body, number);
         (message, body)
-    }
-
-    /// Puts a squawk in a body, if the kind has one.
-    pub fn put_squawk(&self, body: &mut [u8], squawk: u16) {
-        if self.head == CONTROL.head {
-            body[7..9].copy_from_slice(&squawk.to_le_bytes());
-        }
     }
 }
 
@@ -173,7 +175,9 @@ const HALF: Edges = Edges::unsigned(4, 8);
 macro_rules! field {
     ($($kind:ident)|+, $field:ident, $edges:expr) => {
         Field {
+            name: stringify!($field),
             edges: $edges,
+            place: None,
             put: |message, number| match message {
                 $(Message::$kind(of))|+ => of.$field = number as _,
                 _ => unreachable!("another kind"),

@@ -1,15 +1,17 @@
 //! The explaining programs, beside what the second program's values say in
 //! Rust's own formatting.
 
-use compare::edges::Edges;
+use compare::edges::{Edges, Field, EMITTERS};
 use compare::explained;
 use compare::generator::Generator;
 use compare::lines;
 use compare::mavlink;
-use compare::messages::{Kind, CONTROL, KINDS};
+use compare::messages::{with_field, Kind, KINDS};
 use compare::programs::output_of;
+use compare::squawks;
 use compare::tally::Tally;
 use second::frame::frame;
+use second::messages::Message;
 
 #[test]
 fn the_sample_line() {
@@ -55,19 +57,52 @@ fn messages_of_every_kind() {
     tally.close("line explainer, in frames of messages", 160_000);
 }
 
-#[test]
-fn every_squawk_of_a_line() {
-    let mut tally = Tally::default();
-    let mut generator = Generator::new(39);
+/// A frame for every number of a field.
+fn every_number(kind: &Kind, field: &Field<Message>, generator: &mut Generator) -> Vec<u8> {
     let mut line = Vec::new();
-    for squawk in 0..=u16::MAX {
-        let (_, body) = CONTROL.with_squawk(squawk, &mut generator);
+    for number in field.edges.every() {
+        let (_, body) = kind.with(field, number, generator);
         lines::share_flag(&mut line, &frame(&body));
     }
-    let differs = output_of("line_explainer", &line) != explained::line(&line);
-    let difference = differs.then(|| "a squawk".to_owned());
-    tally.count_many(CONTROL.name, 65_536, difference);
-    tally.close("line explainer, in squawks", 65_536);
+    line
+}
+
+/// How many lines of an explanation begin so.
+fn beginning(explanation: &[u8], words: &str) -> u64 {
+    let lines = explanation.split(|&octet| octet == b'\n');
+    let found = lines.filter(|line| line.starts_with(words.as_bytes()));
+    found.count() as u64
+}
+
+/// Every number of a field, in a line for each kind that has it: how many are
+/// shown, and how many are refused.
+fn explain_every_number(name: &'static str, seed: u64) -> [u64; 2] {
+    let mut tally = Tally::default();
+    let mut generator = Generator::new(seed);
+    let mut explanations = Vec::new();
+    for (kind, field) in with_field(name) {
+        let line = every_number(kind, field, &mut generator);
+        let explanation = explained::line(&line);
+        let differs = output_of("line_explainer", &line) != explanation;
+        let difference = differs.then(|| format!("{name} in {}", kind.name));
+        tally.count_many(kind.name, field.edges.every().len() as u64, difference);
+        explanations.extend(explanation);
+    }
+    tally.close(&format!("line explainer, in {name}s"), 256);
+    ["ok ", "no 13 "].map(|words| beginning(&explanations, words))
+}
+
+#[test]
+fn every_squawk_of_a_line() {
+    let answers = explain_every_number("squawk", 39);
+    assert_eq!(answers, [squawks::CODES, 65_536 - squawks::CODES]);
+}
+
+/// In 10 and 20 every emitter is shown.
+#[test]
+fn every_emitter_of_a_line() {
+    let answers = explain_every_number("emitter", 53);
+    assert_eq!(answers, [EMITTERS + 2 * 256, 256 - EMITTERS]);
 }
 
 #[test]
@@ -151,24 +186,42 @@ fn captures_with_a_refused_frame() {
     tally.close("MAVLink explainer, in captures", 3_000);
 }
 
-/// A squawk at an edge, between right frames: nothing is shown behind one that
-/// is refused.
-#[test]
-fn squawks_at_their_edges() {
+/// Numbers of a field, each between right frames: nothing is shown behind one
+/// that is refused. In how many captures all is shown, and how many are refused.
+fn explain_numbers(name: &'static str, numbers: fn(Edges) -> Vec<i64>, seed: u64) -> [u64; 2] {
     let mut tally = Tally::default();
-    let mut generator = Generator::new(40);
-    for kind in mavlink::Kind::WITH_SQUAWK {
-        for squawk in Edges::SQUAWK.values() {
+    let mut generator = Generator::new(seed);
+    let mut explanations = Vec::new();
+    for (kind, field) in mavlink::Kind::with_field(name) {
+        for number in numbers(field.edges) {
             let header = mavlink::any_header(&mut generator);
             let mut capture = frames(kind, 2, &mut generator);
-            capture.extend(kind.with_squawk(squawk as u16, header, &mut generator).1);
+            capture.extend(kind.with(field, number, header, &mut generator).1);
             capture.extend(frames(kind, 2, &mut generator));
-            let differs = output_of("mavlink_explainer", &capture) != explained::mavlink(&capture);
-            let difference = differs.then(|| format!("squawk {squawk}"));
+            let explanation = explained::mavlink(&capture);
+            let differs = output_of("mavlink_explainer", &capture) != explanation;
+            let difference = differs.then(|| format!("{name} {number}"));
             tally.count(kind.name(), difference);
+            explanations.extend(explanation);
         }
     }
-    tally.close("MAVLink explainer, in squawks", 200);
+    tally.close(&format!("MAVLink explainer, in {name}s"), 200);
+    ["frames 5 ", "no 25 "].map(|words| beginning(&explanations, words))
+}
+
+#[test]
+fn squawks_at_their_edges() {
+    let [shown, refused] = explain_numbers("squawk", Edges::values, 40);
+    let tried = 2 * Edges::SQUAWK.values().len() as u64;
+    assert_eq!(shown + refused, tried);
+    assert!(shown > 20 && refused > 100, "{shown} and {refused}");
+}
+
+/// In 246 every emitter is shown.
+#[test]
+fn every_emitter_between_frames() {
+    let answers = explain_numbers("emitter", Edges::every, 54);
+    assert_eq!(answers, [EMITTERS + 256, 256 - EMITTERS]);
 }
 
 /// A frame across every place about the end of a block of 65,536 octets.

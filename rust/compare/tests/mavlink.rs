@@ -1,6 +1,7 @@
 //! MAVLink frames, read and written, against the second program.
 
 use compare::comparison::Comparison;
+use compare::edges::{put_one_wild_octets, Field, EMITTERS};
 use compare::generator::Generator;
 use compare::mavlink::{any_header, seal, Header, Kind, CHECK, HEAD, LONGEST_FRAME};
 use compare::mavlink_sides::{read, second_read, second_write, write};
@@ -73,7 +74,7 @@ fn try_write(
 }
 
 /// A frame of the kind: at random behind its head, right, or right but for a
-/// squawk or a few octets, mostly with a right check; perhaps cut off, or with
+/// field or a few octets, mostly with a right check; perhaps cut off, or with
 /// octets behind it.
 fn any_input(kind: Kind, generator: &mut Generator) -> Vec<u8> {
     let mut input = match generator.below(4) {
@@ -95,7 +96,7 @@ fn any_input(kind: Kind, generator: &mut Generator) -> Vec<u8> {
 fn damaged_frame(kind: Kind, generator: &mut Generator) -> Vec<u8> {
     let mut frame = kind.right_frame(generator);
     if generator.below(4) == 0 {
-        kind.put_squawk(&mut frame, squawks::wild(generator) as u16);
+        put_one_wild_octets(&mut frame, kind.fields(), generator);
     }
     for _ in 0..generator.below(3) {
         let place = generator.below(frame.len());
@@ -267,30 +268,83 @@ fn every_octet_at_every_place() {
     comparison.close(title, &Kind::names(), least as u64, &READ[2..]);
 }
 
-/// Every squawk, read behind a right check and a wrong one, and written into
-/// room that is exact and one short.
+/// Every number of a field in this many messages of each kind that has it.
+fn try_every_number(comparison: &mut Comparison, name: &'static str, turns: usize) {
+    for (kind, field) in Kind::with_field(name) {
+        for number in field.edges.every().repeat(turns) {
+            try_number(comparison, kind, field, number);
+        }
+    }
+}
+
+/// One number of a field in a message that is right else, and with each other
+/// field out of range beside it; also read behind a wrong check.
+fn try_number(comparison: &mut Comparison, kind: Kind, field: &Field<Message>, number: i64) {
+    let header = any_header(&mut comparison.generator);
+    let alone = kind.with(field, number, header, &mut comparison.generator);
+    let beside = kind.beside(field, &alone);
+    let mut wrong_check = alone.1.clone();
+    wrong_check[kind.octets() - 1] ^= 1;
+    try_read(comparison, kind.name(), &wrong_check);
+    for (message, frame) in [alone].into_iter().chain(beside) {
+        try_each_way(comparison, kind, header, &message, &frame);
+    }
+}
+
+/// Reads a frame, and writes its message into room that is exact and one short.
+fn try_each_way(
+    comparison: &mut Comparison,
+    kind: Kind,
+    header: Header,
+    message: &Message,
+    frame: &[u8],
+) {
+    try_read(comparison, kind.name(), frame);
+    for room in [kind.octets(), kind.octets() - 1] {
+        try_write(comparison, kind, header, message, room);
+    }
+}
+
 #[test]
 fn every_squawk_in_both_directions() {
     let mut comparison = Comparison::new(47, LONGEST_FRAME);
-    for kind in Kind::WITH_SQUAWK {
-        for squawk in 0..=u16::MAX {
-            let header = any_header(&mut comparison.generator);
-            let (message, mut frame) = kind.with_squawk(squawk, header, &mut comparison.generator);
-            try_read(&mut comparison, kind.name(), &frame);
-            frame[kind.octets() - 1] ^= 1;
-            try_read(&mut comparison, kind.name(), &frame);
-            for room in [kind.octets(), kind.octets() - 1] {
-                try_write(&mut comparison, kind, header, &message, room);
-            }
-        }
-    }
-    let kinds = Kind::WITH_SQUAWK.map(Kind::name);
-    let due = [&WRITTEN[..], &["refused with 24"]].concat();
+    try_every_number(&mut comparison, "squawk", 1);
+    let kinds = [Kind::Dynamic, Kind::Traffic].map(Kind::name);
     let title = "MAVLink, every squawk, read and written";
-    comparison.close(title, &kinds, 4 * 65_536, &due);
-    // Each code is read, written back and written, in 246 also 65535.
-    let accepted = 3 * (squawks::CODES + squawks::CODES + 1);
-    assert_eq!(comparison.met("accepted"), accepted);
+    comparison.close(title, &kinds, 4 * 65_536, &[]);
+    // In 246 also 65535.
+    let taken = squawks::CODES + squawks::CODES + 1;
+    let refused = 2 * 65_536 - taken;
+    comparison.assert_met(&[
+        // Each that is taken is read, written back and written.
+        ("accepted", 3 * taken),
+        ("refused with 8", taken),
+        ("refused with 24", 2 * 65_536),
+        // In 202 also each beside a fix out of range.
+        ("refused with 25", 3 * (refused + 65_536)),
+    ]);
+}
+
+/// In 246 every emitter is carried.
+#[test]
+fn every_emitter_in_both_directions() {
+    const TURNS: u64 = 20;
+    const ALL: u64 = 256 * TURNS;
+    const TAKEN: u64 = EMITTERS * TURNS;
+    let mut comparison = Comparison::new(52, LONGEST_FRAME);
+    try_every_number(&mut comparison, "emitter", TURNS as usize);
+    let kinds = [Kind::Static, Kind::Traffic].map(Kind::name);
+    let title = "MAVLink, every emitter, read and written";
+    comparison.close(title, &kinds, 4 * ALL, &[]);
+    // Beside a capability, a size and two offsets in 201, and a squawk in 246.
+    let beside = 4 * ALL + ALL;
+    comparison.assert_met(&[
+        // Each that is taken is read, written back and written.
+        ("accepted", 3 * (TAKEN + ALL)),
+        ("refused with 8", TAKEN + ALL),
+        ("refused with 24", 2 * ALL),
+        ("refused with 25", 3 * (ALL - TAKEN + beside)),
+    ]);
 }
 
 /// The kinds that have a text.

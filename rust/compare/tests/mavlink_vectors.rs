@@ -1,6 +1,6 @@
 //! Published MAVLink frames: the two packets of source document 001, the
 //! published value of its check, what document 01 says of a status, and the
-//! squawks of documents 01 and 02.
+//! squawks and emitters of documents 01 and 02.
 
 use ostrogosz::mavlink::{
     read_frame, write_frame, Dynamic, Frame, Header, Message, Static, Status, Traffic,
@@ -47,23 +47,27 @@ fn assert_both_ways(octets: &[u8], frame: Frame) {
 /// Its text says alwEncode 0; its octets decide.
 #[test]
 fn the_published_static_packet() {
+    assert_both_ways(&STATIC, static_data(0x12));
+}
+
+/// What the static packet says, but for the emitter.
+fn static_data(emitter: u8) -> Frame {
     let message = Message::Static(Static {
         icao: 0xA0_12_34,
         integrity: 0x25,
         stall_speed: 0,
         callsign: *b"PING2020",
         capability: 0,
-        emitter: 0x12,
+        emitter,
         alw_encode: 1,
         gps_lat_offs: 4,
         gps_lon_offs: 1,
     });
-    let frame = Frame {
+    Frame {
         header: sequence(0x2F),
         message,
         used: 27,
-    };
-    assert_both_ways(&STATIC, frame);
+    }
 }
 
 /// Its text says control 06; its octets decide.
@@ -257,6 +261,34 @@ fn squawks_by_hand() {
     assert_both_ways(&packet, frame);
     let (packet, frame) = dynamic_with(NONE);
     assert_refused(&packet, frame);
+}
+
+/// The static packet with this emitter and check.
+fn static_with(emitter: u8, check: [u8; 2]) -> Vec<u8> {
+    [&STATIC[..21], &[emitter], &STATIC[22..25], &check].concat()
+}
+
+/// Of obstacles too: a point 19, a cluster 20, a line 21.
+#[test]
+fn emitters_by_hand() {
+    let taken = [
+        (0, [0xD9, 0x58]),
+        (19, [0x55, 0xF1]),
+        (20, [0x89, 0xC1]),
+        (21, [0xCD, 0xCA]),
+    ];
+    for (emitter, check) in taken {
+        assert_both_ways(&static_with(emitter, check), static_data(emitter));
+    }
+    let refused = [
+        (22, [0x01, 0xD7]),
+        (39, [0x94, 0x08]),
+        (128, [0x8C, 0xD2]),
+        (255, [0x83, 0xAD]),
+    ];
+    for (emitter, check) in refused {
+        assert_refused(&static_with(emitter, check), static_data(emitter));
+    }
 }
 
 /// Neither reads the packet, nor writes the message with whatever room, and

@@ -1,8 +1,8 @@
 //! Published messages: the traffic report and the heartbeat printed in the
-//! GDL90 public ICD Rev A, and the squawks of documents 01 and 02.
+//! GDL90 public ICD Rev A, and the squawks and emitters of documents 01 and 02.
 
 use ostrogosz::messages::{
-    read_message, send_message, write_message, Control, Heartbeat, Message, Report,
+    read_message, send_message, write_message, Control, Heartbeat, Initialization, Message, Report,
 };
 use ostrogosz::{ReadRefusal, SendRefusal, WriteRefusal, LONGEST_BODY, LONGEST_FRAME};
 
@@ -124,6 +124,37 @@ fn squawks_by_hand() {
     ];
     for (squawk, body) in no_codes {
         assert_refused(body, control(squawk));
+    }
+}
+
+fn initialization(emitter: u8) -> Message<'static> {
+    Message::Initialization(Initialization {
+        emitter,
+        callsign: *b"CRANE 7 ",
+        ..Initialization::default()
+    })
+}
+
+/// Whole bodies, of obstacles too: a point 19, a cluster 20, a line 21.
+#[test]
+fn emitters_by_hand() {
+    let taken: [(u8, &[u8; 19]); 4] = [
+        (0, b"\x75\x41\x01\0\0\0\0\x00CRANE 7 \0\0\0"),
+        (19, b"\x75\x41\x01\0\0\0\0\x13CRANE 7 \0\0\0"),
+        (20, b"\x75\x41\x01\0\0\0\0\x14CRANE 7 \0\0\0"),
+        (21, b"\x75\x41\x01\0\0\0\0\x15CRANE 7 \0\0\0"),
+    ];
+    for (emitter, body) in taken {
+        assert_both_ways(body, initialization(emitter));
+    }
+    let refused: [(u8, &[u8; 19]); 4] = [
+        (22, b"\x75\x41\x01\0\0\0\0\x16CRANE 7 \0\0\0"),
+        (39, b"\x75\x41\x01\0\0\0\0\x27CRANE 7 \0\0\0"),
+        (128, b"\x75\x41\x01\0\0\0\0\x80CRANE 7 \0\0\0"),
+        (255, b"\x75\x41\x01\0\0\0\0\xFFCRANE 7 \0\0\0"),
+    ];
+    for (emitter, body) in refused {
+        assert_refused(body, initialization(emitter));
     }
 }
 

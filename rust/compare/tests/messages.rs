@@ -4,7 +4,8 @@
 use compare::bodies::Kind as Body;
 use compare::both_sides::{read, send, write};
 use compare::comparison::Comparison;
-use compare::messages::{names, Kind, CONTROL, KINDS, UPLINK};
+use compare::edges::{beside, put_one_wild_octets, Field, EMITTERS};
+use compare::messages::{kind, names, with_field, Kind, KINDS, UPLINK};
 use compare::squawks;
 use compare::texts::{texts, TextField};
 use second::messages::{Message, Uplink};
@@ -64,7 +65,7 @@ fn try_send(comparison: &mut Comparison, kind: &Kind, message: &Message) {
 }
 
 /// A body of the kind: at random behind its head, right, or right but for a
-/// squawk or a few octets and perhaps its length.
+/// field or a few octets and perhaps its length.
 fn any_body(kind: &Kind, comparison: &mut Comparison) -> Vec<u8> {
     let generator = &mut comparison.generator;
     match generator.below(4) {
@@ -73,7 +74,7 @@ fn any_body(kind: &Kind, comparison: &mut Comparison) -> Vec<u8> {
         _ => {
             let mut body = kind.right_body(generator);
             if generator.below(4) == 0 {
-                kind.put_squawk(&mut body, squawks::wild(generator) as u16);
+                put_one_wild_octets(&mut body, kind.fields, generator);
             }
             for _ in 0..generator.below(3) {
                 let place = generator.below(body.len());
@@ -187,26 +188,85 @@ fn every_pair_of_octets() {
     comparison.close(title, &names(|kind| kind.ranged), BODIES, &READ);
 }
 
-/// Every squawk, read behind a right version and a wrong one, written into room
-/// that is exact and one short, and sent.
+/// Every number of a field in this many messages of each kind that has it.
+fn try_every_number(comparison: &mut Comparison, name: &'static str, turns: usize) {
+    for (kind, field) in with_field(name) {
+        for number in field.edges.every().repeat(turns) {
+            try_number(comparison, kind, field, number);
+        }
+    }
+}
+
+/// One number of a field in a message that is right else, and with each other
+/// field out of range beside it; also read behind every fault that is found
+/// before.
+fn try_number(comparison: &mut Comparison, kind: &Kind, field: &Field<Message>, number: i64) {
+    let alone = kind.with(field, number, &mut comparison.generator);
+    let beside = beside(kind.fields, field, &alone);
+    try_faults_before(comparison, kind, &alone.1);
+    for (message, body) in [alone].into_iter().chain(beside) {
+        try_each_way(comparison, kind, &message, &body);
+    }
+}
+
+/// Reads a body with an octet missing, and with each octet of its head behind
+/// the ID wrong.
+fn try_faults_before(comparison: &mut Comparison, kind: &Kind, body: &[u8]) {
+    try_read(comparison, kind.name, &body[..body.len() - 1]);
+    for place in 1..kind.head.len() {
+        let mut wrong = body.to_vec();
+        wrong[place] ^= 1;
+        try_read(comparison, kind.name, &wrong);
+    }
+}
+
+/// Reads a body, writes its message into room that is exact and one short, and
+/// sends it.
+fn try_each_way(comparison: &mut Comparison, kind: &Kind, message: &Message, body: &[u8]) {
+    try_read(comparison, kind.name, body);
+    for room in [kind.octets, kind.octets - 1] {
+        try_write(comparison, kind, message, room);
+    }
+    try_send(comparison, kind, message);
+}
+
 #[test]
 fn every_squawk_in_both_directions() {
     let mut comparison = Comparison::new(36, BUFFER);
-    for squawk in 0..=u16::MAX {
-        let (message, mut body) = CONTROL.with_squawk(squawk, &mut comparison.generator);
-        try_read(&mut comparison, CONTROL.name, &body);
-        body[1] ^= 1;
-        try_read(&mut comparison, CONTROL.name, &body);
-        for room in [CONTROL.octets, CONTROL.octets - 1] {
-            try_write(&mut comparison, &CONTROL, &message, room);
-        }
-        try_send(&mut comparison, &CONTROL, &message);
-    }
-    let due = [&WRITTEN[..], &["refused with 12"]].concat();
+    try_every_number(&mut comparison, "squawk", 1);
     let title = "every squawk, read, written and sent";
-    comparison.close(title, &[CONTROL.name], 5 * 65_536, &due);
-    // Each code is read, written and sent.
-    assert_eq!(comparison.met("accepted"), 3 * squawks::CODES);
+    comparison.close(title, &[kind(45).name], 6 * 65_536, &[]);
+    comparison.assert_met(&[
+        // Each code is read, written and sent.
+        ("accepted", 3 * squawks::CODES),
+        ("refused with 8", squawks::CODES),
+        ("refused with 11", 65_536),
+        ("refused with 12", 65_536),
+        ("refused with 13", 4 * (65_536 - squawks::CODES)),
+    ]);
+}
+
+/// In 10 and 20 every emitter is carried.
+#[test]
+fn every_emitter_in_both_directions() {
+    const TURNS: u64 = 20;
+    const ALL: u64 = 256 * TURNS;
+    const TAKEN: u64 = EMITTERS * TURNS;
+    let mut comparison = Comparison::new(51, BUFFER);
+    try_every_number(&mut comparison, "emitter", TURNS as usize);
+    let kinds = [10, 20, 117].map(|id| kind(id).name);
+    let title = "every emitter, read, written and sent";
+    comparison.close(title, &kinds, 5 * ALL, &[]);
+    comparison.assert_met(&[
+        // Each that is taken is read, written and sent.
+        ("accepted", 3 * (TAKEN + 2 * ALL)),
+        ("refused with 8", TAKEN + 2 * ALL),
+        ("refused with 11", 3 * ALL),
+        // Signature and subtype of 117.
+        ("refused with 12", 2 * ALL),
+        // In 117 also each beside a size out of range.
+        ("refused with 13", 4 * (ALL - TAKEN + ALL)),
+    ]);
 }
 
 /// The kinds that have a text.

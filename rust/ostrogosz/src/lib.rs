@@ -50,6 +50,7 @@
 #![deny(missing_docs)]
 
 mod boundary;
+pub mod emitter;
 mod hidden;
 pub mod mavlink;
 pub mod meanings;

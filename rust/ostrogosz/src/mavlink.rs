@@ -153,7 +153,7 @@ pub struct Static {
     pub callsign: [u8; 8],
     /// Capability: range 0, so that a unit that announces one is refused.
     pub capability: u8,
-    /// Emitter category: range 0 to 19.
+    /// [Emitter category](crate::emitter): range 0 to 21.
     pub emitter: u8,
     /// A code of length and width: range 0 to 15.
     pub alw_encode: u8,
@@ -258,7 +258,7 @@ pub struct Traffic {
     pub callsign: [u8; 8],
     /// The callsign's ninth octet: any.
     pub callsign_ninth: u8,
-    /// Emitter category.
+    /// [Emitter category](crate::emitter): any octet.
     pub emitter_type: u8,
     /// Seconds since the last communication.
     pub tslc: u8,

@@ -84,7 +84,7 @@ pub struct Static {
     /// Capability: only 0 is accepted, as 00 must follow the callsign
     /// (document 01, MAVLink kinds).
     pub capability: u8,
-    /// Emitter, 0 to 19 (document 01, MAVLink kinds).
+    /// Emitter, 0 to 21 (document 02, e).
     pub emitter: u8,
     /// Size code, 0 to 15 (document 01, MAVLink kinds).
     pub size: u8,

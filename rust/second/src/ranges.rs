@@ -1,5 +1,5 @@
 //! The ranges of fields, one rule for all kinds that share it (document 01,
-//! Message kinds on the UCP line and MAVLink kinds; document 02, c).
+//! Message kinds on the UCP line and MAVLink kinds; document 02, c and e).
 
 /// Whether an unsigned number fits in this many bits, fewer than 32.
 pub(crate) fn fits(number: impl Into<u32>, width: u32) -> bool {
@@ -19,9 +19,10 @@ pub(crate) fn squawk(number: u16) -> bool {
     digits.len() <= 4 && digits.bytes().all(|digit| matches!(digit, b'0'..=b'7'))
 }
 
-/// Emitters of 117 and 201.
+/// Emitters of 117 and 201: 0 to 21, the last of them a line obstacle (document
+/// 02, e; document 004, section 2.1). Other kinds carry any octet.
 pub(crate) fn emitter(number: u8) -> bool {
-    number <= 19
+    number <= 21
 }
 
 /// Size codes of 117 and 201.

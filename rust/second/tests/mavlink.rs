@@ -85,7 +85,7 @@ impl Random {
             stall_speed: self.next() as u16,
             callsign: self.callsign(),
             capability: 0,
-            emitter: self.octet(20),
+            emitter: self.octet(22),
             size: self.octet(16),
             lateral: self.octet(8),
             longitudinal: self.octet(32),
@@ -361,14 +361,14 @@ fn layouts_are_those_of_the_papers() {
         stall_speed: 0xF6E5,
         callsign: *b" AZ 09 Q",
         capability: 0,
-        emitter: 19,
+        emitter: 21,
         size: 15,
         lateral: 7,
         longitudinal: 31,
     });
     let payload = [
         0xA1, 0xB2, 0xC3, 0xD4, 0xE5, 0xF6, b' ', b'A', b'Z', b' ', b'0', b'9', b' ', b'Q', 0x00,
-        0x13, 0x0F, 0x07, 0x1F,
+        0x15, 0x0F, 0x07, 0x1F,
     ];
     assert_payload(201, &payload, &fixed, true);
 
@@ -487,7 +487,7 @@ fn id_and_length_are_tested_before_the_octets_are_counted() {
 #[test]
 fn refusals_come_in_their_order() {
     // A field outside its range, and every fault before it in turn.
-    let payload = changed(&payload(STATIC_PACKET), 15, 20);
+    let payload = changed(&payload(STATIC_PACKET), 15, 22);
     let mut frame = framed([0; 3], 201, &payload);
     assert_eq!(read(&frame), Err(25));
     frame[25] ^= 1;
@@ -590,7 +590,7 @@ fn octets_of_201_have_ranges() {
     let payload = payload(STATIC_PACKET);
     let cases: [Ranged; 5] = [
         (14, 0, |it, octet| it.capability = octet),
-        (15, 19, |it, octet| it.emitter = octet),
+        (15, 21, |it, octet| it.emitter = octet),
         (16, 15, |it, octet| it.size = octet),
         (17, 7, |it, octet| it.lateral = octet),
         (18, 31, |it, octet| it.longitudinal = octet),
@@ -603,6 +603,18 @@ fn octets_of_201_have_ranges() {
             let message = Message::Static(edited);
             assert_payload(201, &payload, &message, octet <= highest);
         }
+    }
+}
+
+#[test]
+fn emitters_of_246_are_carried() {
+    for emitter in 0..=u8::MAX {
+        let message = Message::Traffic(Traffic {
+            emitter,
+            ..traffic_message()
+        });
+        let payload = changed(&traffic_payload(), 36, emitter);
+        assert_payload(246, &payload, &message, true);
     }
 }
 

@@ -123,7 +123,7 @@ impl Random {
         Initialization {
             version: self.octet(256),
             address: self.below(1 << 24),
-            emitter: self.octet(20),
+            emitter: self.octet(22),
             callsign: self.callsign(),
             stall_speed: self.octet(256),
             size: self.octet(16),
@@ -307,6 +307,19 @@ fn assert_13(message: &Message, place: &str) {
     assert_eq!(write(message, &mut []), Err(13), "{place}");
 }
 
+/// Asserts that a body is refused with 13, and with 12 behind a wrong version or
+/// signature, or carries this message both ways.
+fn assert_body(body: &[u8], message: &Message, right: bool) {
+    if right {
+        assert_eq!(read(body).as_ref(), Ok(message), "body {body:02X?}");
+        assert_eq!(written(message), body);
+    } else {
+        assert_eq!(read(&changed(body, 1, 2)), Err(12), "body {body:02X?}");
+        assert_eq!(read(body), Err(13), "body {body:02X?}");
+        assert_13(message, "a field outside its range");
+    }
+}
+
 /// A body with one octet changed.
 fn changed(body: &[u8], place: usize, octet: u8) -> Vec<u8> {
     let mut body = body.to_vec();
@@ -437,7 +450,7 @@ fn refusals_come_in_their_order() {
     assert_eq!(read(&control), Err(12));
     assert_eq!(read(&changed(&control, 1, 1)), Err(13));
     // Wrong signature, emitter out of range.
-    let initialization = changed(&changed(&INITIALIZATION, 1, 64), 7, 20);
+    let initialization = changed(&changed(&INITIALIZATION, 1, 64), 7, 22);
     assert_eq!(read(&initialization[..18]), Err(11));
     assert_eq!(read(&initialization), Err(12));
     assert_eq!(read(&changed(&initialization, 1, 65)), Err(13));
@@ -467,21 +480,13 @@ fn changed_squawk(squawk: u16) -> Vec<u8> {
     changed(&changed(&CONTROL, 7, low), 8, high)
 }
 
-/// Asserts how a squawk is read and written; a wrong version is found first.
+/// Asserts how a squawk is read and written.
 fn assert_squawk(squawk: u16, right: bool) {
-    let body = changed_squawk(squawk);
     let message = Message::Control(Control {
         squawk,
         ..control()
     });
-    if right {
-        assert_eq!(read(&body), Ok(message.clone()));
-        assert_eq!(written(&message), body);
-    } else {
-        assert_eq!(read(&changed(&body, 1, 2)), Err(12));
-        assert_eq!(read(&body), Err(13), "squawk {squawk}");
-        assert_13(&message, "squawk");
-    }
+    assert_body(&changed_squawk(squawk), &message, right);
 }
 
 #[test]
@@ -524,19 +529,38 @@ fn assert_identity(text: &[u8; 8], right: bool) {
         flight_identity: *text,
         ..control()
     });
-    if right {
-        assert_eq!(read(&body), Ok(message.clone()), "{text:02X?}");
-        assert_eq!(written(&message), body);
-    } else {
-        assert_eq!(read(&body), Err(13), "{text:02X?}");
-        assert_13(&message, "flight identity");
+    assert_body(&body, &message, right);
+}
+
+#[test]
+fn emitters_of_117_run_from_0_to_21() {
+    for emitter in 0..=u8::MAX {
+        let message = Message::Initialization(Initialization {
+            emitter,
+            ..initialization()
+        });
+        let body = changed(&INITIALIZATION, 7, emitter);
+        assert_body(&body, &message, emitter <= 21);
+    }
+}
+
+#[test]
+fn emitters_of_10_and_20_are_carried() {
+    for emitter in 0..=u8::MAX {
+        let report = Report {
+            emitter,
+            ..published()
+        };
+        let body = changed(&PUBLISHED, 18, emitter);
+        assert_body(&body, &Message::Traffic(report.clone()), true);
+        assert_body(&changed(&body, 0, 10), &Message::Ownship(report), true);
     }
 }
 
 #[test]
 fn emitter_size_and_callsign_of_117_have_ranges() {
     for octet in 0..=u8::MAX {
-        assert_octet(7, octet, octet <= 19);
+        assert_octet(7, octet, octet <= 21);
         assert_octet(17, octet, octet <= 15);
         let right = octet.is_ascii_uppercase() || octet.is_ascii_digit() || octet == b' ';
         for place in 8..16 {
@@ -567,7 +591,7 @@ fn assert_octet(place: usize, octet: u8, right: bool) {
 #[test]
 fn writer_refuses_what_117_refuses() {
     let cases: [Edit<Initialization>; 8] = [
-        ("emitter", |it| it.emitter = 20),
+        ("emitter", |it| it.emitter = 22),
         ("emitter", |it| it.emitter = 255),
         ("size", |it| it.size = 16),
         ("callsign", |it| it.callsign[0] = b'a'),

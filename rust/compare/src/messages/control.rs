@@ -8,8 +8,7 @@ use crate::edges::{Edges, Field};
 use crate::explained::{known, pointed, quoted, truth};
 use crate::texts::{Characters, TextField};
 
-/// Message 45.
-pub static CONTROL: Kind = Kind {
+pub(super) static CONTROL: Kind = Kind {
     name: "45, Control",
     octets: 18,
     head: &[45, 1],
@@ -43,7 +42,7 @@ static FIELDS: [Field<Message>; 10] = [
     field!(Control, air_ground, Edges::unsigned(2, 8)),
     field!(Control, barometer_checked, FLAG),
     field!(Control, pressure_altitude, Edges::signed(32, 32)),
-    field!(Control, squawk, Edges::SQUAWK),
+    field!(Control, squawk, Edges::SQUAWK).at(7),
     field!(Control, emergency, OCTET),
 ];
 

@@ -32,7 +32,9 @@ pub(super) static HEARTBEAT: Kind = Kind {
 macro_rules! octet {
     ($place:literal) => {
         Field {
+            name: "octet",
             edges: OCTET,
+            place: None,
             put: |message, number| match message {
                 Message::Heartbeat(of) => of.octets[$place] = number as u8,
                 _ => unreachable!("another kind"),

@@ -33,9 +33,9 @@ pub(super) static INITIALIZATION: Kind = Kind {
 static FIELDS: [Field<Message>; 7] = [
     field!(Initialization, version, OCTET),
     field!(Initialization, address, Edges::unsigned(24, 32)),
-    field!(Initialization, emitter, Edges::up_to(19, 8)),
+    field!(Initialization, emitter, Edges::EMITTER).at(7),
     field!(Initialization, stall_speed, OCTET),
-    field!(Initialization, size, Edges::up_to(15, 8)),
+    field!(Initialization, size, Edges::up_to(15, 8)).at(17),
     field!(Initialization, lateral, Edges::unsigned(3, 8)),
     field!(Initialization, longitudinal, Edges::unsigned(5, 8)),
 ];

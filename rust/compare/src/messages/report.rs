@@ -65,7 +65,7 @@ static FIELDS: [Field<Message>; 15] = [
     field!(Ownship | Traffic, speed, Edges::unsigned(12, 16)),
     field!(Ownship | Traffic, vertical_rate, Edges::signed(12, 16)),
     field!(Ownship | Traffic, track, OCTET),
-    field!(Ownship | Traffic, emitter, OCTET),
+    field!(Ownship | Traffic, emitter, OCTET).at(18),
     field!(Ownship | Traffic, emergency, HALF),
     field!(Ownship | Traffic, spare, HALF),
 ];

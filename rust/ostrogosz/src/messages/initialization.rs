@@ -13,7 +13,7 @@ pub struct Initialization {
     pub version: u8,
     /// Address: 24 bits.
     pub address: u32,
-    /// Emitter category: range 0 to 19.
+    /// [Emitter category](crate::emitter): range 0 to 21.
     pub emitter: u8,
     /// Callsign: range A-Z, 0-9 and space.
     pub callsign: [u8; 8],

@@ -36,7 +36,7 @@ pub struct Report {
     pub vertical_rate: i16,
     /// Track in steps of 360 / 256 degrees.
     pub track: u8,
-    /// Emitter category.
+    /// [Emitter category](crate::emitter): any octet.
     pub emitter: u8,
     /// Callsign: any octets; no zero is put behind them.
     pub callsign: [u8; 8],

@@ -11,7 +11,7 @@ pub struct Initialization {
     pub version: u8,
     /// Vehicle address, 24 bits.
     pub address: u32,
-    /// Emitter, 0 to 19 (document 01, Message kinds on the UCP line).
+    /// Emitter, 0 to 21 (document 02, e).
     pub emitter: u8,
     /// Callsign of A-Z, 0-9 and space (document 01, Message kinds on the UCP
     /// line).
