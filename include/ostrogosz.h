@@ -2,7 +2,7 @@
  * Ostrogosz: the UCP/GDL90 serial line and MAVLink version 1, for C99 and C++.
  *
  * All parts; a driver may also include one of them alone:
- *   ostrogosz/common.h   what all calls share: target, ABI, refusals
+ *   ostrogosz/common.h   what all calls share: target, ABI, refusals, emitters
  *   ostrogosz/ucp.h      the UCP line: frames, receiver, messages
  *   ostrogosz/mavlink.h  MAVLink frames and messages
  *

@@ -98,7 +98,7 @@ OSTROGOSZ_OFFSET(ostrogosz_written, length, 8);
  * What sends: the emitter of 10, 20, 117, 201 and 246. 117 and 201 take 0 to
  * 21, of which 8, 13 and 16 are unassigned; the others carry any octet.
  */
-#define OSTROGOSZ_EMITTER_NO_INFORMATION 0
+#define OSTROGOSZ_EMITTER_NO_TYPE_INFORMATION 0
 #define OSTROGOSZ_EMITTER_LIGHT 1               /* under 15,500 lbs */
 #define OSTROGOSZ_EMITTER_SMALL 2               /* 15,500 to 75,000 lbs */
 #define OSTROGOSZ_EMITTER_LARGE 3               /* 75,000 to 300,000 lbs */
@@ -108,13 +108,13 @@ OSTROGOSZ_OFFSET(ostrogosz_written, length, 8);
 #define OSTROGOSZ_EMITTER_ROTORCRAFT 7
 #define OSTROGOSZ_EMITTER_GLIDER 9 /* sailplane */
 #define OSTROGOSZ_EMITTER_LIGHTER_THAN_AIR 10
-#define OSTROGOSZ_EMITTER_PARACHUTIST 11       /* sky diver */
-#define OSTROGOSZ_EMITTER_ULTRALIGHT 12        /* hang glider, paraglider */
-#define OSTROGOSZ_EMITTER_UNMANNED 14          /* aerial vehicle */
-#define OSTROGOSZ_EMITTER_SPACE 15             /* trans-atmospheric vehicle */
-#define OSTROGOSZ_EMITTER_EMERGENCY_VEHICLE 17 /* on the surface */
-#define OSTROGOSZ_EMITTER_SERVICE_VEHICLE 18   /* on the surface */
-#define OSTROGOSZ_EMITTER_POINT_OBSTACLE 19    /* tethered balloons too */
+#define OSTROGOSZ_EMITTER_PARACHUTIST 11 /* sky diver */
+#define OSTROGOSZ_EMITTER_ULTRALIGHT 12  /* hang glider, paraglider */
+#define OSTROGOSZ_EMITTER_UNMANNED_AERIAL_VEHICLE 14
+#define OSTROGOSZ_EMITTER_SPACE_VEHICLE 15 /* trans-atmospheric */
+#define OSTROGOSZ_EMITTER_SURFACE_EMERGENCY_VEHICLE 17
+#define OSTROGOSZ_EMITTER_SURFACE_SERVICE_VEHICLE 18
+#define OSTROGOSZ_EMITTER_POINT_OBSTACLE 19 /* tethered balloons too */
 #define OSTROGOSZ_EMITTER_CLUSTER_OBSTACLE 20
 #define OSTROGOSZ_EMITTER_LINE_OBSTACLE 21
 

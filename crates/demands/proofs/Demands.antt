@@ -68,7 +68,7 @@ use Rattle.thm_c_ucp.proofs.Slices.{linked-slice-lines, linked-slice-takes-all,
 use Rattle.thm_c_ucp.proofs.Writer.{linked-writer, linked-writer-refuses, linked-writer-lists}
 use Rattle.thm_c_ucp.proofs.Lines.{every-linked-line}
 use Rattle.thm_c_ucp.proofs.Delivery.{linked-delivered-writes-back}
-use Rattle.demands.specs.Demands.{TableNumbers, RefusalOrSilence, LinkedRefusalOrSilence, Demand1, Demand2, Demand3, ReceiverLists, Examples}
+use Rattle.demands.specs.Demands.{ChangedRanges, TableNumbers, RefusalOrSilence, LinkedRefusalOrSilence, Demand1, Demand2, Demand3, ReceiverLists, Examples}
 use Rattle.demands.proofs.Refusals.{Tabled, quiet, numbered, whole, tabled, tabled-slice}
 
 -- an answer that is the one due is a refusal when that is
@@ -278,6 +278,15 @@ demand3 =
       linkedWriter = linked-writer-lists;
     }
 
+pub changed-ranges : ChangedRanges
+changed-ranges =
+    record {
+      squawks = squawk-ranges.ranges;
+      digit8 = squawk-ranges.examples;
+      emitters = emitter-ranges.ranges;
+      obstacles = emitter-ranges.examples;
+    }
+
 pub examples : Examples
 examples =
     record {
@@ -286,10 +295,6 @@ examples =
       packets = packet-examples.examples;
       ucpKinds = ucp-kinds.examples;
       mavlinkKinds = mavlink-kinds.examples;
-      squawks = squawk-ranges.ranges;
-      digit8 = squawk-ranges.examples;
-      emitters = emitter-ranges.ranges;
-      obstacles = emitter-ranges.examples;
       structs = struct-examples;
       numbers = number-examples;
       bodies = premises-met;

@@ -316,6 +316,14 @@ pub record Demand3 : Type 0 where
   pub linkedReceiver : LinkedReceiverLists
   pub linkedWriter : LinkedWriterLists
 
+-- The ranges that document 02 changed: what reader and writer test, of every message that has such a field, both ways, and by example.
+-- Request c, the squawk; request e, the emitter.
+pub record ChangedRanges : Type 0 where
+  pub squawks : SquawkRanges
+  pub digit8 : Refuses1280
+  pub emitters : EmitterRanges
+  pub obstacles : Obstacles
+
 -- What ties the definitions to the papers and to the header, and what shows that the demands' premises are met by some calls, and not
 -- by all. (docs/ASSURANCE.md lists each premise and what ties it.)
 pub record Examples : Type 0 where
@@ -327,12 +335,6 @@ pub record Examples : Type 0 where
   -- which every value fits; what raw numbers mean
   pub ucpKinds : UcpKindExamples
   pub mavlinkKinds : MavlinkKindExamples
-  -- ---- the ranges that document 02 changed, of every message that has such a field, both ways, and by example: c, the squawk; e, the
-  -- emitter
-  pub squawks : SquawkRanges
-  pub digit8 : Refuses1280
-  pub emitters : EmitterRanges
-  pub obstacles : Obstacles
   -- ---- C: each message struct has its fields, by name, at their offsets; the line, the answers, a measure and the failures have their
   -- numbers in the header's order
   pub structs : StructExamples

@@ -1,4 +1,5 @@
--- The last code in each range, and the first outside; of the squawk also a digit 8 in each place. Assumes nothing.
+-- The last code in each range, and the first outside; of the squawk also a digit 8 in each place, of the emitter both that document
+-- 02 added. Assumes nothing.
 use mathlib.Core.Path.{_≡_}
 use mathlib.Core.Bool.{true, false}
 use Rattle.field_codes.specs.Codes.{isSquawk, isEmitter, isSizeCode}

@@ -7,6 +7,7 @@ use Rattle.crc_x25.specs.Check.{bitsUp, wireBits, next, register, mirrored, x25
 use Rattle.field_codes.specs.Codes.{isEmitter, isSizeCode}
 use Rattle.field_texts.specs.Text.{isSpaced}
 use Rattle.field_layout.specs.Layout.{textOctets}
+use Rattle.field_signed.specs.Signed.{signed, holds}
 use Rattle.field_format.specs.Format.{bodyOf, valueIn, fits}
 use Rattle.ucp_answers.specs.Refusals.{refusalBy, refusalOf, reads}
 use Rattle.ucp_messages.specs.Kinds.{kindOf}
@@ -41,7 +42,7 @@ ranges =
     }
 
 pub examples : Obstacles
-unfolding step reduced polynomial bitsUp wireBits next register mirrored x25 isEmitter isSizeCode isSpaced bodyOf valueIn fits refusalBy refusalOf reads kindOf answerAs messageFits messageBody mavlinkKind mavlinkFrame foundOf found staticFits failuresIn
+unfolding step reduced polynomial bitsUp wireBits next register mirrored x25 isEmitter isSizeCode isSpaced signed holds bodyOf valueIn fits refusalBy refusalOf reads kindOf answerAs messageFits messageBody mavlinkKind mavlinkFrame foundOf found staticFits failuresIn
 examples =
     record {
       cluster = record { read = refl; fit = refl; written = refl };
@@ -50,5 +51,6 @@ examples =
       static-cluster = record { read = refl; fit = refl; written = refl };
       static-line = record { read = refl; fit = refl; written = refl };
       static-22-unfit = refl;
+      traffic-255 = record { read = refl; fit = refl; written = refl };
       wrong-check-emitter-22 = refl;
     }

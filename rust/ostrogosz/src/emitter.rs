@@ -2,8 +2,8 @@
 //! 117 and 201 take 0 to 21, of which 8, 13 and 16 are unassigned; 10, 20 and
 //! 246 carry any octet.
 
-/// No information of the type.
-pub const NO_INFORMATION: u8 = 0;
+/// No information on the type of aircraft.
+pub const NO_TYPE_INFORMATION: u8 = 0;
 
 /// Light aircraft, under 15,500 lbs.
 pub const LIGHT: u8 = 1;
@@ -39,16 +39,16 @@ pub const PARACHUTIST: u8 = 11;
 pub const ULTRALIGHT: u8 = 12;
 
 /// Unmanned aerial vehicle.
-pub const UNMANNED: u8 = 14;
+pub const UNMANNED_AERIAL_VEHICLE: u8 = 14;
 
 /// Space or trans-atmospheric vehicle.
-pub const SPACE: u8 = 15;
+pub const SPACE_VEHICLE: u8 = 15;
 
 /// Surface vehicle, emergency.
-pub const EMERGENCY_VEHICLE: u8 = 17;
+pub const SURFACE_EMERGENCY_VEHICLE: u8 = 17;
 
 /// Surface vehicle, service.
-pub const SERVICE_VEHICLE: u8 = 18;
+pub const SURFACE_SERVICE_VEHICLE: u8 = 18;
 
 /// Point obstacle, tethered balloons too.
 pub const POINT_OBSTACLE: u8 = 19;
