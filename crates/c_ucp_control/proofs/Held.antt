@@ -74,9 +74,9 @@ module _ (message : List ℕ) (n : length message ≡ 24) where
         ∙ ap (λ (l : List ℕ). (45 ∷ 1 ∷ s ∷ elements 15 8 message) ++ l) (drop-drop 7 11 output)
         ∙ ap (λ (body : List ℕ). body ++ drop 18 output) (sym (body-found e))
 
-  -- the body's octets from 4 on
-  pub from-9 : take 14 (drop 9 message) ≡ elements 14 9 message
-  from-9 = ap (λ (xs : List ℕ). take 14 (drop 9 xs)) (by-elements 24 message n)
+  -- the body's octets from 10 on
+  pub from-15 : take 8 (drop 15 message) ≡ elements 8 15 message
+  from-15 = ap (λ (xs : List ℕ). take 8 (drop 15 xs)) (by-elements 24 message n)
 
 -- ---- sending
 pub frame-room : (c : Control) → length (frame (bodyOf controlFormat c)) ≤ 878

@@ -2,3 +2,4 @@ pub mod Stored
 pub mod Held
 pub mod Framed
 pub mod Agree
+pub mod Marks

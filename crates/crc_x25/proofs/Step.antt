@@ -5,11 +5,12 @@ use mathlib.Core.Bool.{Bool, true, false, xor}
 use mathlib.Core.List.{List, [], _∷_, _++_, append-nil, append-assoc}
 use Prim.Native.Nat.{ℕ, zero, suc, _+_, _*_, _/_, _%_, _^_, _<_, _≤_}
 use native.Mathlib.Omega.{arith}
+use native.Mathlib.Nat.{add-suc}
 use native.Mathlib.Numerals.{add-one}
 use lib.Dec.{eqb}
 use lib.ListN.{length, getD, take, drop, replicate, length-append, length-drop, List·getD-append, take-append-drop}
 use lib.Seq.{drop-cons, drop-at, drop-drop, take-append-le, drop-append-le}
-use lib.Bits.{bitXor, differ, xor-lt, xor-zero-r}
+use lib.Bits.{bitXor, differ, xor-lt, xor-zero-r, xor-comm, xor-mod, xor-shr}
 use lib.Pow.{shr-shr}
 use Rattle.crc_polynomial.specs.Polynomial.{odd, coefficient, degree16, step, reduced, polynomial}
 use Rattle.crc_polynomial.proofs.Xor.{digit-cases, xor-swap, below-two, half, last}
@@ -17,6 +18,7 @@ use Rattle.crc_polynomial.proofs.Laws.{coefficient-xor, coefficient-lt, step-xo
 use Rattle.crc_polynomial.proofs.Linear.{Linear, Linear16, times, agree}
 use Rattle.crc_x25.proofs.Shifts.{shifted, shifted-linear, paired, paired-linear, paired-twice, paired-above, two-at-once}
 use Rattle.crc_x25.proofs.Words.{eight, eight-pairs, pairs}
+use Rattle.field_words.proofs.Digits.{lows, below}
 use Rattle.field_words.proofs.Pairs.{double, two-of}
 use Rattle.field_words.specs.Words.{octetsUp}
 use Rattle.crc_x25.specs.Check.{bitsUp, wireBits, next, register, mirrored, x25, x25From}
@@ -193,14 +195,28 @@ pair-next check octets extra i h =
     (ap (λ (n : ℕ). x25From n (drop (i + 1 + 1) all))
     (sym (octet-first check (getD octets i 0 ∷ getD octets (i + 1) 0 ∷ []) 0 (omega arith))))
 
--- at last the one that is left and the extra, or the extra alone
-pub pair-last : (check : ℕ) (octets : List ℕ) (extra i : ℕ) → i + 1 ≡ length octets
-    → x25From check (drop i (octets ++ extra ∷ [])) ≡ x25From check (getD octets i 0 ∷ extra ∷ [])
-pair-last check octets extra i e =
-    ap (x25From check)
-    (drop-cons (octets ++ extra ∷ []) i 0 (simp length-append (omega arith))
+-- n octets, from the k-th behind i on, and the extra
+abbrev pub endOf : ℕ → ℕ → ℕ → List ℕ → ℕ → List ℕ
+endOf zero k i octets extra = extra ∷ []
+endOf (suc n) k i octets extra = getD octets (i + k) 0 ∷ endOf n (suc k) i octets extra
+
+end-at : (n k : ℕ) (octets : List ℕ) (extra i : ℕ) → i + k + n ≡ length octets
+    → drop (i + k) (octets ++ extra ∷ []) ≡ endOf n k i octets extra
+end-at zero k octets extra i e = drop-at octets (extra ∷ []) (i + k) (omega arith)
+end-at (suc n) k octets extra i e =
+    drop-cons (octets ++ extra ∷ []) (i + k) 0 (simp length-append (omega arith))
+    ∙ ap₂ (λ (x : ℕ) (xs : List ℕ). x ∷ xs) (List·getD-append octets (extra ∷ []) 0 (i + k) (omega arith))
+    (ap (λ (m : ℕ). drop m (octets ++ extra ∷ [])) (sym (add-suc i k)) ∙ end-at n (suc k) octets extra i (omega arith))
+
+-- at last the octet at i, those that follow it, and the extra
+pub end-from : (n : ℕ) (octets : List ℕ) (extra i : ℕ) → i + suc n ≡ length octets
+    → drop i (octets ++ extra ∷ []) ≡ getD octets i 0 ∷ endOf n 1 i octets extra
+end-from n octets extra i e =
+    drop-cons (octets ++ extra ∷ []) i 0 (simp length-append (omega arith))
     ∙ ap₂ (λ (x : ℕ) (xs : List ℕ). x ∷ xs) (List·getD-append octets (extra ∷ []) 0 i (omega arith))
-    (rw (sym (add-one i)) (drop-at octets (extra ∷ []) (i + 1) (sym e))))
+    (rw (sym (add-one i)) (end-at n 1 octets extra i (omega arith)))
+
+-- or the extra alone
 
 pub octet-last : (check : ℕ) (octets : List ℕ) (extra i : ℕ) → i ≡ length octets
     → x25From check (drop i (octets ++ extra ∷ [])) ≡ x25From check (extra ∷ [])
@@ -240,6 +256,35 @@ pairs-step (suc k) check word h =
 pub eight-step : (check word : ℕ) → check < degree16 → word < 2 ^ 64 → eight check word ≡ x25From check (octetsUp 8 word)
 unfolding double
 eight-step check word hc hw = eight-pairs check word hc hw ∙ pairs-step 4 check word hc
+
+-- a number's four lowest octets behind four zeros
+pub above-zeros : (first : ℕ) → octetsUp 8 (first * 4294967296 % 2 ^ 64) ≡ 0 ∷ 0 ∷ 0 ∷ 0 ∷ octetsUp 4 first
+above-zeros first =
+    lows 8 (first * 4294967296)
+    ∙ below 7 _ (first * 16777216) (omega arith)
+    ∙ ap (λ (xs : List ℕ). 0 ∷ xs) (below 6 _ (first * 65536) (omega arith)
+    ∙ ap (λ (xs : List ℕ). 0 ∷ xs) (below 5 _ (first * 256) (omega arith)
+    ∙ ap (λ (xs : List ℕ). 0 ∷ xs) (below 4 _ first (omega arith))))
+
+-- ---- four octets at once: the check is met first, and four zeros leave a check of 0 as it is
+pub met-first : (k check word : ℕ) → check < degree16
+    → x25From 0 (octetsUp (double (suc k)) (bitXor word check)) ≡ x25From check (octetsUp (double (suc k)) word)
+met-first k check word h =
+    let none : check / 65536 ≡ 0 = omega arith in
+    let all : check % 65536 ≡ check = omega arith in
+    sym (pairs-step (suc k) 0 (bitXor word check) (omega arith))
+    ∙ ap₂ (λ (m n : ℕ). pairs k (paired m) n)
+    (xor-comm 0 (bitXor word check % 65536)
+    ∙ xor-zero-r (bitXor word check % 65536)
+    ∙ xor-mod word check 16
+    ∙ ap (bitXor (word % 65536)) all
+    ∙ xor-comm (word % 65536) check)
+    (xor-shr word check 16 ∙ ap (bitXor (word / 65536)) none ∙ xor-zero-r (word / 65536))
+    ∙ pairs-step (suc k) check word h
+
+pub zeros-passed : (xs : List ℕ) → x25From 0 (0 ∷ 0 ∷ 0 ∷ 0 ∷ xs) ≡ x25From 0 xs
+unfolding x25From mirrored bitsUp polynomial register next step reduced wireBits
+zeros-passed xs = from-append 0 (0 ∷ 0 ∷ 0 ∷ 0 ∷ []) xs
 
 -- octets and then one more: the eight octets at i, and then the others
 pub eight-next : (check : ℕ) (octets : List ℕ) (extra i : ℕ) (first : List ℕ) → i + 8 ≤ length octets

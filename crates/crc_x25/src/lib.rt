@@ -37,6 +37,13 @@ fn next_eight(check: u16, word: u64) -> u16
     (((q >> 48) ^ (q >> 53) ^ (q >> 60)) % 65536) as u16
 }
 
+// A number's four lowest octets at once: the step of eight over four zeros and them, once they have met the check.
+fn next_four(check: u16, word: u64) -> u16
+    ensures { λ r. ⌜ r ≡ x25From check (octetsUp 4 word) ⌝ }
+{
+    next_eight(0, (word ^ check as u64) << 32)
+}
+
 // The check of five octets at once: the step of eight over three zeros and them, from the check that the zeros turn into the start.
 pub fn x25_five(first: u8, second: u8, third: u8, fourth: u8, fifth: u8) -> u16
     ensures { λ r. ⌜ r ≡ x25 (first ∷ second ∷ third ∷ fourth ∷ fifth ∷ []) ⌝ }
@@ -50,6 +57,13 @@ pub fn x25_seven(word: u64) -> u16
     ensures { λ r. ⌜ r ≡ x25 (octetsUp 7 word) ⌝ }
 {
     next_eight(0x3078, word << 8)
+}
+
+// The check of eight octets at once.
+pub fn x25_eight(word: u64) -> u16
+    ensures { λ r. ⌜ r ≡ x25 (octetsUp 8 word) ⌝ }
+{
+    next_eight(0xFFFF, word)
 }
 
 // The check of a number's four lowest octets and eight more: the step of eight over four zeros and the four, then over the eight.
@@ -76,7 +90,44 @@ pub fn x25_after(check: u16, octets: &[u8], extra: u8) -> u16
         check = next_eight(check, field_words::little_64(octets, i));
         i += 8;
     }
-    check_rest(octets, i, check, extra)
+    check_last(octets, i, check, extra)
+}
+
+// Fewer than eight octets, from start on, and then the extra: none, which 201 leaves, seven, which 202 leaves, and three, which 246
+// leaves, in one step. The check is that of the octets before.
+fn check_last(octets: &[u8], start: usize, check: u16, extra: u8) -> u16
+    requires { ⌜ start ≤ length (now octets) ⌝ }
+    ensures { λ r. ⌜ r ≡ x25From check (drop start (now (octets .entry) ++ extra ∷ [])) ⌝ }
+{
+    let left = octets.len() - start;
+    if left == 0 {
+        return next_octet(check, extra);
+    }
+    if left == 7 {
+        return next_eight(
+            check,
+            field_words::word_of(
+                octets[start],
+                octets[start + 1],
+                octets[start + 2],
+                octets[start + 3],
+                octets[start + 4],
+                octets[start + 5],
+                octets[start + 6],
+                extra,
+            ),
+        );
+    }
+    if left == 3 {
+        let first = octets[start];
+        let second = octets[start + 1];
+        let third = octets[start + 2];
+        return next_four(
+            check,
+            field_words::word_of(first, second, third, extra, 0, 0, 0, 0),
+        );
+    }
+    check_rest(octets, start, check, extra)
 }
 
 // The octets from start on and then the extra, two by two. The check is that of the octets before.

@@ -105,8 +105,30 @@ pub fn surround(kind: Kind, header: Header, output: &mut [u8])
     put_around(kind, header, check, output);
 }
 
-// The check of a frame, from what its octets come from: octets that were just stored in other pieces are slow to load.
+// The check of a frame, from what its octets come from: octets that were just stored in other pieces are slow to load. Header and
+// three octets of the payload are one word, so that those behind are as many as in reading.
 fn check_of(kind: Kind, header: Header, payload: &[u8]) -> u16
+    ensures { λ r. ⌜ r ≡ x25 (covered kind header (now (payload .entry))) ⌝ }
+{
+    let n = payload.len();
+    if n < 3 {
+        return check_of_few(kind, header, payload);
+    }
+    let head = crc_x25::x25_eight(field_words::word_of(
+        kind.length,
+        header.sequence,
+        header.system,
+        header.component,
+        kind.id,
+        payload[0],
+        payload[1],
+        payload[2],
+    ));
+    crc_x25::x25_after(head, &payload[3..n], kind.extra)
+}
+
+// The same where the payload may be too short for that.
+fn check_of_few(kind: Kind, header: Header, payload: &[u8]) -> u16
     ensures { λ r. ⌜ r ≡ x25 (covered kind header (now (payload .entry))) ⌝ }
 {
     let head = crc_x25::x25_five(

@@ -7,7 +7,7 @@ use native.Mathlib.Omega.{arith}
 use denote.Ref.{now}
 use lib.ListN.{length, drop}
 use Rattle.crc_x25.specs.Check.{x25From}
-use Rattle.crc_x25.proofs.Step.{pair-next, pair-last, octet-last}
+use Rattle.crc_x25.proofs.Step.{pair-next, end-from, octet-last}
 use borrow.Author.Needs.{needs}
 use Rattle.crc_x25.proofs.check_rest.Statement.{statement}
 use Rattle.crc_x25.proofs.check_rest.Tie as tie
@@ -41,7 +41,7 @@ returns c =
     let l = c .before .before .before .before .loop in
     let a = c .before .before .before .before .before .before .args in
     let e : l .i + 1 ≡ length (now (a .octets)) = omega arith in
-    c .next-pair2 .ensures ∙ sym (pair-last (l .check) (now (a .octets)) (a .extra) (l .i) e) ∙ l .inv .2
+    c .next-pair2 .ensures ∙ ap (x25From (l .check)) (sym (end-from 0 (now (a .octets)) (a .extra) (l .i) e)) ∙ l .inv .2
 
 returns-2 : tie.Need-returns-2 Inv-loop μ-loop
 returns-2 c =

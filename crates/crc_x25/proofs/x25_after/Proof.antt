@@ -37,7 +37,7 @@ loop-again c =
     )
 
 returns : tie.Need-returns Inv-loop μ-loop
-returns c = c .check-rest .ensures ∙ c .before .before .loop .inv .2
+returns c = c .check-last .ensures ∙ c .before .before .loop .inv .2
 
 pub x25-after-spec : {M : Type 1} → statement M
 x25-after-spec =
