@@ -1,7 +1,5 @@
 -- What the ranges of 117 and 201 say of an emitter: the rule's test, and the examples by computation. Assumes nothing.
 use mathlib.Core.Path.{refl}
-use mathlib.Core.Bool.{_&&_}
-use lib.Dec.{eqb, leb, ltb}
 use Rattle.crc_polynomial.specs.Polynomial.{step, reduced, polynomial}
 use Rattle.crc_x25.specs.Check.{bitsUp, wireBits, next, register, mirrored, x25}
 use Rattle.field_codes.specs.Codes.{isEmitter, isSizeCode}

@@ -2,7 +2,6 @@
 use native.Mathlib.Omega.{arith}
 use lib.Bits.{and-le-r}
 use Rattle.c_ucp_control.proofs.Marks.{each}
-use borrow.Author.Needs.{needs}
 use Rattle.c_ucp_control.proofs.marked.Statement.{statement}
 use Rattle.c_ucp_control.proofs.marked.Tie as tie
 

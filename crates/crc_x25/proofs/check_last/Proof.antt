@@ -1,6 +1,5 @@
 -- `crc_x25::check_last` meets its contract: the octets that are left and the extra are the word's. Assumes nothing.
 use mathlib.Core.Path.{_≡_, sym, ap, _∙_}
-use mathlib.Core.List.{List}
 use Prim.Native.Nat.{ℕ, _+_}
 use native.Mathlib.Omega.{arith}
 use denote.Ref.{now}
