@@ -175,7 +175,7 @@ pub extern "C" fn ostrogosz_ucp_write_control(
 // ---- sending
 
 // Octets 2 to 9 of the body.
-fn second_word(message: &[u8]) -> u64
+fn first_word(message: &[u8]) -> u64
     requires { ⌜ (length (now message) ≡ 24) × (getD (now message) 5 0 < 4) ⌝ }
     ensures { λ r. ⌜ octetsUp 8 r ≡ take 8 (drop 2 (bodyOf controlFormat (held controlStruct (now (message .entry))))) ⌝ }
 {
@@ -198,7 +198,7 @@ fn put_frame(message: &[u8], buffer: &mut [u8]) -> usize
     requires { ⌜ (length (now message) ≡ 24) × (getD (now message) 5 0 < 4) × (length (frame (bodyOf controlFormat (held controlStruct (now message)))) ≤ length (now buffer)) ⌝ }
     ensures { λ r. ⌜ (r ≡ length (frame (bodyOf controlFormat (held controlStruct (now (message .entry)))))) × (now (buffer .exit) ≡ frame (bodyOf controlFormat (held controlStruct (now (message .entry)))) ++ drop r (now (buffer .entry))) ⌝ }
 {
-    let word = second_word(message);
+    let word = first_word(message);
     buffer[0] = 0x7E;
     let next = ucp_stuffing::put_pair(buffer, 1, 45, 1);
     let head = crc_gdl90::next_check_pair(0, 45, 1);

@@ -217,7 +217,6 @@ end-from n octets extra i e =
     (rw (sym (add-one i)) (end-at n 1 octets extra i (omega arith)))
 
 -- or the extra alone
-
 pub octet-last : (check : ℕ) (octets : List ℕ) (extra i : ℕ) → i ≡ length octets
     → x25From check (drop i (octets ++ extra ∷ [])) ≡ x25From check (extra ∷ [])
 octet-last check octets extra i e = ap (x25From check) (drop-at octets (extra ∷ []) i (sym e))

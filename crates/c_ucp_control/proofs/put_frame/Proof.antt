@@ -32,7 +32,7 @@ words-left : (c : tie.After-put-eight)
 words-left c =
     let s = c .before .before .before .before .before .before .before .before .before .before .before .before in
     second-put (now (s .args .message)) (s .pre .0) (λ i. c .before .before .before .before .before .before .before .before .before .before .before .shared-slice-known .given i .fits) (now (s .args .buffer)) (s .pre .2)
-    (c .before .before .before .before .before .before .before .put-pair .ensures) (c .before .before .before .before .before .before .before .before .before .second-word .result) (c .before .before .before .before .before .before .before .before .before .second-word .ensures) (c .put-eight .ensures) (c .before .before .before .before .next-check-pair .ensures .0)
+    (c .before .before .before .before .before .before .before .put-pair .ensures) (c .before .before .before .before .before .before .before .before .before .first-word .result) (c .before .before .before .before .before .before .before .before .before .first-word .ensures) (c .put-eight .ensures) (c .before .before .before .before .next-check-pair .ensures .0)
     (c .before .before .next-check-eight .ensures .0
     ∙ ap (λ (xs : List ℕ). divided (c .before .before .before .before .next-check-pair .result) (bitsOfOctets xs)) (c .before .before .before .turned .ensures))
 
@@ -45,7 +45,7 @@ put-eight-requires : tie.Need-put-eight-requires
 put-eight-requires c κs =
     let s = c .before .before .before .before .before .before .before .before .before .before .before in
     second-room (now (s .args .message)) (s .pre .0) (λ i. c .before .before .before .before .before .before .before .before .before .before .shared-slice-known .given i .fits) (now (s .args .buffer)) (s .pre .2)
-    (c .before .before .before .before .before .before .put-pair .ensures) (c .before .before .before .before .before .before .before .before .second-word .result) (c .before .before .before .before .before .before .before .before .second-word .ensures)
+    (c .before .before .before .before .before .before .put-pair .ensures) (c .before .before .before .before .before .before .before .before .first-word .result) (c .before .before .before .before .before .before .before .before .first-word .ensures)
 
 fill-words-requires : tie.Need-fill-words-requires
 fill-words-requires c κs =
