@@ -5,11 +5,11 @@ use Rattle.output_writing.specs.declared.OstrogoszWritten.{OstrogoszWritten}
 use Rattle.output_writing.specs.Writing.{WritingNumbers}
 use Rattle.ucp_frame.specs.Frame.{frame}
 use Rattle.ucp_writer.specs.Writes.{FramesInPlace}
-use Rattle.ucp_writer.specs.Sends.{sendDue}
+use Rattle.ucp_writer.specs.Sends.{send_due}
 
 -- one call, whole: the kind and the value, the buffer as at entry, what is given back, and the buffer as at return
 abbrev pub SendsStruct : {A : Type 0} → Format A → A → List ℕ → OstrogoszWritten → List ℕ → Type 0
-SendsStruct f a buffer = WritingNumbers (sendDue (fits f a) (body_of f a) buffer) (frame (body_of f a)) buffer
+SendsStruct f a buffer = WritingNumbers (send_due (fits f a) (body_of f a) buffer) (frame (body_of f a)) buffer
 
 -- the second half of a send: what the kind's writer gave, and the buffer that it wrote to. Its refusal is handed on, and its body
 -- becomes its frame

@@ -1,10 +1,10 @@
 -- What a writer of one kind answers in numbers, and what it leaves in the output that it is lent. Assumes nothing.
 use Rattle.std.specs.Prelude.{List, ℕ}
-use Rattle.ucp_answers.specs.Writes.{bodyDue}
+use Rattle.ucp_answers.specs.Writes.{body_due}
 use Rattle.field_format.specs.Format.{Format, fits, body_of}
 use Rattle.output_writing.specs.declared.OstrogoszWritten.{OstrogoszWritten}
 use Rattle.output_writing.specs.Writing.{WritingNumbers}
 
 -- one call, whole: the kind and the value, the output as at entry, what is given back, and the output as at return
 abbrev pub WritesStructBody : {A : Type 0} → Format A → A → List ℕ → OstrogoszWritten → List ℕ → Type 0
-WritesStructBody f a output = WritingNumbers (bodyDue (fits f a) (body_of f a) output) (body_of f a) output
+WritesStructBody f a output = WritingNumbers (body_due (fits f a) (body_of f a) output) (body_of f a) output

@@ -2,7 +2,7 @@
 // more than one kind's calls do.
 ghost use Rattle.std.specs.Prelude.{◌≡◌};
 ghost use Rattle.c_lent.specs.Sends.{FramesWritten};
-ghost use Rattle.c_lent.specs.Steps.{firstRefusal, numberedAnswer};
+ghost use Rattle.c_lent.specs.Steps.{first_refusal, numbered_answer};
 
 use output_writing::OstrogoszWritten;
 use ucp_frame::FrameBuffer;
@@ -20,7 +20,7 @@ pub const FIELD: u32 = refusals::FIELD as u32;
 
 // A reader's first two tests: 10, then 11; 0, where neither is due.
 pub fn first_refusal(body: &[u8], id: u8, size: usize) -> u32
-    ensures { result ≡ firstRefusal id size body.now }
+    ensures { result ≡ first_refusal id size body.now }
 {
     let n = body.len();
     if n == 0 {
@@ -38,7 +38,7 @@ pub fn first_refusal(body: &[u8], id: u8, size: usize) -> u32
 // What a writer answers in C, from a refusal's number, or 0 and so many octets. A writer that has several callers hands its number
 // on, and not this struct: that would go by way of memory, and be loaded in other pieces than it was stored in.
 pub fn numbered(refusal: u32, length: usize) -> OstrogoszWritten
-    ensures { result ≡ numberedAnswer refusal length }
+    ensures { result ≡ numbered_answer refusal length }
 {
     if refusal == 0 {
         return OstrogoszWritten { refusal: 0, length };

@@ -7,43 +7,43 @@ use native.Mathlib.Omega.{arith}
 use borrow.Author.Tests.{le-leb, lt-leb, le-ltb, lt-ltb, eq-eqb, ne_eqb}
 use lib.Dec.{leb}
 use lib.ListN.{length, get_or}
-use Rattle.field_format.specs.Format.{Format, valueIn}
+use Rattle.field_format.specs.Format.{Format, value_in}
 use Rattle.mavlink_frame.specs.declared.Header.{Header}
 use Rattle.mavlink_frame.specs.declared.Kind.{Kind}
 use Rattle.mavlink_frame.specs.Reader as found_as
-use Rattle.mavlink_frame.specs.Frame.{KindAnswer, known, mavlinkKind, start}
-use Rattle.mavlink_frame.specs.Reader.{FrameAnswer, header_at, payloadAt, checkAt, checkDue, foundOf, foundBy, found}
+use Rattle.mavlink_frame.specs.Frame.{KindAnswer, known, mavlink_kind, start}
+use Rattle.mavlink_frame.specs.Reader.{FrameAnswer, header_at, payload_at, check_at, check_due, found_of, found_by, found}
 use Rattle.mavlink_frame.proofs.reader.Tests.{other_length, short, wrong, right}
 use Rattle.mavlink_messages.specs.declared.Message as message-as
-use Rattle.mavlink_messages.specs.Messages.{judgedBy, payloadRead, read_by}
+use Rattle.mavlink_messages.specs.Messages.{judged_by, payload_read, read_by}
 use Rattle.c_lent.specs.Structs.{stored}
-use Rattle.c_mavlink.specs.Structs.{headerStruct, messageStored}
-use Rattle.c_mavlink.specs.Readers.{isOther, foundAs, readAs, ReadsMavlink}
+use Rattle.c_mavlink.specs.Structs.{header_struct, message_stored}
+use Rattle.c_mavlink.specs.Readers.{is_other, found_as, read_as, ReadsMavlink}
 use Rattle.c_mavlink.specs.Steps.{Taken, TakenBy, WholeOfKind, Before, Tested}
 
 -- ---- the tests before the check
 module _ (id : ℕ) (s : List ℕ) where
-  pub as-found : isOther id s ≡ false → foundAs id s ≡ found s
-  unfolding foundAs
-  as-found e = rw e
+  pub as_found : is_other id s ≡ false → found_as id s ≡ found s
+  unfolding found_as
+  as_found e = rw e
 
-  no_header : length s < 6 → isOther id s ≡ false
+  no_header : length s < 6 → is_other id s ≡ false
   no_header h = rw (lt-leb _ _ h)
 
 module _ (k : Kind) (s : List ℕ) where
-  refusing : {number : ℕ} → 0 < number → foundAs k.id s ≡ found_as.refused number → Before k s number
+  refusing : {number : ℕ} → 0 < number → found_as k.id s ≡ found_as.refused number → Before k s number
   refusing some e = record { refused = λ h. e; whole = λ z. absurd (omega arith) }
 
   pub empty : length s ≡ 0 → Before k s 20
   unfolding found
-  empty n = refusing (omega arith) (as-found k.id s (no_header k.id s (omega arith)) ∙ rw (eq-eqb _ _ n))
+  empty n = refusing (omega arith) (as_found k.id s (no_header k.id s (omega arith)) ∙ rw (eq-eqb _ _ n))
 
   module _ (some : length s ≡ 0 → ⊥) where
-    pub other-start : (get_or s 0 0 ≡ start → ⊥) → Before k s 21
+    pub other_start : (get_or s 0 0 ≡ start → ⊥) → Before k s 21
     unfolding found
-    other-start ne =
+    other_start ne =
         refusing (omega arith)
-        (as-found k.id s (rw (ne_eqb _ _ ne) (go (leb 6 (length s)))) ∙ rw (ne_eqb _ _ some, ne_eqb _ _ ne))
+        (as_found k.id s (rw (ne_eqb _ _ ne) (go (leb 6 (length s)))) ∙ rw (ne_eqb _ _ some, ne_eqb _ _ ne))
       where
         go : (b : Bool) → (b && false) ≡ false
         go true = refl
@@ -54,27 +54,27 @@ module _ (k : Kind) (s : List ℕ) where
       unfolding found
       few h =
           refusing (omega arith)
-          (as-found k.id s (no_header k.id s h) ∙ rw (ne_eqb _ _ some, eq-eqb _ _ first, lt-ltb _ _ h))
+          (as_found k.id s (no_header k.id s h) ∙ rw (ne_eqb _ _ some, eq-eqb _ _ first, lt-ltb _ _ h))
 
       module _ (six : 6 ≤ length s) where
-        pub other-id : (get_or s 5 0 ≡ k.id → ⊥) → Before k s 22
-        unfolding foundAs
-        other-id ne = refusing (omega arith) (rw (le-leb _ _ six, eq-eqb _ _ first, ne_eqb _ _ ne))
+        pub other_id : (get_or s 5 0 ≡ k.id → ⊥) → Before k s 22
+        unfolding found_as
+        other_id ne = refusing (omega arith) (rw (le-leb _ _ six, eq-eqb _ _ first, ne_eqb _ _ ne))
 
-        module _ (named : get_or s 5 0 ≡ k.id) (is : mavlinkKind k.id ≡ known k) where
-          by_kind : foundAs k.id s ≡ foundOf k s
+        module _ (named : get_or s 5 0 ≡ k.id) (is : mavlink_kind k.id ≡ known k) where
+          by_kind : found_as k.id s ≡ found_of k s
           unfolding found
           by_kind =
-              as-found k.id s (rw (le-leb _ _ six, eq-eqb _ _ first, eq-eqb _ _ named))
+              as_found k.id s (rw (le-leb _ _ six, eq-eqb _ _ first, eq-eqb _ _ named))
               ∙ rw (ne_eqb _ _ some, eq-eqb _ _ first, le-ltb _ _ six)
-              (ap (λ (l : KindAnswer). foundBy l s) (ap mavlinkKind named ∙ is))
+              (ap (λ (l : KindAnswer). found_by l s) (ap mavlink_kind named ∙ is))
 
-          pub another-length : (get_or s 1 0 ≡ k.length → ⊥) → Before k s 23
-          another-length ne = refusing (omega arith) (by_kind ∙ other_length k s ne)
+          pub another_length : (get_or s 1 0 ≡ k.length → ⊥) → Before k s 23
+          another_length ne = refusing (omega arith) (by_kind ∙ other_length k s ne)
 
           module _ (sized : get_or s 1 0 ≡ k.length) where
-            pub not-whole : length s < k.length + 8 → Before k s 20
-            not-whole h = refusing (omega arith) (by_kind ∙ short k s sized h)
+            pub not_whole : length s < k.length + 8 → Before k s 20
+            not_whole h = refusing (omega arith) (by_kind ∙ short k s sized h)
 
             pub is_whole : k.length + 8 ≤ length s → Before k s 0
             is_whole h = record { refused = λ z. absurd (omega arith); whole = λ z. record { room = h; sized = sized; is = by_kind } }
@@ -85,41 +85,41 @@ module _ (k : Kind) (s : List ℕ) where
   early ne b = record { refused = b.refused; taken = λ z. absurd (ne z) }
 
   module _ (w : WholeOfKind k s) where
-    pub wrong-check : (checkAt k.length s ≡ checkDue k.length k.extra s → ⊥) → Tested k.id s 24
-    wrong-check ne = record { refused = λ h. w.is ∙ wrong k s w.sized w.room ne; taken = λ z. absurd (omega arith) }
+    pub wrong_check : (check_at k.length s ≡ check_due k.length k.extra s → ⊥) → Tested k.id s 24
+    wrong_check ne = record { refused = λ h. w.is ∙ wrong k s w.sized w.room ne; taken = λ z. absurd (omega arith) }
 
-    pub right-check : mavlinkKind k.id ≡ known k → checkAt k.length s ≡ checkDue k.length k.extra s → Tested k.id s 0
-    right-check is e =
+    pub right_check : mavlink_kind k.id ≡ known k → check_at k.length s ≡ check_due k.length k.extra s → Tested k.id s 0
+    right_check is e =
         let t : Taken k s = record { room = w.room; is = w.is ∙ right k s w.sized w.room e } in
         record { refused = λ z. absurd (omega arith); taken = λ z. subst (λ (l : KindAnswer). TakenBy l s) (sym is) t }
 
 -- ---- the answers
 module _ (header message : List ℕ) where
   -- refused up to the check
-  pub frame_refused : (id : ℕ) (s : List ℕ) {number : ℕ} → foundAs id s ≡ found_as.refused number
-      → ReadsMavlink (readAs id s) header message number header message
-  frame_refused id s e = rw e (record { answers = refl; leaves-header = refl; leaves-message = refl })
+  pub frame_refused : (id : ℕ) (s : List ℕ) {number : ℕ} → found_as id s ≡ found_as.refused number
+      → ReadsMavlink (read_as id s) header message number header message
+  frame_refused id s e = rw e (record { answers = refl; leaves_header = refl; leaves_message = refl })
 
   -- a right frame of a kind with a format and a place among the messages
   module _ {A : Type 0} (k : Kind) (f : Format A) (is : A → message-as.Message)
-      (reads : (h : Header) (used : ℕ) (p : List ℕ) → payloadRead k.id h used p ≡ judgedBy (f.ranges (valueIn f p)) h used (is (valueIn f p)))
+      (reads : (h : Header) (used : ℕ) (p : List ℕ) → payload_read k.id h used p ≡ judged_by (f.ranges (value_in f p)) h used (is (value_in f p)))
       (s : List ℕ) (t : Taken k s) where
     size : k.length + 8 - 8 ≡ k.length
     size = omega arith
 
-    due : {fits : Bool} → f.ranges (valueIn f (payloadAt k.length s)) ≡ fits
-        → readAs k.id s ≡ judgedBy fits (header_at s) (k.length + 8) (is (valueIn f (payloadAt k.length s)))
+    due : {fits : Bool} → f.ranges (value_in f (payload_at k.length s)) ≡ fits
+        → read_as k.id s ≡ judged_by fits (header_at s) (k.length + 8) (is (value_in f (payload_at k.length s)))
     due e =
         ap (λ (found : FrameAnswer). read_by found s) t.is
-        ∙ ap (λ (n : ℕ). payloadRead k.id (header_at s) (k.length + 8) (payloadAt n s)) size
-        ∙ reads (header_at s) (k.length + 8) (payloadAt k.length s)
-        ∙ ap (λ (b : Bool). judgedBy b (header_at s) (k.length + 8) (is (valueIn f (payloadAt k.length s)))) e
+        ∙ ap (λ (n : ℕ). payload_read k.id (header_at s) (k.length + 8) (payload_at n s)) size
+        ∙ reads (header_at s) (k.length + 8) (payload_at k.length s)
+        ∙ ap (λ (b : Bool). judged_by b (header_at s) (k.length + 8) (is (value_in f (payload_at k.length s)))) e
 
-    pub field-refused : f.ranges (valueIn f (payloadAt k.length s)) ≡ false
-        → ReadsMavlink (readAs k.id s) header message 25 header message
-    field-refused e = rw (due e) (record { answers = refl; leaves-header = refl; leaves-message = refl })
+    pub field_refused : f.ranges (value_in f (payload_at k.length s)) ≡ false
+        → ReadsMavlink (read_as k.id s) header message 25 header message
+    field_refused e = rw (due e) (record { answers = refl; leaves_header = refl; leaves_message = refl })
 
-    pub read : {headerAfter messageAfter : List ℕ} → f.ranges (valueIn f (payloadAt k.length s)) ≡ true
-        → headerAfter ≡ stored headerStruct (header_at s) → messageAfter ≡ messageStored (is (valueIn f (payloadAt k.length s)))
-        → ReadsMavlink (readAs k.id s) header message 0 headerAfter messageAfter
-    read e h m = rw (due e) (record { answers = refl; leaves-header = h; leaves-message = m })
+    pub read : {header_after message_after : List ℕ} → f.ranges (value_in f (payload_at k.length s)) ≡ true
+        → header_after ≡ stored header_struct (header_at s) → message_after ≡ message_stored (is (value_in f (payload_at k.length s)))
+        → ReadsMavlink (read_as k.id s) header message 0 header_after message_after
+    read e h m = rw (due e) (record { answers = refl; leaves_header = h; leaves_message = m })

@@ -4,9 +4,9 @@ use Rattle.mavlink_messages.specs.Failures.{LowestAnswer, bit, none, FailureAnsw
 use Rattle.c_mavlink.specs.declared.OstrogoszMavlinkFailures.{OstrogoszMavlinkFailures}
 
 -- the lowest failure bit, 1 to 4, or 0
-abbrev pub lowestNumber : LowestAnswer → ℕ
-lowestNumber (bit b) = b
-lowestNumber none = 0
+abbrev pub lowest_number : LowestAnswer → ℕ
+lowest_number (bit b) = b
+lowest_number none = 0
 
-abbrev pub failureNumbers : FailureAnswer → OstrogoszMavlinkFailures
-failureNumbers f = record { count = f.count; lowest = lowestNumber f.lowest }
+abbrev pub failure_numbers : FailureAnswer → OstrogoszMavlinkFailures
+failure_numbers f = record { count = f.count; lowest = lowest_number f.lowest }

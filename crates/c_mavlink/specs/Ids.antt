@@ -6,14 +6,14 @@ use Rattle.mavlink_frame.specs.Reader.{FrameAnswer, refused, frame, found}
 use Rattle.c_mavlink.specs.declared.OstrogoszMavlinkId.{OstrogoszMavlinkId}
 
 -- the refusal that is due before the check is looked at; 0, where none is
-abbrev pub refusalBeforeCheck : FrameAnswer → ℕ
-refusalBeforeCheck (frame id h used) = 0
-refusalBeforeCheck (refused number) = cond (eqb number because.mavlinkWrongCheck) 0 number
+abbrev pub refusal_before_check : FrameAnswer → ℕ
+refusal_before_check (frame id h used) = 0
+refusal_before_check (refused number) = cond (eqb number because.mavlink_wrong_check) 0 number
 
 -- a refusal's number, and all else 0; or no refusal, the message ID, and how many octets the frame has
-abbrev pub idNumbers : ℕ → List ℕ → OstrogoszMavlinkId
-idNumbers zero s = record { refusal = 0; id = get_or s 5 0; used = get_or s 1 0 + 8 }
-idNumbers (suc n) s = record { refusal = suc n; id = 0; used = 0 }
+abbrev pub id_numbers : ℕ → List ℕ → OstrogoszMavlinkId
+id_numbers zero s = record { refusal = 0; id = get_or s 5 0; used = get_or s 1 0 + 8 }
+id_numbers (suc n) s = record { refusal = suc n; id = 0; used = 0 }
 
-abbrev pub mavlinkIdDue : List ℕ → OstrogoszMavlinkId
-mavlinkIdDue s = idNumbers (refusalBeforeCheck (found s)) s
+abbrev pub mavlink_id_due : List ℕ → OstrogoszMavlinkId
+mavlink_id_due s = id_numbers (refusal_before_check (found s)) s

@@ -2,8 +2,8 @@
 ghost use Rattle.std.specs.Prelude.{◌≡◌, length};
 ghost use Rattle.mavlink_messages.specs.declared.Message.TheVariants.{DataStream};
 ghost use Rattle.c_lent.specs.Structs.{held};
-ghost use Rattle.c_mavlink.specs.Structs.{headerStruct, dataStreamStruct};
-ghost use Rattle.c_mavlink.specs.Readers.{ReadsMavlink, readAs};
+ghost use Rattle.c_mavlink.specs.Structs.{header_struct, data_stream_struct};
+ghost use Rattle.c_mavlink.specs.Readers.{ReadsMavlink, read_as};
 ghost use Rattle.c_mavlink.specs.Steps.{Tested};
 ghost use Rattle.c_mavlink.specs.Writers.{WritesMavlinkForC};
 
@@ -30,7 +30,7 @@ pub extern "C" fn ostrogosz_mavlink_read_data_stream(
     header: &mut [u8; 3],
     message: &mut [u8; 6],
 ) -> u32
-    ensures { ReadsMavlink (readAs 66 input.now) header.old message.old result header.new message.new }
+    ensures { ReadsMavlink (read_as 66 input.now) header.old message.old result header.new message.new }
 {
     let refusal = refusal_of(input);
     if refusal != 0 {
@@ -43,7 +43,7 @@ pub extern "C" fn ostrogosz_mavlink_read_data_stream(
 
 fn write(message: &[u8], header: &[u8], output: &mut [u8]) -> OstrogoszWritten
     requires { (length message.now ≡ 6) × (length header.now ≡ 3) }
-    ensures { WritesMavlinkForC (DataStream (held dataStreamStruct message.now)) (held headerStruct header.now) output.old result output.new }
+    ensures { WritesMavlinkForC (DataStream (held data_stream_struct message.now)) (held header_struct header.now) output.old result output.new }
 {
     output_writing::in_numbers(mavlink_frame::writer::write_six(
         mavlink_frame::DATA_STREAM,
@@ -60,7 +60,7 @@ pub extern "C" fn ostrogosz_mavlink_write_data_stream(
     header: &[u8; 3],
     output: &mut [u8],
 ) -> OstrogoszWritten
-    ensures { WritesMavlinkForC (DataStream (held dataStreamStruct message.now)) (held headerStruct header.now) output.old result output.new }
+    ensures { WritesMavlinkForC (DataStream (held data_stream_struct message.now)) (held header_struct header.now) output.old result output.new }
 {
     write(message, header, output)
 }

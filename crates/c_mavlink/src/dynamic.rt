@@ -2,17 +2,17 @@
 ghost use Rattle.std.specs.Prelude.{◌≡◌, length, get_or};
 ghost use Rattle.field_layout.specs.Steps.{little16};
 ghost use Rattle.mavlink_messages.specs.declared.Message.TheVariants.{Dynamic};
-ghost use Rattle.mavlink_messages.specs.Ranges.{dynamicFits};
+ghost use Rattle.mavlink_messages.specs.Ranges.{dynamic_fits};
 ghost use Rattle.c_lent.specs.Structs.{held};
-ghost use Rattle.c_mavlink.specs.Structs.{headerStruct, dynamicStruct};
-ghost use Rattle.c_mavlink.specs.Readers.{ReadsMavlink, readAs};
+ghost use Rattle.c_mavlink.specs.Structs.{header_struct, dynamic_struct};
+ghost use Rattle.c_mavlink.specs.Readers.{ReadsMavlink, read_as};
 ghost use Rattle.c_mavlink.specs.Writers.{WritesMavlinkForC};
 
 use output_writing::OstrogoszWritten;
 
 // Whether the fields are in range, of a payload or of a struct.
 fn fits(octets: &[u8]) -> bool
-    ensures { result ≡ dynamicFits (little16 octets.now 36) (get_or octets.now 38 0) }
+    ensures { result ≡ dynamic_fits (little16 octets.now 36) (get_or octets.now 38 0) }
 {
     mavlink_messages::ranges::dynamic_fits(
         field_layout::little_16(octets, 36),
@@ -28,7 +28,7 @@ pub extern "C" fn ostrogosz_mavlink_read_dynamic(
     header: &mut [u8; 3],
     message: &mut [u8; 44],
 ) -> u32
-    ensures { ReadsMavlink (readAs 202 input.now) header.old message.old result header.new message.new }
+    ensures { ReadsMavlink (read_as 202 input.now) header.old message.old result header.new message.new }
 {
     let refusal = super::frames::refusal_of(mavlink_frame::DYNAMIC, input);
     if refusal != 0 {
@@ -45,7 +45,7 @@ pub extern "C" fn ostrogosz_mavlink_read_dynamic(
 
 fn write(message: &[u8], header: &[u8], output: &mut [u8]) -> OstrogoszWritten
     requires { (length message.now ≡ 44) × (length header.now ≡ 3) }
-    ensures { WritesMavlinkForC (Dynamic (held dynamicStruct message.now)) (held headerStruct header.now) output.old result output.new }
+    ensures { WritesMavlinkForC (Dynamic (held dynamic_struct message.now)) (held header_struct header.now) output.old result output.new }
 {
     if !fits(message) {
         return super::frames::field_refused();
@@ -60,7 +60,7 @@ pub extern "C" fn ostrogosz_mavlink_write_dynamic(
     header: &[u8; 3],
     output: &mut [u8],
 ) -> OstrogoszWritten
-    ensures { WritesMavlinkForC (Dynamic (held dynamicStruct message.now)) (held headerStruct header.now) output.old result output.new }
+    ensures { WritesMavlinkForC (Dynamic (held dynamic_struct message.now)) (held header_struct header.now) output.old result output.new }
 {
     write(message, header, output)
 }

@@ -8,10 +8,10 @@ mod status;
 mod traffic;
 
 ghost use Rattle.std.specs.Prelude.{◌≡◌, ◌≤◌, length};
-ghost use Rattle.mavlink_frame.specs.Reader.{foundOf};
-ghost use Rattle.mavlink_messages.specs.Failures.{failuresIn};
-ghost use Rattle.c_mavlink.specs.Ids.{refusalBeforeCheck, idNumbers, mavlinkIdDue};
-ghost use Rattle.c_mavlink.specs.Failures.{failureNumbers};
+ghost use Rattle.mavlink_frame.specs.Reader.{found_of};
+ghost use Rattle.mavlink_messages.specs.Failures.{failures_in};
+ghost use Rattle.c_mavlink.specs.Ids.{refusal_before_check, id_numbers, mavlink_id_due};
+ghost use Rattle.c_mavlink.specs.Failures.{failure_numbers};
 
 use mavlink_frame::{Kind, Lookup};
 
@@ -63,7 +63,7 @@ fn refused(refusal: u32) -> OstrogoszMavlinkId
 // The tests of a frame of a kind, of which six octets are there, up to the check.
 fn id_of(kind: Kind, input: &[u8]) -> OstrogoszMavlinkId
     requires { 6 ≤ length input.now }
-    ensures { result ≡ idNumbers (refusalBeforeCheck (foundOf kind input.now)) input.now }
+    ensures { result ≡ id_numbers (refusal_before_check (found_of kind input.now)) input.now }
 {
     let length = input[1];
     if length != kind.length {
@@ -84,7 +84,7 @@ fn id_of(kind: Kind, input: &[u8]) -> OstrogoszMavlinkId
 // looked at.
 #[unsafe(no_mangle)]
 pub extern "C" fn ostrogosz_mavlink_read_id(input: &[u8]) -> OstrogoszMavlinkId
-    ensures { result ≡ mavlinkIdDue input.now }
+    ensures { result ≡ mavlink_id_due input.now }
 {
     let n = input.len();
     if n == 0 {
@@ -106,7 +106,7 @@ pub extern "C" fn ostrogosz_mavlink_read_id(input: &[u8]) -> OstrogoszMavlinkId
 // The failure bits of a status.
 #[unsafe(no_mangle)]
 pub extern "C" fn ostrogosz_mavlink_count_failures(status: u8) -> OstrogoszMavlinkFailures
-    ensures { result ≡ failureNumbers (failuresIn status) }
+    ensures { result ≡ failure_numbers (failures_in status) }
 {
     OstrogoszMavlinkFailures {
         count: mavlink_messages::failure_bits::count_failures(status),

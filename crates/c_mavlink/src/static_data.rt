@@ -1,17 +1,17 @@
 // Message 201, the static data of an aircraft. Its struct has the payload's octets in the payload's order, but for the integrity: the
 // address has four octets there.
 ghost use Rattle.std.specs.Prelude.{◌≡◌, ◌<◌, ◌≤◌, ◌++◌, length, get_or, take, drop};
-ghost use Rattle.field_layout.specs.Layout.{textAt};
+ghost use Rattle.field_layout.specs.Layout.{text_at};
 ghost use Rattle.field_layout.specs.Steps.{little32};
-ghost use Rattle.field_format.specs.Format.{valueIn, body_of};
-ghost use Rattle.mavlink_frame.specs.Reader.{payloadAt};
+ghost use Rattle.field_format.specs.Format.{value_in, body_of};
+ghost use Rattle.mavlink_frame.specs.Reader.{payload_at};
 ghost use Rattle.mavlink_messages.specs.declared.Message.TheVariants.{Static};
-ghost use Rattle.mavlink_messages.specs.Static201.{staticFormat};
-ghost use Rattle.mavlink_messages.specs.Ranges.{staticFits};
-ghost use Rattle.mavlink_messages.specs.Messages.{messageFrame};
+ghost use Rattle.mavlink_messages.specs.Static201.{static_format};
+ghost use Rattle.mavlink_messages.specs.Ranges.{static_fits};
+ghost use Rattle.mavlink_messages.specs.Messages.{message_frame};
 ghost use Rattle.c_lent.specs.Structs.{stored, held};
-ghost use Rattle.c_mavlink.specs.Structs.{headerStruct, staticStruct};
-ghost use Rattle.c_mavlink.specs.Readers.{ReadsMavlink, readAs};
+ghost use Rattle.c_mavlink.specs.Structs.{header_struct, static_struct};
+ghost use Rattle.c_mavlink.specs.Readers.{ReadsMavlink, read_as};
 ghost use Rattle.c_mavlink.specs.Writers.{WritesMavlinkForC};
 
 use output_writing::OstrogoszWritten;
@@ -19,7 +19,7 @@ use output_writing::OstrogoszWritten;
 // Whether the fields are in range, of a payload or of a struct: behind the address both have them at the same places.
 fn fits(address: u32, octets: &[u8]) -> bool
     requires { 19 ≤ length octets.now }
-    ensures { result ≡ staticFits address (textAt octets.now 6) (get_or octets.now 14 0) (get_or octets.now 15 0) (get_or octets.now 16 0) (get_or octets.now 17 0) (get_or octets.now 18 0) }
+    ensures { result ≡ static_fits address (text_at octets.now 6) (get_or octets.now 14 0) (get_or octets.now 15 0) (get_or octets.now 16 0) (get_or octets.now 17 0) (get_or octets.now 18 0) }
 {
     (address < 16777216)
         & field_texts::is_spaced(&octets[6..14])
@@ -32,7 +32,7 @@ fn fits(address: u32, octets: &[u8]) -> bool
 
 fn fill(input: &[u8], message: &mut [u8; 20])
     requires { 27 ≤ length input.now }
-    ensures { message.new ≡ stored staticStruct (valueIn staticFormat (payloadAt 19 input.now)) }
+    ensures { message.new ≡ stored static_struct (value_in static_format (payload_at 19 input.now)) }
 {
     *message = [0; 20];
     field_words::copies::copy(&input[6..25], message, 0);
@@ -48,7 +48,7 @@ pub extern "C" fn ostrogosz_mavlink_read_static(
     header: &mut [u8; 3],
     message: &mut [u8; 20],
 ) -> u32
-    ensures { ReadsMavlink (readAs 201 input.now) header.old message.old result header.new message.new }
+    ensures { ReadsMavlink (read_as 201 input.now) header.old message.old result header.new message.new }
 {
     let refusal = super::frames::refusal_of(mavlink_frame::STATIC, input);
     if refusal != 0 {
@@ -65,7 +65,7 @@ pub extern "C" fn ostrogosz_mavlink_read_static(
 // Puts the payload into an output, from 6 on: nineteen octets in three words, the integrity over the address's fourth.
 fn put_payload(message: &[u8], output: &mut [u8])
     requires { (length message.now ≡ 20) × (little32 message.now 0 < 16777216) × (27 ≤ length output.old) }
-    ensures { output.new ≡ take 6 output.old ++ (body_of staticFormat (held staticStruct message.now) ++ drop 25 output.old) }
+    ensures { output.new ≡ take 6 output.old ++ (body_of static_format (held static_struct message.now) ++ drop 25 output.old) }
 {
     field_words::put_64(output, 6, field_words::little_64(message, 0));
     field_words::put_64(output, 14, field_words::little_64(message, 8));
@@ -75,7 +75,7 @@ fn put_payload(message: &[u8], output: &mut [u8])
 
 fn put_frame(message: &[u8], header: &[u8], output: &mut [u8])
     requires { (length message.now ≡ 20) × (little32 message.now 0 < 16777216) × (length header.now ≡ 3) × (27 ≤ length output.old) }
-    ensures { output.new ≡ messageFrame (Static (held staticStruct message.now)) (held headerStruct header.now) ++ drop 27 output.old }
+    ensures { output.new ≡ message_frame (Static (held static_struct message.now)) (held header_struct header.now) ++ drop 27 output.old }
 {
     put_payload(message, output);
     mavlink_frame::writer::surround(mavlink_frame::STATIC, super::frames::sender(header), output);
@@ -83,7 +83,7 @@ fn put_frame(message: &[u8], header: &[u8], output: &mut [u8])
 
 fn write(message: &[u8], header: &[u8], output: &mut [u8]) -> OstrogoszWritten
     requires { (length message.now ≡ 20) × (length header.now ≡ 3) }
-    ensures { WritesMavlinkForC (Static (held staticStruct message.now)) (held headerStruct header.now) output.old result output.new }
+    ensures { WritesMavlinkForC (Static (held static_struct message.now)) (held header_struct header.now) output.old result output.new }
 {
     if !fits(field_layout::little_32(message, 0), message) {
         return super::frames::field_refused();
@@ -108,7 +108,7 @@ pub extern "C" fn ostrogosz_mavlink_write_static(
     header: &[u8; 3],
     output: &mut [u8],
 ) -> OstrogoszWritten
-    ensures { WritesMavlinkForC (Static (held staticStruct message.now)) (held headerStruct header.now) output.old result output.new }
+    ensures { WritesMavlinkForC (Static (held static_struct message.now)) (held header_struct header.now) output.old result output.new }
 {
     write(message, header, output)
 }

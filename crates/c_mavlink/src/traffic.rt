@@ -2,17 +2,17 @@
 ghost use Rattle.std.specs.Prelude.{◌≡◌, length};
 ghost use Rattle.field_layout.specs.Steps.{little16};
 ghost use Rattle.mavlink_messages.specs.declared.Message.TheVariants.{Traffic};
-ghost use Rattle.mavlink_messages.specs.Ranges.{trafficFits};
+ghost use Rattle.mavlink_messages.specs.Ranges.{traffic_fits};
 ghost use Rattle.c_lent.specs.Structs.{held};
-ghost use Rattle.c_mavlink.specs.Structs.{headerStruct, trafficStruct};
-ghost use Rattle.c_mavlink.specs.Readers.{ReadsMavlink, readAs};
+ghost use Rattle.c_mavlink.specs.Structs.{header_struct, traffic_struct};
+ghost use Rattle.c_mavlink.specs.Readers.{ReadsMavlink, read_as};
 ghost use Rattle.c_mavlink.specs.Writers.{WritesMavlinkForC};
 
 use output_writing::OstrogoszWritten;
 
 // Whether the fields are in range, of a payload or of a struct.
 fn fits(octets: &[u8]) -> bool
-    ensures { result ≡ trafficFits (little16 octets.now 24) }
+    ensures { result ≡ traffic_fits (little16 octets.now 24) }
 {
     mavlink_messages::ranges::traffic_fits(field_layout::little_16(octets, 24))
 }
@@ -25,7 +25,7 @@ pub extern "C" fn ostrogosz_mavlink_read_traffic(
     header: &mut [u8; 3],
     message: &mut [u8; 40],
 ) -> u32
-    ensures { ReadsMavlink (readAs 246 input.now) header.old message.old result header.new message.new }
+    ensures { ReadsMavlink (read_as 246 input.now) header.old message.old result header.new message.new }
 {
     let refusal = super::frames::refusal_of(mavlink_frame::TRAFFIC, input);
     if refusal != 0 {
@@ -42,7 +42,7 @@ pub extern "C" fn ostrogosz_mavlink_read_traffic(
 
 fn write(message: &[u8], header: &[u8], output: &mut [u8]) -> OstrogoszWritten
     requires { (length message.now ≡ 40) × (length header.now ≡ 3) }
-    ensures { WritesMavlinkForC (Traffic (held trafficStruct message.now)) (held headerStruct header.now) output.old result output.new }
+    ensures { WritesMavlinkForC (Traffic (held traffic_struct message.now)) (held header_struct header.now) output.old result output.new }
 {
     if !fits(message) {
         return super::frames::field_refused();
@@ -57,7 +57,7 @@ pub extern "C" fn ostrogosz_mavlink_write_traffic(
     header: &[u8; 3],
     output: &mut [u8],
 ) -> OstrogoszWritten
-    ensures { WritesMavlinkForC (Traffic (held trafficStruct message.now)) (held headerStruct header.now) output.old result output.new }
+    ensures { WritesMavlinkForC (Traffic (held traffic_struct message.now)) (held header_struct header.now) output.old result output.new }
 {
     write(message, header, output)
 }

@@ -4,23 +4,23 @@ use mathlib.Core.List.{[], ◌∷◌}
 use native.Mathlib.Omega.{arith}
 use lib.ListN.{length}
 use Rattle.ucp_messages.specs.declared.Control.{Control}
-use Rattle.c_lent.specs.Structs.{RightStruct, structOffsets, structSize, stored, held, TypedIn}
-use Rattle.c_lent.proofs.Structs.{held-stored}
-use Rattle.c_ucp_control.specs.Struct.{controlStruct}
+use Rattle.c_lent.specs.Structs.{RightStruct, struct_offsets, struct_size, stored, held, TypedIn}
+use Rattle.c_lent.proofs.Structs.{held_stored}
+use Rattle.c_ucp_control.specs.Struct.{control_struct}
 
-pub control-struct-right : RightStruct controlStruct
-control-struct-right = record { sound = omega arith; back = λ c. refl }
+pub control_struct_right : RightStruct control_struct
+control_struct_right = record { sound = omega arith; back = λ c. refl }
 
 -- the ABI's offsets and size
-control-struct-offsets : structOffsets controlStruct ≡ 0 ∷ 1 ∷ 2 ∷ 3 ∷ 4 ∷ 5 ∷ 6 ∷ 8 ∷ 12 ∷ 14 ∷ 15 ∷ []
-control-struct-offsets = refl
+control_struct_offsets : struct_offsets control_struct ≡ 0 ∷ 1 ∷ 2 ∷ 3 ∷ 4 ∷ 5 ∷ 6 ∷ 8 ∷ 12 ∷ 14 ∷ 15 ∷ []
+control_struct_offsets = refl
 
-control-struct-size : structSize controlStruct ≡ 24
-control-struct-size = refl
+control_struct_size : struct_size control_struct ≡ 24
+control_struct_size = refl
 
-pub stored-size : (c : Control) → length (stored controlStruct c) ≡ 24
+pub stored_size : (c : Control) → length (stored control_struct c) ≡ 24
 unfolding stored
-stored-size c = refl
+stored_size c = refl
 
-pub control-held-stored : (c : Control) → TypedIn controlStruct c → held controlStruct (stored controlStruct c) ≡ c
-control-held-stored = held-stored controlStruct control-struct-right
+pub control_held_stored : (c : Control) → TypedIn control_struct c → held control_struct (stored control_struct c) ≡ c
+control_held_stored = held_stored control_struct control_struct_right

@@ -7,7 +7,7 @@ use native.Mathlib.Nat.{add_comm}
 use mathlib.Core.Bool.{Bool, true, false}
 use lib.Bits.{bit_and, bit_or, and_zero_r, and_le_r, and_block, or_block, or_lt}
 use Rattle.crc_polynomial.proofs.Linear.{up_from, everywhere}
-use Rattle.field_words.specs.Words.{octetsUp}
+use Rattle.field_words.specs.Words.{octets_up}
 use Rattle.field_layout.specs.Layout.{bit_of}
 use Rattle.c_lent.specs.Structs.{is_yes}
 use Rattle.c_ucp_control.specs.Steps.{marks}
@@ -30,8 +30,8 @@ one = everywhere octet (λ x. bit_of (is_yes x) * 128) 256 computed
 
 -- a word: no octet's sum goes over into the next
 pub each : (n w : ℕ)
-    → bit_and (bit_or (bit_and w (repeated n 127) + repeated n 127) w) (repeated n 128) ≡ marks (octetsUp n w)
-unfolding octetsUp octet
+    → bit_and (bit_or (bit_and w (repeated n 127) + repeated n 127) w) (repeated n 128) ≡ marks (octets_up n w)
+unfolding octets_up octet
 each zero w = and_zero_r (bit_or (bit_and w 0 + 0) w)
 each (suc n) w =
     let h = w / 256 in
@@ -50,7 +50,7 @@ each (suc n) w =
     ∙ ap (λ (m : ℕ). bit_and m (t * 256 + 128)) (or_block 8 (a + l) h (b + 127) x (omega arith) (omega arith))
     ∙ and_block 8 (bit_or (a + l) h) t (bit_or (b + 127) x) 128 (or_lt 8 (b + 127) x (omega arith) (omega arith)) (omega arith)
     ∙ ap₂ (λ (m k : ℕ). m * 256 + k) (each n h) (one x (omega arith))
-    ∙ add_comm (marks (octetsUp n h) * 256) (bit_of (is_yes x) * 128)
+    ∙ add_comm (marks (octets_up n h) * 256) (bit_of (is_yes x) * 128)
 
 -- ---- of four octets
 abbrev pub worth : ℕ → ℕ
@@ -67,8 +67,8 @@ module _ (x0 x1 x2 x3 : ℕ) where
   abbrev all : ℕ
   all = marks (x0 ∷ x1 ∷ x2 ∷ x3 ∷ [])
 
-  each-one : all / 128 ≡ worth x0 + (worth x1 * 256 + (worth x2 * 65536 + worth x3 * 16777216))
-  each-one = omega arith
+  each_one : all / 128 ≡ worth x0 + (worth x1 * 256 + (worth x2 * 65536 + worth x3 * 16777216))
+  each_one = omega arith
 
   -- from bit 24 on: in the low octet the four stand, the first highest, and the terms above are whole octets
   abbrev above : ℕ
@@ -78,7 +78,7 @@ module _ (x0 x1 x2 x3 : ℕ) where
   low = worth x0 * 128 + (worth x1 * 64 + (worth x2 * 32 + worth x3 * 16))
 
   product : all / 128 * 0x80402010 / 16777216 ≡ above * 256 + low
-  product = omega (arith, each-one, few x0, few x1, few x2, few x3)
+  product = omega (arith, each_one, few x0, few x1, few x2, few x3)
 
   pub gathered : all / 128 * 0x80402010 / 16777216 % 256 ≡ low
   gathered = ap (λ (m : ℕ). m % 256) product ∙ omega (arith, few x0, few x1, few x2, few x3)

@@ -4,8 +4,8 @@ use Rattle.field_layout.specs.Layout.{bit_of}
 use Rattle.c_lent.specs.Structs.{is_yes}
 
 -- offsets 0 to 7 of the struct, from the octet at 2 of the body: its bits from the highest on, and padding
-abbrev pub stateFields : ℕ → List ℕ
-stateFields s =
+abbrev pub state_fields : ℕ → List ℕ
+state_fields s =
     s / 128
     ∷ s % 128 / 64
     ∷ s % 128 % 64 / 32

@@ -1,18 +1,18 @@
 // Message 45, Control, for C: the message lies in the caller's struct, which is lent as its octets.
 ghost use Rattle.std.specs.Prelude.{◌≡◌, ◌&&◌, ltb, ◌++◌, ◌*◌, ◌<◌, ◌≤◌, length, get_or, take, drop};
-ghost use Rattle.field_words.specs.Words.{octetsUp};
-ghost use Rattle.field_codes.specs.Codes.{isSquawk};
+ghost use Rattle.field_words.specs.Words.{octets_up};
+ghost use Rattle.field_codes.specs.Codes.{is_squawk};
 ghost use Rattle.ucp_frame.specs.Frame.{frame};
 ghost use Rattle.field_layout.specs.Steps.{little16};
 ghost use Rattle.field_layout.specs.Layout.{bit_of};
-ghost use Rattle.field_format.specs.Format.{valueIn, body_of};
-ghost use Rattle.ucp_messages.specs.Control45.{controlFormat};
+ghost use Rattle.field_format.specs.Format.{value_in, body_of};
+ghost use Rattle.ucp_messages.specs.Control45.{control_format};
 ghost use Rattle.c_lent.specs.Reads.{ReadsInto};
 ghost use Rattle.c_lent.specs.Writes.{WritesStructBody};
 ghost use Rattle.c_lent.specs.Sends.{SendsStruct};
 ghost use Rattle.c_lent.specs.Structs.{is_yes, stored, held};
-ghost use Rattle.c_ucp_control.specs.Struct.{controlStruct, controlState};
-ghost use Rattle.c_ucp_control.specs.Steps.{stateFields, marks};
+ghost use Rattle.c_ucp_control.specs.Struct.{control_struct, control_state};
+ghost use Rattle.c_ucp_control.specs.Steps.{state_fields, marks};
 
 use output_writing::OstrogoszWritten;
 use ucp_frame::FrameBuffer;
@@ -22,7 +22,7 @@ use ucp_frame::FrameBuffer;
 // Whether each field that a body carries is in its range.
 fn body_fits(body: &[u8]) -> bool
     requires { length body.now ≡ 18 }
-    ensures { result ≡ controlFormat.ranges (valueIn controlFormat body.now) }
+    ensures { result ≡ control_format.ranges (value_in control_format body.now) }
 {
     field_codes::is_squawk(field_layout::little_16(body, 7))
         & field_texts::pairs::is_padded_at(body, 10)
@@ -37,7 +37,7 @@ const FIELDS: u64 = 0x0001_0301_0101_0100;
 // Bits 7 to 0 of the octet at 2, an octet of the struct for each field, and the padding behind them. A product moves all fields at
 // once, and no two of its terms meet: with a shift for each the reader had twenty instructions more.
 fn flags(state: u8) -> u64
-    ensures { octetsUp 8 result ≡ stateFields state }
+    ensures { octets_up 8 result ≡ state_fields state }
 {
     (state as u64 * MOVED & FIELDS) + (state / 128) as u64
 }
@@ -45,7 +45,7 @@ fn flags(state: u8) -> u64
 // From 3 on the body has the octets of the struct from 8 on.
 fn fill(body: &[u8], message: &mut [u8; 24])
     requires { length body.now ≡ 18 }
-    ensures { message.new ≡ stored controlStruct (valueIn controlFormat body.now) }
+    ensures { message.new ≡ stored control_struct (value_in control_format body.now) }
 {
     // Behind a store the compiler reads the body anew. Else it keeps the text from its test, and copies it by way of the stack.
     *message = [0; 24];
@@ -58,7 +58,7 @@ fn fill(body: &[u8], message: &mut [u8; 24])
 // Reads a body into the struct: 0, or the refusal that is due, 10 to 13, and then the struct is as it was.
 #[unsafe(no_mangle)]
 pub extern "C" fn ostrogosz_ucp_read_control(body: &[u8], message: &mut [u8; 24]) -> u32
-    ensures { ReadsInto controlFormat controlStruct body.now message.old result message.new }
+    ensures { ReadsInto control_format control_struct body.now message.old result message.new }
 {
     let refusal = c_lent::first_refusal(body, 45, 18);
     if refusal != 0 {
@@ -83,7 +83,7 @@ const TOP: u32 = 0x8080_8080;
 
 // The top bit of each octet that is not 0: where a bit below it is set, LOW added to those bits carries into it.
 fn marked(word: u32) -> u32
-    ensures { result ≡ marks (octetsUp 4 word) }
+    ensures { result ≡ marks (octets_up 4 word) }
 {
     (((word & LOW) + LOW) | word) & TOP
 }
@@ -101,7 +101,7 @@ fn bit(octet: u8, worth: u8) -> u8
 // Bits 7 to 0 of the octet at 2. The first four bools are looked at in one word.
 fn state(message: &[u8]) -> u8
     requires { (length message.now ≡ 24) × (get_or message.now 5 0 < 4) }
-    ensures { result ≡ controlState (held controlStruct message.now) }
+    ensures { result ≡ control_state (held control_struct message.now) }
 {
     let yes = marked(field_layout::little_32(message, 0)) as u64;
     let high = (yes / 128 * GATHERED / 16777216 % 256) as u8;
@@ -114,7 +114,7 @@ fn state(message: &[u8]) -> u8
 // tested apart: one function for both, with two callers, would not be inlined.
 fn numbers_fit(message: &[u8]) -> bool
     requires { length message.now ≡ 24 }
-    ensures { result ≡ (ltb (get_or message.now 5 0) 4 && isSquawk (little16 message.now 12)) }
+    ensures { result ≡ (ltb (get_or message.now 5 0) 4 && is_squawk (little16 message.now 12)) }
 {
     (message[5] < 4) & field_codes::is_squawk(field_layout::little_16(message, 12))
 }
@@ -122,7 +122,7 @@ fn numbers_fit(message: &[u8]) -> bool
 // Puts the body at the start of output.
 fn put(message: &[u8], output: &mut [u8])
     requires { (length message.now ≡ 24) × (get_or message.now 5 0 < 4) × (18 ≤ length output.old) }
-    ensures { output.new ≡ body_of controlFormat (held controlStruct message.now) ++ drop 18 output.old }
+    ensures { output.new ≡ body_of control_format (held control_struct message.now) ++ drop 18 output.old }
 {
     let state = state(message);
     // Behind a store the compiler reads the message anew, as in `fill`.
@@ -136,7 +136,7 @@ fn put(message: &[u8], output: &mut [u8])
 
 fn write(message: &[u8], output: &mut [u8]) -> OstrogoszWritten
     requires { length message.now ≡ 24 }
-    ensures { WritesStructBody controlFormat (held controlStruct message.now) output.old result output.new }
+    ensures { WritesStructBody control_format (held control_struct message.now) output.old result output.new }
 {
     if !(numbers_fit(message) & field_texts::pairs::is_padded_at(message, 15)) {
         return OstrogoszWritten {
@@ -163,7 +163,7 @@ pub extern "C" fn ostrogosz_ucp_write_control(
     message: &[u8; 24],
     output: &mut [u8],
 ) -> OstrogoszWritten
-    ensures { WritesStructBody controlFormat (held controlStruct message.now) output.old result output.new }
+    ensures { WritesStructBody control_format (held control_struct message.now) output.old result output.new }
 {
     write(message, output)
 }
@@ -173,7 +173,7 @@ pub extern "C" fn ostrogosz_ucp_write_control(
 // Octets 2 to 9 of the body.
 fn first_word(message: &[u8]) -> u64
     requires { (length message.now ≡ 24) × (get_or message.now 5 0 < 4) }
-    ensures { octetsUp 8 result ≡ take 8 (drop 2 (body_of controlFormat (held controlStruct message.now))) }
+    ensures { octets_up 8 result ≡ take 8 (drop 2 (body_of control_format (held control_struct message.now))) }
 {
     let state = state(message);
     field_words::word_of(
@@ -191,8 +191,8 @@ fn first_word(message: &[u8]) -> u64
 // Puts the frame at the start of buffer. The body is never whole in one place: it is two octets, and two words, the second of which
 // stands in the struct.
 fn put_frame(message: &[u8], buffer: &mut [u8]) -> usize
-    requires { (length message.now ≡ 24) × (get_or message.now 5 0 < 4) × (length (frame (body_of controlFormat (held controlStruct message.now))) ≤ length buffer.old) }
-    ensures { (result ≡ length (frame (body_of controlFormat (held controlStruct message.now)))) × (buffer.new ≡ frame (body_of controlFormat (held controlStruct message.now)) ++ drop result buffer.old) }
+    requires { (length message.now ≡ 24) × (get_or message.now 5 0 < 4) × (length (frame (body_of control_format (held control_struct message.now))) ≤ length buffer.old) }
+    ensures { (result ≡ length (frame (body_of control_format (held control_struct message.now)))) × (buffer.new ≡ frame (body_of control_format (held control_struct message.now)) ++ drop result buffer.old) }
 {
     let word = first_word(message);
     buffer[0] = 0x7E;
@@ -205,7 +205,7 @@ fn put_frame(message: &[u8], buffer: &mut [u8]) -> usize
 
 fn send(message: &[u8], buffer: &mut [u8]) -> OstrogoszWritten
     requires { (length message.now ≡ 24) × (length buffer.old ≡ 878) }
-    ensures { SendsStruct controlFormat (held controlStruct message.now) buffer.old result buffer.new }
+    ensures { SendsStruct control_format (held control_struct message.now) buffer.old result buffer.new }
 {
     if !(numbers_fit(message) & field_texts::pairs::is_padded_at(message, 15)) {
         return OstrogoszWritten {
@@ -225,7 +225,7 @@ pub extern "C" fn ostrogosz_ucp_send_control(
     message: &[u8; 24],
     buffer: &mut FrameBuffer,
 ) -> OstrogoszWritten
-    ensures { SendsStruct controlFormat (held controlStruct message.now) buffer.old result buffer.new }
+    ensures { SendsStruct control_format (held control_struct message.now) buffer.old result buffer.new }
 {
     send(message, buffer)
 }

@@ -1,6 +1,6 @@
 // The frame check and the frame writer for C and Rust; include/ostrogosz.h says the same in C.
 ghost use Rattle.std.specs.Prelude.{◌≡◌};
-ghost use Rattle.crc_gdl90.specs.Check.{frameCheck};
+ghost use Rattle.crc_gdl90.specs.Check.{frame_check};
 ghost use Rattle.c_ucp_frames.specs.Frames.{WritesFrameNumbers};
 
 use output_writing::OstrogoszWritten;
@@ -8,7 +8,7 @@ use output_writing::OstrogoszWritten;
 // The frame check sequence of a body of any length.
 #[unsafe(no_mangle)]
 pub extern "C" fn ostrogosz_ucp_frame_check(body: &[u8]) -> u16
-    ensures { result ≡ frameCheck body.now }
+    ensures { result ≡ frame_check body.now }
 {
     crc_gdl90::frame_check(body)
 }

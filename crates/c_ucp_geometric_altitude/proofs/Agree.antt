@@ -4,23 +4,23 @@ use mathlib.Core.List.{[], ◌∷◌}
 use native.Mathlib.Omega.{arith}
 use lib.ListN.{length}
 use Rattle.ucp_messages.specs.declared.GeometricAltitude.{GeometricAltitude}
-use Rattle.c_lent.specs.Structs.{RightStruct, structOffsets, structSize, stored, held, TypedIn}
-use Rattle.c_lent.proofs.Structs.{held-stored}
-use Rattle.c_ucp_geometric_altitude.specs.Struct.{geometricStruct}
+use Rattle.c_lent.specs.Structs.{RightStruct, struct_offsets, struct_size, stored, held, TypedIn}
+use Rattle.c_lent.proofs.Structs.{held_stored}
+use Rattle.c_ucp_geometric_altitude.specs.Struct.{geometric_struct}
 
-pub geometric-struct-right : RightStruct geometricStruct
-geometric-struct-right = record { sound = omega arith; back = λ g. refl }
+pub geometric_struct_right : RightStruct geometric_struct
+geometric_struct_right = record { sound = omega arith; back = λ g. refl }
 
 -- the ABI's offsets and size
-geometric-struct-offsets : structOffsets geometricStruct ≡ 0 ∷ 2 ∷ []
-geometric-struct-offsets = refl
+geometric_struct_offsets : struct_offsets geometric_struct ≡ 0 ∷ 2 ∷ []
+geometric_struct_offsets = refl
 
-geometric-struct-size : structSize geometricStruct ≡ 4
-geometric-struct-size = refl
+geometric_struct_size : struct_size geometric_struct ≡ 4
+geometric_struct_size = refl
 
-pub stored-size : (g : GeometricAltitude) → length (stored geometricStruct g) ≡ 4
+pub stored_size : (g : GeometricAltitude) → length (stored geometric_struct g) ≡ 4
 unfolding stored
-stored-size g = refl
+stored_size g = refl
 
-pub geometric-held-stored : (g : GeometricAltitude) → TypedIn geometricStruct g → held geometricStruct (stored geometricStruct g) ≡ g
-geometric-held-stored = held-stored geometricStruct geometric-struct-right
+pub geometric_held_stored : (g : GeometricAltitude) → TypedIn geometric_struct g → held geometric_struct (stored geometric_struct g) ≡ g
+geometric_held_stored = held_stored geometric_struct geometric_struct_right

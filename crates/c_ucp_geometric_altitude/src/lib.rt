@@ -1,12 +1,12 @@
 // Message 11, Ownship geometric altitude, for C: the message lies in the caller's struct, which is lent as its octets.
 ghost use Rattle.std.specs.Prelude.{◌≡◌, ◌++◌, ◌≤◌, length, drop};
-ghost use Rattle.field_format.specs.Format.{valueIn, body_of};
-ghost use Rattle.ucp_messages.specs.GeometricAltitude11.{geometricFormat};
+ghost use Rattle.field_format.specs.Format.{value_in, body_of};
+ghost use Rattle.ucp_messages.specs.GeometricAltitude11.{geometric_format};
 ghost use Rattle.c_lent.specs.Reads.{ReadsInto};
 ghost use Rattle.c_lent.specs.Writes.{WritesStructBody};
 ghost use Rattle.c_lent.specs.Sends.{SendsStruct};
 ghost use Rattle.c_lent.specs.Structs.{stored, held};
-ghost use Rattle.c_ucp_geometric_altitude.specs.Struct.{geometricStruct};
+ghost use Rattle.c_ucp_geometric_altitude.specs.Struct.{geometric_struct};
 
 use output_writing::OstrogoszWritten;
 use ucp_frame::FrameBuffer;
@@ -16,7 +16,7 @@ use ucp_frame::FrameBuffer;
 // The body has both numbers most significant octet first.
 fn fill(body: &[u8], message: &mut [u8; 4])
     requires { length body.now ≡ 5 }
-    ensures { message.new ≡ stored geometricStruct (valueIn geometricFormat body.now) }
+    ensures { message.new ≡ stored geometric_struct (value_in geometric_format body.now) }
 {
     *message = [body[2], body[1], body[4], body[3]];
 }
@@ -24,7 +24,7 @@ fn fill(body: &[u8], message: &mut [u8; 4])
 // Reads a body into the struct: 0, or the refusal that is due, 10 or 11, and then the struct is as it was.
 #[unsafe(no_mangle)]
 pub extern "C" fn ostrogosz_ucp_read_geometric_altitude(body: &[u8], message: &mut [u8; 4]) -> u32
-    ensures { ReadsInto geometricFormat geometricStruct body.now message.old result message.new }
+    ensures { ReadsInto geometric_format geometric_struct body.now message.old result message.new }
 {
     let refusal = c_lent::first_refusal(body, 11, 5);
     if refusal != 0 {
@@ -39,7 +39,7 @@ pub extern "C" fn ostrogosz_ucp_read_geometric_altitude(body: &[u8], message: &m
 // Puts the body at the start of output.
 fn put(message: &[u8], output: &mut [u8])
     requires { (length message.now ≡ 4) × (5 ≤ length output.old) }
-    ensures { output.new ≡ body_of geometricFormat (held geometricStruct message.now) ++ drop 5 output.old }
+    ensures { output.new ≡ body_of geometric_format (held geometric_struct message.now) ++ drop 5 output.old }
 {
     output[0] = 11;
     output[1] = message[1];
@@ -50,7 +50,7 @@ fn put(message: &[u8], output: &mut [u8])
 
 // Every field has room in the body.
 fn write(message: &[u8; 4], output: &mut [u8]) -> OstrogoszWritten
-    ensures { WritesStructBody geometricFormat (held geometricStruct message.now) output.old result output.new }
+    ensures { WritesStructBody geometric_format (held geometric_struct message.now) output.old result output.new }
 {
     if output.len() < 5 {
         return OstrogoszWritten {
@@ -71,7 +71,7 @@ pub extern "C" fn ostrogosz_ucp_write_geometric_altitude(
     message: &[u8; 4],
     output: &mut [u8],
 ) -> OstrogoszWritten
-    ensures { WritesStructBody geometricFormat (held geometricStruct message.now) output.old result output.new }
+    ensures { WritesStructBody geometric_format (held geometric_struct message.now) output.old result output.new }
 {
     write(message, output)
 }
@@ -85,7 +85,7 @@ pub extern "C" fn ostrogosz_ucp_send_geometric_altitude(
     message: &[u8; 4],
     buffer: &mut FrameBuffer,
 ) -> OstrogoszWritten
-    ensures { SendsStruct geometricFormat (held geometricStruct message.now) buffer.old result buffer.new }
+    ensures { SendsStruct geometric_format (held geometric_struct message.now) buffer.old result buffer.new }
 {
     let written = write(message, buffer);
     c_lent::frame_written(written, buffer)

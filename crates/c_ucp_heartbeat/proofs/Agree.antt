@@ -4,23 +4,23 @@ use mathlib.Core.List.{[], ◌∷◌}
 use native.Mathlib.Omega.{arith}
 use lib.ListN.{length}
 use Rattle.ucp_messages.specs.declared.Heartbeat.{Heartbeat}
-use Rattle.c_lent.specs.Structs.{RightStruct, structOffsets, structSize, stored, held, TypedIn}
-use Rattle.c_lent.proofs.Structs.{held-stored}
-use Rattle.c_ucp_heartbeat.specs.Struct.{heartbeatStruct}
+use Rattle.c_lent.specs.Structs.{RightStruct, struct_offsets, struct_size, stored, held, TypedIn}
+use Rattle.c_lent.proofs.Structs.{held_stored}
+use Rattle.c_ucp_heartbeat.specs.Struct.{heartbeat_struct}
 
-pub heartbeat-struct-right : RightStruct heartbeatStruct
-heartbeat-struct-right = record { sound = omega arith; back = λ h. refl }
+pub heartbeat_struct_right : RightStruct heartbeat_struct
+heartbeat_struct_right = record { sound = omega arith; back = λ h. refl }
 
 -- the ABI's offsets and size
-heartbeat-struct-offsets : structOffsets heartbeatStruct ≡ 0 ∷ 1 ∷ 2 ∷ 4 ∷ []
-heartbeat-struct-offsets = refl
+heartbeat_struct_offsets : struct_offsets heartbeat_struct ≡ 0 ∷ 1 ∷ 2 ∷ 4 ∷ []
+heartbeat_struct_offsets = refl
 
-heartbeat-struct-size : structSize heartbeatStruct ≡ 6
-heartbeat-struct-size = refl
+heartbeat_struct_size : struct_size heartbeat_struct ≡ 6
+heartbeat_struct_size = refl
 
-pub stored-size : (h : Heartbeat) → length (stored heartbeatStruct h) ≡ 6
+pub stored_size : (h : Heartbeat) → length (stored heartbeat_struct h) ≡ 6
 unfolding stored
-stored-size h = refl
+stored_size h = refl
 
-pub heartbeat-held-stored : (h : Heartbeat) → TypedIn heartbeatStruct h → held heartbeatStruct (stored heartbeatStruct h) ≡ h
-heartbeat-held-stored = held-stored heartbeatStruct heartbeat-struct-right
+pub heartbeat_held_stored : (h : Heartbeat) → TypedIn heartbeat_struct h → held heartbeat_struct (stored heartbeat_struct h) ≡ h
+heartbeat_held_stored = held_stored heartbeat_struct heartbeat_struct_right

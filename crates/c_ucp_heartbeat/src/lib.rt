@@ -1,12 +1,12 @@
 // Message 0, Heartbeat, for C: the message lies in the caller's struct, which is lent as its octets.
 ghost use Rattle.std.specs.Prelude.{◌≡◌, ◌++◌, ◌≤◌, length, drop};
-ghost use Rattle.field_format.specs.Format.{valueIn, body_of};
-ghost use Rattle.ucp_messages.specs.Heartbeat0.{heartbeatFormat};
+ghost use Rattle.field_format.specs.Format.{value_in, body_of};
+ghost use Rattle.ucp_messages.specs.Heartbeat0.{heartbeat_format};
 ghost use Rattle.c_lent.specs.Reads.{ReadsInto};
 ghost use Rattle.c_lent.specs.Writes.{WritesStructBody};
 ghost use Rattle.c_lent.specs.Sends.{SendsStruct};
 ghost use Rattle.c_lent.specs.Structs.{stored, held};
-ghost use Rattle.c_ucp_heartbeat.specs.Struct.{heartbeatStruct};
+ghost use Rattle.c_ucp_heartbeat.specs.Struct.{heartbeat_struct};
 
 use output_writing::OstrogoszWritten;
 use ucp_frame::FrameBuffer;
@@ -16,7 +16,7 @@ use ucp_frame::FrameBuffer;
 // The body has the counts most significant octet first.
 fn fill(body: &[u8], message: &mut [u8; 6])
     requires { length body.now ≡ 7 }
-    ensures { message.new ≡ stored heartbeatStruct (valueIn heartbeatFormat body.now) }
+    ensures { message.new ≡ stored heartbeat_struct (value_in heartbeat_format body.now) }
 {
     *message = [body[1], body[2], body[3], body[4], body[6], body[5]];
 }
@@ -24,7 +24,7 @@ fn fill(body: &[u8], message: &mut [u8; 6])
 // Reads a body into the struct: 0, or the refusal that is due, 10 or 11, and then the struct is as it was.
 #[unsafe(no_mangle)]
 pub extern "C" fn ostrogosz_ucp_read_heartbeat(body: &[u8], message: &mut [u8; 6]) -> u32
-    ensures { ReadsInto heartbeatFormat heartbeatStruct body.now message.old result message.new }
+    ensures { ReadsInto heartbeat_format heartbeat_struct body.now message.old result message.new }
 {
     let refusal = c_lent::first_refusal(body, 0, 7);
     if refusal != 0 {
@@ -39,7 +39,7 @@ pub extern "C" fn ostrogosz_ucp_read_heartbeat(body: &[u8], message: &mut [u8; 6
 // Puts the body at the start of output.
 fn put(message: &[u8], output: &mut [u8])
     requires { (length message.now ≡ 6) × (7 ≤ length output.old) }
-    ensures { output.new ≡ body_of heartbeatFormat (held heartbeatStruct message.now) ++ drop 7 output.old }
+    ensures { output.new ≡ body_of heartbeat_format (held heartbeat_struct message.now) ++ drop 7 output.old }
 {
     output[0] = 0;
     output[1] = message[0];
@@ -52,7 +52,7 @@ fn put(message: &[u8], output: &mut [u8])
 
 // Every field has room in the body.
 fn write(message: &[u8; 6], output: &mut [u8]) -> OstrogoszWritten
-    ensures { WritesStructBody heartbeatFormat (held heartbeatStruct message.now) output.old result output.new }
+    ensures { WritesStructBody heartbeat_format (held heartbeat_struct message.now) output.old result output.new }
 {
     if output.len() < 7 {
         return OstrogoszWritten {
@@ -73,7 +73,7 @@ pub extern "C" fn ostrogosz_ucp_write_heartbeat(
     message: &[u8; 6],
     output: &mut [u8],
 ) -> OstrogoszWritten
-    ensures { WritesStructBody heartbeatFormat (held heartbeatStruct message.now) output.old result output.new }
+    ensures { WritesStructBody heartbeat_format (held heartbeat_struct message.now) output.old result output.new }
 {
     write(message, output)
 }
@@ -87,7 +87,7 @@ pub extern "C" fn ostrogosz_ucp_send_heartbeat(
     message: &[u8; 6],
     buffer: &mut FrameBuffer,
 ) -> OstrogoszWritten
-    ensures { SendsStruct heartbeatFormat (held heartbeatStruct message.now) buffer.old result buffer.new }
+    ensures { SendsStruct heartbeat_format (held heartbeat_struct message.now) buffer.old result buffer.new }
 {
     let written = write(message, buffer);
     c_lent::frame_written(written, buffer)

@@ -1,9 +1,9 @@
 -- The ID of a body's kind, in numbers (document 01, "Message kinds on the UCP line", and the table's row 10). Assumes nothing.
 use Rattle.std.specs.Prelude.{cond, List, ℕ, get_or}
 use Rattle.refusals.specs.Numbers as because
-use Rattle.ucp_messages.specs.Kinds.{isKnown, kindIn}
+use Rattle.ucp_messages.specs.Kinds.{is_known, kind_in}
 use Rattle.c_ucp_ids.specs.declared.OstrogoszId.{OstrogoszId}
 
 -- one call, whole: the first octet of a body of a known kind, else 10
-unfoldable pub idDue : List ℕ → OstrogoszId
-idDue body = cond (isKnown (kindIn body)) (record { refusal = 0; id = get_or body 0 0 }) (record { refusal = because.unknownId; id = 0 })
+unfoldable pub id_due : List ℕ → OstrogoszId
+id_due body = cond (is_known (kind_in body)) (record { refusal = 0; id = get_or body 0 0 }) (record { refusal = because.unknown_id; id = 0 })

@@ -4,23 +4,23 @@ use mathlib.Core.List.{[], ◌∷◌}
 use native.Mathlib.Omega.{arith}
 use lib.ListN.{length}
 use Rattle.ucp_messages.specs.declared.Initialization.{Initialization}
-use Rattle.c_lent.specs.Structs.{RightStruct, structOffsets, structSize, stored, held, TypedIn}
-use Rattle.c_lent.proofs.Structs.{held-stored}
-use Rattle.c_ucp_initialization.specs.Struct.{initializationStruct}
+use Rattle.c_lent.specs.Structs.{RightStruct, struct_offsets, struct_size, stored, held, TypedIn}
+use Rattle.c_lent.proofs.Structs.{held_stored}
+use Rattle.c_ucp_initialization.specs.Struct.{initialization_struct}
 
-pub initialization-struct-right : RightStruct initializationStruct
-initialization-struct-right = record { sound = omega arith; back = λ n. refl }
+pub initialization_struct_right : RightStruct initialization_struct
+initialization_struct_right = record { sound = omega arith; back = λ n. refl }
 
 -- the ABI's offsets and size
-initialization-struct-offsets : structOffsets initializationStruct ≡ 0 ∷ 4 ∷ 8 ∷ 9 ∷ 17 ∷ 18 ∷ 19 ∷ 20 ∷ []
-initialization-struct-offsets = refl
+initialization_struct_offsets : struct_offsets initialization_struct ≡ 0 ∷ 4 ∷ 8 ∷ 9 ∷ 17 ∷ 18 ∷ 19 ∷ 20 ∷ []
+initialization_struct_offsets = refl
 
-initialization-struct-size : structSize initializationStruct ≡ 24
-initialization-struct-size = refl
+initialization_struct_size : struct_size initialization_struct ≡ 24
+initialization_struct_size = refl
 
-pub stored-size : (n : Initialization) → length (stored initializationStruct n) ≡ 24
+pub stored_size : (n : Initialization) → length (stored initialization_struct n) ≡ 24
 unfolding stored
-stored-size n = refl
+stored_size n = refl
 
-pub initialization-held-stored : (n : Initialization) → TypedIn initializationStruct n → held initializationStruct (stored initializationStruct n) ≡ n
-initialization-held-stored = held-stored initializationStruct initialization-struct-right
+pub initialization_held_stored : (n : Initialization) → TypedIn initialization_struct n → held initialization_struct (stored initialization_struct n) ≡ n
+initialization_held_stored = held_stored initialization_struct initialization_struct_right

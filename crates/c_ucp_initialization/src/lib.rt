@@ -1,15 +1,15 @@
 // Message 117, Initialization, for C: the message lies in the caller's struct, which is lent as its octets.
 ghost use Rattle.std.specs.Prelude.{◌≡◌, true, ◌++◌, ◌≤◌, length, drop};
 ghost use Rattle.std.proofs.lemmas.List.Edits.{sets};
-ghost use Rattle.field_format.specs.Format.{valueIn, body_of, fits};
-ghost use Rattle.ucp_messages.specs.Initialization117.{initializationFormat};
+ghost use Rattle.field_format.specs.Format.{value_in, body_of, fits};
+ghost use Rattle.ucp_messages.specs.Initialization117.{initialization_format};
 ghost use Rattle.c_lent.specs.Reads.{ReadsInto};
 ghost use Rattle.c_lent.specs.Writes.{WritesStructBody};
-ghost use Rattle.c_lent.specs.Steps.{numberedAnswer};
+ghost use Rattle.c_lent.specs.Steps.{numbered_answer};
 ghost use Rattle.c_lent.specs.Sends.{SendsStruct};
 ghost use Rattle.c_lent.specs.Structs.{stored, held};
-ghost use Rattle.c_ucp_initialization.specs.Struct.{initializationStruct};
-ghost use Rattle.c_ucp_initialization.specs.Steps.{firstOctets, SmallFields};
+ghost use Rattle.c_ucp_initialization.specs.Struct.{initialization_struct};
+ghost use Rattle.c_ucp_initialization.specs.Steps.{first_octets, SmallFields};
 
 use output_writing::OstrogoszWritten;
 use ucp_frame::FrameBuffer;
@@ -19,7 +19,7 @@ use ucp_frame::FrameBuffer;
 // Whether each field that a body carries is in its range.
 fn body_fits(body: &[u8]) -> bool
     requires { length body.now ≡ 19 }
-    ensures { result ≡ initializationFormat.ranges (valueIn initializationFormat body.now) }
+    ensures { result ≡ initialization_format.ranges (value_in initialization_format body.now) }
 {
     field_codes::is_emitter(body[7])
         & field_texts::each::is_spaced_at(body, 8)
@@ -28,7 +28,7 @@ fn body_fits(body: &[u8]) -> bool
 
 fn fill(body: &[u8], message: &mut [u8; 24])
     requires { length body.now ≡ 19 }
-    ensures { message.new ≡ stored initializationStruct (valueIn initializationFormat body.now) }
+    ensures { message.new ≡ stored initialization_struct (value_in initialization_format body.now) }
 {
     let offsets = body[18];
     *message = [
@@ -65,7 +65,7 @@ fn fill(body: &[u8], message: &mut [u8; 24])
 // Reads a body into the struct: 0, or the refusal that is due, 10 to 13, and then the struct is as it was.
 #[unsafe(no_mangle)]
 pub extern "C" fn ostrogosz_ucp_read_initialization(body: &[u8], message: &mut [u8; 24]) -> u32
-    ensures { ReadsInto initializationFormat initializationStruct body.now message.old result message.new }
+    ensures { ReadsInto initialization_format initialization_struct body.now message.old result message.new }
 {
     let refusal = c_lent::first_refusal(body, 117, 19);
     if refusal != 0 {
@@ -89,7 +89,7 @@ pub extern "C" fn ostrogosz_ucp_read_initialization(body: &[u8], message: &mut [
 // Whether each field that a struct holds is in its range and has no more bits than the body has for it.
 fn fits(message: &[u8]) -> bool
     requires { length message.now ≡ 24 }
-    ensures { (result ≡ fits initializationFormat (held initializationStruct message.now)) × (result ≡ true → SmallFields message.now) }
+    ensures { (result ≡ fits initialization_format (held initialization_struct message.now)) × (result ≡ true → SmallFields message.now) }
 {
     field_codes::is_emitter(message[8])
         & field_texts::each::is_spaced_at(message, 9)
@@ -102,7 +102,7 @@ fn fits(message: &[u8]) -> bool
 // Puts octets 0 to 7 of the body.
 fn put_first(message: &[u8], output: &mut [u8])
     requires { (length message.now ≡ 24) × (19 ≤ length output.old) }
-    ensures { output.new ≡ sets output.old 0 (firstOctets message.now) }
+    ensures { output.new ≡ sets output.old 0 (first_octets message.now) }
 {
     output[0] = 117;
     output[1] = 65;
@@ -117,7 +117,7 @@ fn put_first(message: &[u8], output: &mut [u8])
 // Puts the body at the start of output. The callsign goes at once, as in `fill`.
 fn put(message: &[u8], output: &mut [u8])
     requires { (length message.now ≡ 24) × SmallFields message.now × (19 ≤ length output.old) }
-    ensures { output.new ≡ body_of initializationFormat (held initializationStruct message.now) ++ drop 19 output.old }
+    ensures { output.new ≡ body_of initialization_format (held initialization_struct message.now) ++ drop 19 output.old }
 {
     put_first(message, output);
     field_words::put_64(output, 8, field_words::little_64(message, 9));
@@ -128,7 +128,7 @@ fn put(message: &[u8], output: &mut [u8])
 
 // Puts the body at the start of output where all is well: 0, or 13 or 8.
 fn write_body(message: &[u8; 24], output: &mut [u8]) -> u32
-    ensures { WritesStructBody initializationFormat (held initializationStruct message.now) output.old (numberedAnswer result 19) output.new }
+    ensures { WritesStructBody initialization_format (held initialization_struct message.now) output.old (numbered_answer result 19) output.new }
 {
     if !fits(message) {
         return c_lent::FIELD;
@@ -146,7 +146,7 @@ pub extern "C" fn ostrogosz_ucp_write_initialization(
     message: &[u8; 24],
     output: &mut [u8],
 ) -> OstrogoszWritten
-    ensures { WritesStructBody initializationFormat (held initializationStruct message.now) output.old result output.new }
+    ensures { WritesStructBody initialization_format (held initialization_struct message.now) output.old result output.new }
 {
     c_lent::numbered(write_body(message, output), 19)
 }
@@ -160,7 +160,7 @@ pub extern "C" fn ostrogosz_ucp_send_initialization(
     message: &[u8; 24],
     buffer: &mut FrameBuffer,
 ) -> OstrogoszWritten
-    ensures { SendsStruct initializationFormat (held initializationStruct message.now) buffer.old result buffer.new }
+    ensures { SendsStruct initialization_format (held initialization_struct message.now) buffer.old result buffer.new }
 {
     let written = c_lent::numbered(write_body(message, buffer), 19);
     c_lent::frame_written(written, buffer)

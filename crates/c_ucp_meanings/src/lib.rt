@@ -1,7 +1,7 @@
 // What the raw numbers of messages 10, 11 and 20 mean, for C and Rust; include/ostrogosz/ucp.h says the same in C.
 ghost use Rattle.std.specs.Prelude.{◌≡◌};
-ghost use Rattle.ucp_meanings.specs.Meanings.{altitudeAnswer, rateAnswer, altitudeMeans, rateMeans, geometricMeans, degreesE7};
-ghost use Rattle.c_ucp_meanings.specs.Measures.{measureOf};
+ghost use Rattle.ucp_meanings.specs.Meanings.{altitude_answer, rate_answer, altitude_means, rate_means, geometric_means, degrees_e7};
+ghost use Rattle.c_ucp_meanings.specs.Measures.{measure_of};
 
 use ucp_meanings::{Altitude, Rate};
 
@@ -16,7 +16,7 @@ pub struct OstrogoszMeasure {
 }
 
 fn feet(altitude: Altitude) -> OstrogoszMeasure
-    ensures { result ≡ measureOf (altitudeAnswer altitude) }
+    ensures { result ≡ measure_of (altitude_answer altitude) }
 {
     match altitude {
         Altitude::NoData => OstrogoszMeasure { known: 0, value: 0 },
@@ -28,7 +28,7 @@ fn feet(altitude: Altitude) -> OstrogoszMeasure
 }
 
 fn feet_per_minute(rate: Rate) -> OstrogoszMeasure
-    ensures { result ≡ measureOf (rateAnswer rate) }
+    ensures { result ≡ measure_of (rate_answer rate) }
 {
     match rate {
         Rate::NoData => OstrogoszMeasure { known: 0, value: 0 },
@@ -42,7 +42,7 @@ fn feet_per_minute(rate: Rate) -> OstrogoszMeasure
 // The pressure altitude of messages 10 and 20, in feet.
 #[unsafe(no_mangle)]
 pub extern "C" fn ostrogosz_ucp_altitude_in_feet(altitude: u16) -> OstrogoszMeasure
-    ensures { result ≡ measureOf (altitudeMeans altitude) }
+    ensures { result ≡ measure_of (altitude_means altitude) }
 {
     feet(ucp_meanings::altitude_in_feet(altitude))
 }
@@ -50,7 +50,7 @@ pub extern "C" fn ostrogosz_ucp_altitude_in_feet(altitude: u16) -> OstrogoszMeas
 // The vertical rate of messages 10 and 20, in feet per minute.
 #[unsafe(no_mangle)]
 pub extern "C" fn ostrogosz_ucp_rate_in_feet_per_minute(vertical_rate: i16) -> OstrogoszMeasure
-    ensures { result ≡ measureOf (rateMeans vertical_rate) }
+    ensures { result ≡ measure_of (rate_means vertical_rate) }
 {
     feet_per_minute(ucp_meanings::rate_in_feet_per_minute(vertical_rate))
 }
@@ -58,7 +58,7 @@ pub extern "C" fn ostrogosz_ucp_rate_in_feet_per_minute(vertical_rate: i16) -> O
 // The geometric altitude of message 11, in feet.
 #[unsafe(no_mangle)]
 pub extern "C" fn ostrogosz_ucp_geometric_altitude_in_feet(altitude: i16) -> i32
-    ensures { result ≡ geometricMeans altitude }
+    ensures { result ≡ geometric_means altitude }
 {
     ucp_meanings::geometric_altitude_in_feet(altitude)
 }
@@ -66,7 +66,7 @@ pub extern "C" fn ostrogosz_ucp_geometric_altitude_in_feet(altitude: i16) -> i32
 // A latitude or longitude of messages 10 and 20, in whole units of 1E-7 degree, toward zero.
 #[unsafe(no_mangle)]
 pub extern "C" fn ostrogosz_ucp_degrees_e7(angle: i32) -> i64
-    ensures { result ≡ degreesE7 angle }
+    ensures { result ≡ degrees_e7 angle }
 {
     ucp_meanings::degrees_e7(angle)
 }

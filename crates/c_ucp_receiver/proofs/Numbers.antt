@@ -7,52 +7,52 @@ use Rattle.ucp_receiver.specs.declared.Answer.{Answer}
 use Rattle.ucp_receiver.specs.declared.Answer.TheVariants.{Nothing, Delivered, Refused}
 use Rattle.ucp_receiver.specs.Octet.{Receives}
 use Rattle.ucp_receiver.specs.Slice.{Takes}
-use Rattle.c_ucp_receiver.specs.Numbers.{phaseOf, phaseNumber, recordIn, recordNumbers, answer_in, answerKind, answerValue, OwnNumbers, ReceivesNumbers, TakesNumbers}
+use Rattle.c_ucp_receiver.specs.Numbers.{phase_of, phase_number, record_in, record_numbers, answer_in, answer_kind, answer_value, OwnNumbers, ReceivesNumbers, TakesNumbers}
 
-pub phase-back : (p : Phase) → phaseOf (phaseNumber p) ≡ p
-phase-back Hunting = refl
-phase-back Reading = refl
-phase-back Escape = refl
-phase-back BadEscape = refl
-phase-back TooLong = refl
+pub phase_back : (p : Phase) → phase_of (phase_number p) ≡ p
+phase_back Hunting = refl
+phase_back Reading = refl
+phase_back Escape = refl
+phase_back BadEscape = refl
+phase_back TooLong = refl
 
-pub record-back : (receiver : Record) → recordIn (recordNumbers receiver) ≡ receiver
-record-back receiver =
+pub record_back : (receiver : Record) → record_in (record_numbers receiver) ≡ receiver
+record_back receiver =
     ap (λ (p : Phase). record { rest = record { phase = p; stored = receiver.rest.stored }; counts = receiver.counts })
-    (phase-back receiver.rest.phase)
+    (phase_back receiver.rest.phase)
 
-pub answer_back : (a : Answer) → answer_in (answerKind a) (answerValue a) ≡ a
+pub answer_back : (a : Answer) → answer_in (answer_kind a) (answer_value a) ≡ a
 answer_back Nothing = refl
 answer_back (Delivered octets) = refl
 answer_back (Refused number) = refl
 
 module _ (line : List ℕ) (kind value : ℕ) (receiver : Record) (answer : Answer)
-    (l : line ≡ recordNumbers receiver) (k : kind ≡ answerKind answer) (v : value ≡ answerValue answer) where
-  record_is : recordIn line ≡ receiver
-  record_is = ap recordIn l ∙ record-back receiver
+    (l : line ≡ record_numbers receiver) (k : kind ≡ answer_kind answer) (v : value ≡ answer_value answer) where
+  record_is : record_in line ≡ receiver
+  record_is = ap record_in l ∙ record_back receiver
 
-  answer-is : answer_in kind value ≡ answer
-  answer-is = ap (λ (n : ℕ). answer_in n value) k ∙ ap (answer_in (answerKind answer)) v ∙ answer_back answer
+  answer_is : answer_in kind value ≡ answer
+  answer_is = ap (λ (n : ℕ). answer_in n value) k ∙ ap (answer_in (answer_kind answer)) v ∙ answer_back answer
 
   written : OwnNumbers line kind value
   written =
       record {
-        line = l ∙ ap recordNumbers (sym record_is);
-        kind = k ∙ ap answerKind (sym answer-is);
-        value = v ∙ ap answerValue (sym answer-is);
+        line = l ∙ ap record_numbers (sym record_is);
+        kind = k ∙ ap answer_kind (sym answer_is);
+        value = v ∙ ap answer_value (sym answer_is);
       }
 
-  pub receives : (before store : List ℕ) (octet : ℕ) (output storeAfter outputThen : List ℕ)
-      → Receives (recordIn before) store octet output (record { receiver = receiver; answer = answer }) storeAfter outputThen
-      → ReceivesNumbers store before octet output kind value storeAfter line outputThen
-  receives before store octet output storeAfter outputThen r =
-      record { received = rw (record_is, answer-is) r; written = written }
+  pub receives : (before store : List ℕ) (octet : ℕ) (output store_after output_then : List ℕ)
+      → Receives (record_in before) store octet output (record { receiver = receiver; answer = answer }) store_after output_then
+      → ReceivesNumbers store before octet output kind value store_after line output_then
+  receives before store octet output store_after output_then r =
+      record { received = rw (record_is, answer_is) r; written = written }
 
-  pub takes : (before store octets output : List ℕ) (taken : ℕ) (storeAfter outputThen : List ℕ)
-      → Takes (recordIn before) store octets output (record { receiver = receiver; answer = answer; taken = taken }) storeAfter outputThen
-      → TakesNumbers store before octets output kind value taken storeAfter line outputThen
-  takes before store octets output taken storeAfter outputThen r =
-      record { took = rw (record_is, answer-is) r; written = written }
+  pub takes : (before store octets output : List ℕ) (taken : ℕ) (store_after output_then : List ℕ)
+      → Takes (record_in before) store octets output (record { receiver = receiver; answer = answer; taken = taken }) store_after output_then
+      → TakesNumbers store before octets output kind value taken store_after line output_then
+  takes before store octets output taken store_after output_then r =
+      record { took = rw (record_is, answer_is) r; written = written }
 
 -- ---- the line by its elements
 
@@ -69,7 +69,7 @@ seven (a ∷ b ∷ c ∷ d ∷ e ∷ f ∷ g ∷ []) h = refl
 seven (a ∷ b ∷ c ∷ d ∷ e ∷ f ∷ g ∷ x ∷ xs) h = absurd (omega arith)
 
 -- what an octet other than the flag changes
-pub open-line : (line : List ℕ) (receiver : Record) → length line ≡ 7 → receiver.counts.flags ≡ get_or line 2 0
+pub open_line : (line : List ℕ) (receiver : Record) → length line ≡ 7 → receiver.counts.flags ≡ get_or line 2 0
     → receiver.counts.delivered ≡ get_or line 3 0 → receiver.counts.refused ≡ get_or line 4 0
-    → set (set (set (set line 0 (phaseNumber receiver.rest.phase)) 1 receiver.rest.stored) 5 receiver.counts.skipped) 6 receiver.counts.unclosed ≡ recordNumbers receiver
-open-line line receiver h f d r = rw (seven line h, f, d, r)
+    → set (set (set (set line 0 (phase_number receiver.rest.phase)) 1 receiver.rest.stored) 5 receiver.counts.skipped) 6 receiver.counts.unclosed ≡ record_numbers receiver
+open_line line receiver h f d r = rw (seven line h, f, d, r)

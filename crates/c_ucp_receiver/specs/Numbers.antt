@@ -9,37 +9,37 @@ use Rattle.ucp_receiver.specs.declared.Answer.{Answer}
 use Rattle.ucp_receiver.specs.declared.Answer.TheVariants.{Nothing, Delivered, Refused}
 use Rattle.ucp_receiver.specs.declared.Received.{Received}
 use Rattle.ucp_receiver.specs.declared.Taken.{Taken}
-use Rattle.ucp_receiver.specs.Answers.{ReceiverAnswer, nothing, refusal, body, receiverAnswer}
-use Rattle.ucp_receiver.specs.Octet.{freshRecord, noOctets, Receives}
+use Rattle.ucp_receiver.specs.Answers.{ReceiverAnswer, nothing, refusal, body, receiver_answer}
+use Rattle.ucp_receiver.specs.Octet.{fresh_record, no_octets, Receives}
 use Rattle.ucp_receiver.specs.Slice.{Takes}
 
 -- ---- a phase: 0 hunting, 1 reading, 2 escape, 3 bad escape, 4 and every other number too long
 
-abbrev pub phaseOf : ℕ → Phase
-phaseOf n = cond (n == 0) Hunting (cond (n == 1) Reading (cond (n == 2) Escape (cond (n == 3) BadEscape TooLong)))
+abbrev pub phase_of : ℕ → Phase
+phase_of n = cond (n == 0) Hunting (cond (n == 1) Reading (cond (n == 2) Escape (cond (n == 3) BadEscape TooLong)))
 
-abbrev pub phaseNumber : Phase → ℕ
-phaseNumber Hunting = 0
-phaseNumber Reading = 1
-phaseNumber Escape = 2
-phaseNumber BadEscape = 3
-phaseNumber TooLong = 4
+abbrev pub phase_number : Phase → ℕ
+phase_number Hunting = 0
+phase_number Reading = 1
+phase_number Escape = 2
+phase_number BadEscape = 3
+phase_number TooLong = 4
 
 -- ---- the line: phase, stored, flags, delivered, refused, skipped, open
 
-abbrev pub restIn : List ℕ → Rest
-restIn line = record { phase = phaseOf (slice_index line 0); stored = slice_index line 1 }
+abbrev pub rest_in : List ℕ → Rest
+rest_in line = record { phase = phase_of (slice_index line 0); stored = slice_index line 1 }
 
-abbrev pub countsIn : List ℕ → Counts
-countsIn line =
+abbrev pub counts_in : List ℕ → Counts
+counts_in line =
     record { flags = slice_index line 2; delivered = slice_index line 3; refused = slice_index line 4; skipped = slice_index line 5; unclosed = slice_index line 6 }
 
-abbrev pub recordIn : List ℕ → Record
-recordIn line = record { rest = restIn line; counts = countsIn line }
+abbrev pub record_in : List ℕ → Record
+record_in line = record { rest = rest_in line; counts = counts_in line }
 
-abbrev pub recordNumbers : Record → List ℕ
-recordNumbers receiver =
-    phaseNumber receiver.rest.phase
+abbrev pub record_numbers : Record → List ℕ
+record_numbers receiver =
+    phase_number receiver.rest.phase
     ∷ receiver.rest.stored
     ∷ receiver.counts.flags
     ∷ receiver.counts.delivered
@@ -53,52 +53,52 @@ recordNumbers receiver =
 abbrev pub answer_in : ℕ → ℕ → Answer
 answer_in kind value = cond (kind == 1) (Delivered value) (cond (kind == 2) (Refused value) Nothing)
 
-abbrev pub kindTold : ReceiverAnswer → ℕ
-kindTold nothing = 0
-kindTold (body octets) = 1
-kindTold (refusal number) = 2
+abbrev pub kind_told : ReceiverAnswer → ℕ
+kind_told nothing = 0
+kind_told (body octets) = 1
+kind_told (refusal number) = 2
 
-abbrev pub valueTold : ReceiverAnswer → ℕ
-valueTold nothing = 0
-valueTold (body octets) = octets
-valueTold (refusal number) = number
+abbrev pub value_told : ReceiverAnswer → ℕ
+value_told nothing = 0
+value_told (body octets) = octets
+value_told (refusal number) = number
 
-abbrev pub answerKind : Answer → ℕ
-answerKind a = kindTold (receiverAnswer a)
+abbrev pub answer_kind : Answer → ℕ
+answer_kind a = kind_told (receiver_answer a)
 
-abbrev pub answerValue : Answer → ℕ
-answerValue a = valueTold (receiverAnswer a)
+abbrev pub answer_value : Answer → ℕ
+answer_value a = value_told (receiver_answer a)
 
 -- one octet on the record that the line stands for; what it gives fits the numbers again
-pub record ReceivesFitting (store line : List ℕ) (octet : ℕ) (output : List ℕ) (given : Received) (storeAfter outputThen : List ℕ) : Type 0 where
-  pub received : Receives (recordIn line) store octet output given storeAfter outputThen
+pub record ReceivesFitting (store line : List ℕ) (octet : ℕ) (output : List ℕ) (given : Received) (store_after output_then : List ℕ) : Type 0 where
+  pub received : Receives (record_in line) store octet output given store_after output_then
   pub stored : given.receiver.rest.stored < 2 ^ 32
-  pub value : answerValue given.answer < 2 ^ 32
+  pub value : answer_value given.answer < 2 ^ 32
 
-pub record TakesFitting (store line octets output : List ℕ) (given : Taken) (storeAfter outputThen : List ℕ) : Type 0 where
-  pub took : Takes (recordIn line) store octets output given storeAfter outputThen
+pub record TakesFitting (store line octets output : List ℕ) (given : Taken) (store_after output_then : List ℕ) : Type 0 where
+  pub took : Takes (record_in line) store octets output given store_after output_then
   pub stored : given.receiver.rest.stored < 2 ^ 32
-  pub value : answerValue given.answer < 2 ^ 32
+  pub value : answer_value given.answer < 2 ^ 32
 
 -- the numbers are those of what they stand for: a phase's own number, and value 0 where there is no answer
 pub record OwnNumbers (numbers : List ℕ) (k v : ℕ) : Type 0 where
-  pub line : numbers ≡ recordNumbers (recordIn numbers)
-  pub kind : k ≡ answerKind (answer_in k v)
-  pub value : v ≡ answerValue (answer_in k v)
+  pub line : numbers ≡ record_numbers (record_in numbers)
+  pub kind : k ≡ answer_kind (answer_in k v)
+  pub value : v ≡ answer_value (answer_in k v)
 
 -- one octet: store, line and output as at entry, and as at return
-pub record ReceivesNumbers (store line : List ℕ) (octet : ℕ) (output : List ℕ) (kind value : ℕ) (storeAfter lineAfter outputThen : List ℕ)
+pub record ReceivesNumbers (store line : List ℕ) (octet : ℕ) (output : List ℕ) (kind value : ℕ) (store_after line_after output_then : List ℕ)
     : Type 0 where
-  pub received : Receives (recordIn line) store octet output
-      (record { receiver = recordIn lineAfter; answer = answer_in kind value }) storeAfter outputThen
-  pub written : OwnNumbers lineAfter kind value
+  pub received : Receives (record_in line) store octet output
+      (record { receiver = record_in line_after; answer = answer_in kind value }) store_after output_then
+  pub written : OwnNumbers line_after kind value
 
 -- a slice of line octets
-pub record TakesNumbers (store line octets output : List ℕ) (kind value taken : ℕ) (storeAfter lineAfter outputThen : List ℕ) : Type 0 where
-  pub took : Takes (recordIn line) store octets output
-      (record { receiver = recordIn lineAfter; answer = answer_in kind value; taken = taken }) storeAfter outputThen
-  pub written : OwnNumbers lineAfter kind value
+pub record TakesNumbers (store line octets output : List ℕ) (kind value taken : ℕ) (store_after line_after output_then : List ℕ) : Type 0 where
+  pub took : Takes (record_in line) store octets output
+      (record { receiver = record_in line_after; answer = answer_in kind value; taken = taken }) store_after output_then
+  pub written : OwnNumbers line_after kind value
 
 -- a fresh receiver: the store and the line as at return
 abbrev pub StartsNumbers : List ℕ → List ℕ → Type 0
-StartsNumbers storeAfter lineAfter = (storeAfter ≡ noOctets) × (lineAfter ≡ recordNumbers freshRecord)
+StartsNumbers store_after line_after = (store_after ≡ no_octets) × (line_after ≡ record_numbers fresh_record)

@@ -1,7 +1,7 @@
 // The receiver for C and Rust: the store, the line and the output are the caller's. `line` is the rest of the record as seven
-// numbers, in the order of `recordNumbers` of specs/Numbers.antt.
+// numbers, in the order of `record_numbers` of specs/Numbers.antt.
 ghost use Rattle.std.specs.Prelude.{◌≡◌, ℕ, ◌^◌, ◌<◌, List, length, ◌≢◌, slice_index};
-ghost use Rattle.c_ucp_receiver.specs.Numbers.{phaseOf, phaseNumber, restIn, countsIn, recordIn, recordNumbers, answerKind, answerValue, ReceivesFitting, TakesFitting, ReceivesNumbers, TakesNumbers, StartsNumbers};
+ghost use Rattle.c_ucp_receiver.specs.Numbers.{phase_of, phase_number, rest_in, counts_in, record_in, record_numbers, answer_kind, answer_value, ReceivesFitting, TakesFitting, ReceivesNumbers, TakesNumbers, StartsNumbers};
 
 use ucp_receiver::{Answer, Counts, Phase, Received, Record, Rest, Store, Taken};
 
@@ -31,7 +31,7 @@ pub struct OstrogoszTaken {
 // ---- the line
 
 fn phase_of(number: u32) -> Phase
-    ensures { result ≡ phaseOf number }
+    ensures { result ≡ phase_of number }
 {
     if number == 0 {
         Phase::Hunting
@@ -47,7 +47,7 @@ fn phase_of(number: u32) -> Phase
 }
 
 fn phase_number(phase: Phase) -> u32
-    ensures { result ≡ phaseNumber phase }
+    ensures { result ≡ phase_number phase }
 {
     match phase {
         Phase::Hunting => 0,
@@ -65,7 +65,7 @@ fn wide(number: u32) -> usize
 }
 
 fn rest_in(line: &RecordNumbers) -> Rest
-    ensures { (result ≡ restIn line.now) × (result.stored < 2 ^ 32) }
+    ensures { (result ≡ rest_in line.now) × (result.stored < 2 ^ 32) }
 {
     Rest {
         phase: phase_of(line[0]),
@@ -74,7 +74,7 @@ fn rest_in(line: &RecordNumbers) -> Rest
 }
 
 fn counts_in(line: &RecordNumbers) -> Counts
-    ensures { result ≡ countsIn line.now }
+    ensures { result ≡ counts_in line.now }
 {
     Counts {
         flags: line[2],
@@ -86,7 +86,7 @@ fn counts_in(line: &RecordNumbers) -> Counts
 }
 
 fn record_in(line: &RecordNumbers) -> Record
-    ensures { (result ≡ recordIn line.now) × (result.rest.stored < 2 ^ 32) }
+    ensures { (result ≡ record_in line.now) × (result.rest.stored < 2 ^ 32) }
 {
     Record {
         rest: rest_in(line),
@@ -96,7 +96,7 @@ fn record_in(line: &RecordNumbers) -> Record
 
 fn put_line(line: &mut RecordNumbers, receiver: Record)
     requires { receiver.rest.stored < 2 ^ 32 }
-    ensures { line.new ≡ recordNumbers receiver }
+    ensures { line.new ≡ record_numbers receiver }
 {
     let rest = receiver.rest;
     let counts = receiver.counts;
@@ -117,7 +117,7 @@ fn put_line(line: &mut RecordNumbers, receiver: Record)
 // Only what an octet other than the flag can change: the others are not even loaded. A slice, since its length is known here.
 fn put_open_line(line: &mut [u32], receiver: Record)
     requires { (length line.old ≡ 7) × (receiver.rest.stored < 2 ^ 32) × (receiver.counts.flags ≡ slice_index line.old 2) × (receiver.counts.delivered ≡ slice_index line.old 3) × (receiver.counts.refused ≡ slice_index line.old 4) }
-    ensures { line.new ≡ recordNumbers receiver }
+    ensures { line.new ≡ record_numbers receiver }
 {
     let rest = receiver.rest;
     let counts = receiver.counts;
@@ -131,7 +131,7 @@ fn put_open_line(line: &mut [u32], receiver: Record)
 // ---- the answer
 
 fn kind_of(answer: Answer) -> u32
-    ensures { result ≡ answerKind answer }
+    ensures { result ≡ answer_kind answer }
 {
     match answer {
         Answer::Nothing => 0,
@@ -141,8 +141,8 @@ fn kind_of(answer: Answer) -> u32
 }
 
 fn value_of(answer: Answer) -> u32
-    requires { answerValue answer < 2 ^ 32 }
-    ensures { result ≡ answerValue answer }
+    requires { answer_value answer < 2 ^ 32 }
+    ensures { result ≡ answer_value answer }
 {
     match answer {
         Answer::Nothing => 0,

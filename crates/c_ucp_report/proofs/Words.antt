@@ -4,14 +4,14 @@ use mathlib.Core.List.{List, [], ◌∷◌}
 use Prim.Native.Nat.{ℕ, ◌+◌, ◌*◌, ◌/◌, ◌%◌, ◌<◌, ◌≤◌}
 use native.Mathlib.Omega.{arith}
 use lib.ListN.{length, get_or, take, drop}
-use Rattle.field_words.specs.Words.{octetsUp, octetsDown, eight}
-use Rattle.field_words.proofs.Digits.{up-eight, eight-from}
+use Rattle.field_words.specs.Words.{octets_up, octets_down, eight}
+use Rattle.field_words.proofs.Digits.{up_eight, eight_from}
 
 -- the other way round
-pub from-down : (w : ℕ) {a b c d e f g h : ℕ} → octetsDown 8 w [] ≡ a ∷ b ∷ c ∷ d ∷ e ∷ f ∷ g ∷ h ∷ []
-    → octetsUp 8 w ≡ h ∷ g ∷ f ∷ e ∷ d ∷ c ∷ b ∷ a ∷ []
-unfolding octetsDown octetsUp
-from-down w is = λ i. get_or (is i) 7 0
+pub from_down : (w : ℕ) {a b c d e f g h : ℕ} → octets_down 8 w [] ≡ a ∷ b ∷ c ∷ d ∷ e ∷ f ∷ g ∷ h ∷ []
+    → octets_up 8 w ≡ h ∷ g ∷ f ∷ e ∷ d ∷ c ∷ b ∷ a ∷ []
+unfolding octets_down octets_up
+from_down w is = λ i. get_or (is i) 7 0
     ∷ get_or (is i) 6 0
     ∷ get_or (is i) 5 0
     ∷ get_or (is i) 4 0
@@ -22,10 +22,10 @@ from-down w is = λ i. get_or (is i) 7 0
     ∷ []
 
 -- a number that is turned round, by the digits that it had
-pub turned-eight : (w t a b c d e f g h : ℕ) → a < 256 → b < 256 → c < 256 → d < 256 → e < 256 → f < 256 → g < 256 → h < 256
-    → w ≡ eight a b c d e f g h → octetsDown 8 t [] ≡ octetsUp 8 w → octetsUp 8 t ≡ h ∷ g ∷ f ∷ e ∷ d ∷ c ∷ b ∷ a ∷ []
-turned-eight w t a b c d e f g h la lb lc ld le lf lg lh is turned =
-    from-down t (turned ∙ up-eight w a b c d e f g h la lb lc ld le lf lg lh is)
+pub turned_eight : (w t a b c d e f g h : ℕ) → a < 256 → b < 256 → c < 256 → d < 256 → e < 256 → f < 256 → g < 256 → h < 256
+    → w ≡ eight a b c d e f g h → octets_down 8 t [] ≡ octets_up 8 w → octets_up 8 t ≡ h ∷ g ∷ f ∷ e ∷ d ∷ c ∷ b ∷ a ∷ []
+turned_eight w t a b c d e f g h la lb lc ld le lf lg lh is turned =
+    from_down t (turned ∙ up_eight w a b c d e f g h la lb lc ld le lf lg lh is)
 
 -- ---- a number by its octets
 step : (n : ℕ) → n ≡ n % 256 + n / 256 * 256
@@ -65,12 +65,12 @@ by_digits w h =
     ∙ ap (eight (w % 256) (n1 % 256) (n2 % 256) (n3 % 256) (n4 % 256) (n5 % 256) (n6 % 256)) (last n7 h7)
 
 -- the number that eight octets make, the first most significant
-pub number-from : (xs : List ℕ) (at w : ℕ) → at + 8 ≤ length xs → w < 18446744073709551616 → octetsDown 8 w [] ≡ take 8 (drop at xs)
+pub number_from : (xs : List ℕ) (at w : ℕ) → at + 8 ≤ length xs → w < 18446744073709551616 → octets_down 8 w [] ≡ take 8 (drop at xs)
     → w
     ≡ eight (get_or xs (at + 7) 0) (get_or xs (at + 6) 0) (get_or xs (at + 5) 0) (get_or xs (at + 4) 0) (get_or xs (at + 3) 0) (get_or xs (at + 2) 0)
     (get_or xs (at + 1) 0) (get_or xs at 0)
-unfolding octetsUp
-number-from xs at w room small is =
-    let up = from-down w (is ∙ eight-from xs at room) in
+unfolding octets_up
+number_from xs at w room small is =
+    let up = from_down w (is ∙ eight_from xs at room) in
     by_digits w small
     ∙ (λ i. eight (get_or (up i) 0 0) (get_or (up i) 1 0) (get_or (up i) 2 0) (get_or (up i) 3 0) (get_or (up i) 4 0) (get_or (up i) 5 0) (get_or (up i) 6 0) (get_or (up i) 7 0))

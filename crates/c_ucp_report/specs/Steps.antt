@@ -3,15 +3,15 @@ use Rattle.std.specs.Prelude.{◌≡◌, List, [], ◌∷◌, ℕ, ◌+◌, ◌*
 use Rattle.std.proofs.lemmas.List.Edits.{sets}
 use Rattle.field_layout.specs.Steps.{big16, big24, big32, little16, little32}
 use Rattle.field_signed.specs.Signed.{signed, complement}
-use Rattle.field_layout.specs.Layout.{textOctets, textAt}
-use Rattle.c_lent.specs.Steps.{twoOf}
+use Rattle.field_layout.specs.Layout.{text_octets, text_at}
+use Rattle.c_lent.specs.Steps.{two_of}
 
 -- ---- numbers in a struct: two fields of 4 bits, and 32 bits
-abbrev pub halvesOf : ℕ → List ℕ
-halvesOf n = n / 16 ∷ n % 16 ∷ []
+abbrev pub halves_of : ℕ → List ℕ
+halves_of n = n / 16 ∷ n % 16 ∷ []
 
-abbrev pub fourOf : ℕ → List ℕ
-fourOf n = n % 16777216 % 65536 % 256 ∷ n % 16777216 % 65536 / 256 ∷ n % 16777216 / 65536 ∷ n / 16777216 ∷ []
+abbrev pub four_of : ℕ → List ℕ
+four_of n = n % 16777216 % 65536 % 256 ∷ n % 16777216 % 65536 / 256 ∷ n % 16777216 / 65536 ∷ n / 16777216 ∷ []
 
 -- ---- a signed number of 24 bits as one of 32, and of 12 as one of 16
 abbrev pub wide24 : ℕ → ℕ
@@ -21,21 +21,21 @@ abbrev pub wide12 : ℕ → ℕ
 wide12 n = complement 32768 (signed 2048 n)
 
 -- ---- the struct's octets behind what octets 1 to 7 of a body put there, 8 to 15, and the others
-abbrev pub leftStored : List ℕ → List ℕ → List ℕ
-leftStored body l =
-    sets (sets (sets l 0 (halvesOf (get_or body 1 0))) 4 (fourOf (big24 body 2))) 8 (fourOf (wide24 (big24 body 5)))
+abbrev pub left_stored : List ℕ → List ℕ → List ℕ
+left_stored body l =
+    sets (sets (sets l 0 (halves_of (get_or body 1 0))) 4 (four_of (big24 body 2))) 8 (four_of (wide24 (big24 body 5)))
 
-abbrev pub rightStored : List ℕ → List ℕ → List ℕ
-rightStored body l =
-    let position = sets l 12 (fourOf (wide24 (big24 body 8))) in
-    let height = set (sets position 16 (twoOf (big16 body 11 / 16))) 18 (big16 body 11 % 16) in
-    sets (sets height 19 (halvesOf (get_or body 13 0))) 22 (twoOf (big32 body 14 / 1048576))
+abbrev pub right_stored : List ℕ → List ℕ → List ℕ
+right_stored body l =
+    let position = sets l 12 (four_of (wide24 (big24 body 8))) in
+    let height = set (sets position 16 (two_of (big16 body 11 / 16))) 18 (big16 body 11 % 16) in
+    sets (sets height 19 (halves_of (get_or body 13 0))) 22 (two_of (big32 body 14 / 1048576))
 
-abbrev pub othersStored : List ℕ → List ℕ → List ℕ
-othersStored body l =
-    let rate = sets l 24 (twoOf (wide12 (big32 body 14 % 1048576 / 256))) in
+abbrev pub others_stored : List ℕ → List ℕ → List ℕ
+others_stored body l =
+    let rate = sets l 24 (two_of (wide12 (big32 body 14 % 1048576 / 256))) in
     let codes = set (set rate 26 (big32 body 14 % 1048576 % 256)) 27 (get_or body 18 0) in
-    sets (sets codes 28 (textOctets (textAt body 19))) 36 (halvesOf (get_or body 27 0))
+    sets (sets codes 28 (text_octets (text_at body 19))) 36 (halves_of (get_or body 27 0))
 
 -- what holds of a struct's octets whose fields fit a body
 pub record Small (m : List ℕ) : Type 0 where
@@ -68,8 +68,8 @@ left_of id m =
     ∷ latitude % 65536 % 256
     ∷ []
 
-abbrev pub rightOf : List ℕ → List ℕ
-rightOf m =
+abbrev pub right_of : List ℕ → List ℕ
+right_of m =
     let longitude = little32 m 12 % 16777216 in
     let height = little16 m 16 * 16 + get_or m 18 0 in
     let motion = little16 m 22 * 16 + little16 m 24 % 4096 / 256 in

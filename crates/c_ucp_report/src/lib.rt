@@ -3,16 +3,16 @@ ghost use Rattle.std.specs.Prelude.{◌≡◌, true, ◌++◌, ◌+◌, ◌*◌,
 ghost use Rattle.std.proofs.lemmas.List.Edits.{sets};
 ghost use Rattle.field_layout.specs.Steps.{big16, big24, big32};
 ghost use Rattle.field_signed.specs.Signed.{signed, complement, holds};
-ghost use Rattle.field_words.specs.Words.{octetsUp, eight};
-ghost use Rattle.field_format.specs.Format.{valueIn, body_of, fits};
-ghost use Rattle.ucp_messages.specs.Report10.{reportFormat};
-ghost use Rattle.c_lent.specs.Steps.{twoOf, numberedAnswer};
+ghost use Rattle.field_words.specs.Words.{octets_up, eight};
+ghost use Rattle.field_format.specs.Format.{value_in, body_of, fits};
+ghost use Rattle.ucp_messages.specs.Report10.{report_format};
+ghost use Rattle.c_lent.specs.Steps.{two_of, numbered_answer};
 ghost use Rattle.c_lent.specs.Reads.{ReadsInto};
 ghost use Rattle.c_lent.specs.Writes.{WritesStructBody};
 ghost use Rattle.c_lent.specs.Sends.{SendsStruct};
 ghost use Rattle.c_lent.specs.Structs.{stored, held};
-ghost use Rattle.c_ucp_report.specs.Struct.{reportStruct};
-ghost use Rattle.c_ucp_report.specs.Steps.{halvesOf, fourOf, leftStored, rightStored, othersStored, Small, left_of, rightOf};
+ghost use Rattle.c_ucp_report.specs.Struct.{report_struct};
+ghost use Rattle.c_ucp_report.specs.Steps.{halves_of, four_of, left_stored, right_stored, others_stored, Small, left_of, right_of};
 
 use output_writing::OstrogoszWritten;
 use ucp_frame::FrameBuffer;
@@ -83,7 +83,7 @@ fn extended_12(bits: u32) -> u16
 // Two fields of 4 bits, each in its octet.
 fn put_halves(message: &mut [u8], at: usize, octet: u8)
     requires { at + 2 ≤ length message.old }
-    ensures { message.new ≡ sets message.old at (halvesOf octet) }
+    ensures { message.new ≡ sets message.old at (halves_of octet) }
 {
     message[at] = octet / 16;
     message[at + 1] = octet % 16;
@@ -92,7 +92,7 @@ fn put_halves(message: &mut [u8], at: usize, octet: u8)
 // A number of 16 bits, and one of 32, least significant octet first: compiled, one store.
 fn put_16(message: &mut [u8], at: usize, number: u16)
     requires { at + 2 ≤ length message.old }
-    ensures { message.new ≡ sets message.old at (twoOf number) }
+    ensures { message.new ≡ sets message.old at (two_of number) }
 {
     message[at] = (number % 256) as u8;
     message[at + 1] = (number / 256) as u8;
@@ -100,7 +100,7 @@ fn put_16(message: &mut [u8], at: usize, number: u16)
 
 fn put_32(message: &mut [u8], at: usize, number: u32)
     requires { at + 4 ≤ length message.old }
-    ensures { message.new ≡ sets message.old at (fourOf number) }
+    ensures { message.new ≡ sets message.old at (four_of number) }
 {
     let low = number % 16777216 % 65536;
     message[at] = (low % 256) as u8;
@@ -112,7 +112,7 @@ fn put_32(message: &mut [u8], at: usize, number: u32)
 // What octets 1 to 7 of a body hold, 8 to 15, and the others.
 fn put_left(body: &[u8], message: &mut [u8])
     requires { (length body.now ≡ 28) × (length message.old ≡ 40) }
-    ensures { message.new ≡ leftStored body.now message.old }
+    ensures { message.new ≡ left_stored body.now message.old }
 {
     let left = left(body);
     let latitude = extended_24(left.latitude);
@@ -123,7 +123,7 @@ fn put_left(body: &[u8], message: &mut [u8])
 
 fn put_right(body: &[u8], message: &mut [u8])
     requires { (length body.now ≡ 28) × (length message.old ≡ 40) }
-    ensures { message.new ≡ rightStored body.now message.old }
+    ensures { message.new ≡ right_stored body.now message.old }
 {
     let right = right(body);
     let longitude = extended_24(right.longitude);
@@ -136,7 +136,7 @@ fn put_right(body: &[u8], message: &mut [u8])
 
 fn put_others(body: &[u8], message: &mut [u8])
     requires { (length body.now ≡ 28) × (length message.old ≡ 40) }
-    ensures { message.new ≡ othersStored body.now message.old }
+    ensures { message.new ≡ others_stored body.now message.old }
 {
     let motion = field_layout::big_32(body, 14);
     let rate = extended_12(motion % 1048576 / 256);
@@ -150,7 +150,7 @@ fn put_others(body: &[u8], message: &mut [u8])
 
 fn fill(body: &[u8], message: &mut [u8; 40])
     requires { length body.now ≡ 28 }
-    ensures { message.new ≡ stored reportStruct (valueIn (reportFormat 10) body.now) }
+    ensures { message.new ≡ stored report_struct (value_in (report_format 10) body.now) }
 {
     // Zeros for the padding first: every part then reads the body anew, and holds little at a time.
     *message = [0; 40];
@@ -161,7 +161,7 @@ fn fill(body: &[u8], message: &mut [u8; 40])
 
 // Reads a body of an ID, 10 or 20.
 fn read(body: &[u8], id: u8, message: &mut [u8; 40]) -> u32
-    ensures { ReadsInto (reportFormat id) reportStruct body.now message.old result message.new }
+    ensures { ReadsInto (report_format id) report_struct body.now message.old result message.new }
 {
     let refusal = c_lent::first_refusal(body, id, 28);
     if refusal != 0 {
@@ -174,14 +174,14 @@ fn read(body: &[u8], id: u8, message: &mut [u8; 40]) -> u32
 // Reads a body into the struct: 0, or the refusal that is due, 10 or 11, and then the struct is as it was.
 #[unsafe(no_mangle)]
 pub extern "C" fn ostrogosz_ucp_read_ownship(body: &[u8], message: &mut [u8; 40]) -> u32
-    ensures { ReadsInto (reportFormat 10) reportStruct body.now message.old result message.new }
+    ensures { ReadsInto (report_format 10) report_struct body.now message.old result message.new }
 {
     read(body, 10, message)
 }
 
 #[unsafe(no_mangle)]
 pub extern "C" fn ostrogosz_ucp_read_traffic(body: &[u8], message: &mut [u8; 40]) -> u32
-    ensures { ReadsInto (reportFormat 20) reportStruct body.now message.old result message.new }
+    ensures { ReadsInto (report_format 20) report_struct body.now message.old result message.new }
 {
     read(body, 20, message)
 }
@@ -205,7 +205,7 @@ fn in_12(bits: u16) -> bool
 // Whether each field that a struct holds has no more bits than the body has for it.
 fn fits(message: &[u8]) -> bool
     requires { length message.now ≡ 40 }
-    ensures { (result ≡ fits (reportFormat 10) (held reportStruct message.now)) × (result ≡ true → Small message.now) }
+    ensures { (result ≡ fits (report_format 10) (held report_struct message.now)) × (result ≡ true → Small message.now) }
 {
     let latitude = in_24(field_layout::little_32(message, 8));
     let longitude = in_24(field_layout::little_32(message, 12));
@@ -270,7 +270,7 @@ fn motion_of(speed: u16, rate: u16) -> u16
 // stored in one piece.
 fn left_octets(id: u8, message: &[u8]) -> u64
     requires { (length message.now ≡ 40) × Small message.now }
-    ensures { octetsUp 8 result ≡ left_of id message.now }
+    ensures { octets_up 8 result ≡ left_of id message.now }
 {
     let first = halves(message[0], message[1]);
     let address = field_layout::little_32(message, 4);
@@ -280,7 +280,7 @@ fn left_octets(id: u8, message: &[u8]) -> u64
 
 fn right_octets(message: &[u8]) -> u64
     requires { (length message.now ≡ 40) × Small message.now }
-    ensures { octetsUp 8 result ≡ rightOf message.now }
+    ensures { octets_up 8 result ≡ right_of message.now }
 {
     let longitude = field_layout::little_32(message, 12) % 16777216;
     let height = height_of(field_layout::little_16(message, 16), message[18]);
@@ -293,7 +293,7 @@ fn right_octets(message: &[u8]) -> u64
 // Puts octets 0 to 15 of the body.
 fn put_numbers(id: u8, message: &[u8], output: &mut [u8])
     requires { (length message.now ≡ 40) × Small message.now × (28 ≤ length output.old) }
-    ensures { output.new ≡ sets output.old 0 (left_of id message.now ++ rightOf message.now) }
+    ensures { output.new ≡ sets output.old 0 (left_of id message.now ++ right_of message.now) }
 {
     field_words::put_64(output, 0, left_octets(id, message));
     field_words::put_64(output, 8, right_octets(message));
@@ -302,7 +302,7 @@ fn put_numbers(id: u8, message: &[u8], output: &mut [u8])
 // Puts the body at the start of output. The callsign goes at once, as in `put_others`.
 fn put(id: u8, message: &[u8], output: &mut [u8])
     requires { (length message.now ≡ 40) × Small message.now × (28 ≤ length output.old) }
-    ensures { output.new ≡ body_of (reportFormat id) (held reportStruct message.now) ++ drop 28 output.old }
+    ensures { output.new ≡ body_of (report_format id) (held report_struct message.now) ++ drop 28 output.old }
 {
     put_numbers(id, message, output);
     output[16] = message[24];
@@ -315,7 +315,7 @@ fn put(id: u8, message: &[u8], output: &mut [u8])
 // Writes the body, of an ID, of the message that a struct holds.
 // Puts the body at the start of output where all is well: 0, or 13 or 8.
 fn write_body(id: u8, message: &[u8; 40], output: &mut [u8]) -> u32
-    ensures { WritesStructBody (reportFormat id) (held reportStruct message.now) output.old (numberedAnswer result 28) output.new }
+    ensures { WritesStructBody (report_format id) (held report_struct message.now) output.old (numbered_answer result 28) output.new }
 {
     if !fits(message) {
         return c_lent::FIELD;
@@ -333,7 +333,7 @@ pub extern "C" fn ostrogosz_ucp_write_ownship(
     message: &[u8; 40],
     output: &mut [u8],
 ) -> OstrogoszWritten
-    ensures { WritesStructBody (reportFormat 10) (held reportStruct message.now) output.old result output.new }
+    ensures { WritesStructBody (report_format 10) (held report_struct message.now) output.old result output.new }
 {
     c_lent::numbered(write_body(10, message, output), 28)
 }
@@ -343,7 +343,7 @@ pub extern "C" fn ostrogosz_ucp_write_traffic(
     message: &[u8; 40],
     output: &mut [u8],
 ) -> OstrogoszWritten
-    ensures { WritesStructBody (reportFormat 20) (held reportStruct message.now) output.old result output.new }
+    ensures { WritesStructBody (report_format 20) (held report_struct message.now) output.old result output.new }
 {
     c_lent::numbered(write_body(20, message, output), 28)
 }
@@ -352,7 +352,7 @@ pub extern "C" fn ostrogosz_ucp_write_traffic(
 
 // Sends the body of an ID: it is written into the buffer, and made its frame there.
 fn send(id: u8, message: &[u8; 40], buffer: &mut FrameBuffer) -> OstrogoszWritten
-    ensures { SendsStruct (reportFormat id) (held reportStruct message.now) buffer.old result buffer.new }
+    ensures { SendsStruct (report_format id) (held report_struct message.now) buffer.old result buffer.new }
 {
     let written = c_lent::numbered(write_body(id, message, buffer), 28);
     c_lent::frame_written(written, buffer)
@@ -364,7 +364,7 @@ pub extern "C" fn ostrogosz_ucp_send_ownship(
     message: &[u8; 40],
     buffer: &mut FrameBuffer,
 ) -> OstrogoszWritten
-    ensures { SendsStruct (reportFormat 10) (held reportStruct message.now) buffer.old result buffer.new }
+    ensures { SendsStruct (report_format 10) (held report_struct message.now) buffer.old result buffer.new }
 {
     send(10, message, buffer)
 }
@@ -374,7 +374,7 @@ pub extern "C" fn ostrogosz_ucp_send_traffic(
     message: &[u8; 40],
     buffer: &mut FrameBuffer,
 ) -> OstrogoszWritten
-    ensures { SendsStruct (reportFormat 20) (held reportStruct message.now) buffer.old result buffer.new }
+    ensures { SendsStruct (report_format 20) (held report_struct message.now) buffer.old result buffer.new }
 {
     send(20, message, buffer)
 }

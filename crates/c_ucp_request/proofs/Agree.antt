@@ -4,23 +4,23 @@ use mathlib.Core.List.{[], ◌∷◌}
 use native.Mathlib.Omega.{arith}
 use lib.ListN.{length}
 use Rattle.ucp_messages.specs.declared.Request.{Request}
-use Rattle.c_lent.specs.Structs.{RightStruct, structOffsets, structSize, stored, held, TypedIn}
-use Rattle.c_lent.proofs.Structs.{held-stored}
-use Rattle.c_ucp_request.specs.Struct.{requestStruct}
+use Rattle.c_lent.specs.Structs.{RightStruct, struct_offsets, struct_size, stored, held, TypedIn}
+use Rattle.c_lent.proofs.Structs.{held_stored}
+use Rattle.c_ucp_request.specs.Struct.{request_struct}
 
-pub request-struct-right : RightStruct requestStruct
-request-struct-right = record { sound = omega arith; back = λ q. refl }
+pub request_struct_right : RightStruct request_struct
+request_struct_right = record { sound = omega arith; back = λ q. refl }
 
 -- the ABI's offsets and size
-request-struct-offsets : structOffsets requestStruct ≡ 0 ∷ []
-request-struct-offsets = refl
+request_struct_offsets : struct_offsets request_struct ≡ 0 ∷ []
+request_struct_offsets = refl
 
-request-struct-size : structSize requestStruct ≡ 1
-request-struct-size = refl
+request_struct_size : struct_size request_struct ≡ 1
+request_struct_size = refl
 
-pub stored-size : (q : Request) → length (stored requestStruct q) ≡ 1
+pub stored_size : (q : Request) → length (stored request_struct q) ≡ 1
 unfolding stored
-stored-size q = refl
+stored_size q = refl
 
-pub request-held-stored : (q : Request) → TypedIn requestStruct q → held requestStruct (stored requestStruct q) ≡ q
-request-held-stored = held-stored requestStruct request-struct-right
+pub request_held_stored : (q : Request) → TypedIn request_struct q → held request_struct (stored request_struct q) ≡ q
+request_held_stored = held_stored request_struct request_struct_right

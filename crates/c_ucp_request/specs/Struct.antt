@@ -1,14 +1,14 @@
 -- Message 44 as the octets of its C struct. Assumes nothing.
 use Rattle.std.specs.Prelude.{[], ◌∷◌}
 use Rattle.ucp_messages.specs.declared.Request.{Request}
-use Rattle.ucp_messages.specs.Request44.{requestFormat}
-use Rattle.c_lent.specs.Structs.{Struct, structOctet}
+use Rattle.ucp_messages.specs.Request44.{request_format}
+use Rattle.c_lent.specs.Structs.{Struct, struct_octet}
 
 -- offset 0: requested message ID
-abbrev pub requestStruct : Struct Request
-requestStruct = record {
+abbrev pub request_struct : Struct Request
+request_struct = record {
   members =
-      structOctet (λ q. q.requested_id)
+      struct_octet (λ q. q.requested_id)
       ∷ [];
-  value = requestFormat.value;
+  value = request_format.value;
 }

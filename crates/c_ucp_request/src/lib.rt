@@ -1,12 +1,12 @@
 // Message 44, Message Request, for C: the message lies in the caller's struct, which is lent as its octets.
 ghost use Rattle.std.specs.Prelude.{◌≡◌, ◌++◌, ◌≤◌, length, drop};
-ghost use Rattle.field_format.specs.Format.{valueIn, body_of};
-ghost use Rattle.ucp_messages.specs.Request44.{requestFormat};
+ghost use Rattle.field_format.specs.Format.{value_in, body_of};
+ghost use Rattle.ucp_messages.specs.Request44.{request_format};
 ghost use Rattle.c_lent.specs.Reads.{ReadsInto};
 ghost use Rattle.c_lent.specs.Writes.{WritesStructBody};
 ghost use Rattle.c_lent.specs.Sends.{SendsStruct};
 ghost use Rattle.c_lent.specs.Structs.{stored, held};
-ghost use Rattle.c_ucp_request.specs.Struct.{requestStruct};
+ghost use Rattle.c_ucp_request.specs.Struct.{request_struct};
 
 use output_writing::OstrogoszWritten;
 use ucp_frame::FrameBuffer;
@@ -15,7 +15,7 @@ use ucp_frame::FrameBuffer;
 
 fn fill(body: &[u8], message: &mut [u8; 1])
     requires { length body.now ≡ 3 }
-    ensures { message.new ≡ stored requestStruct (valueIn requestFormat body.now) }
+    ensures { message.new ≡ stored request_struct (value_in request_format body.now) }
 {
     *message = [body[2]];
 }
@@ -23,7 +23,7 @@ fn fill(body: &[u8], message: &mut [u8; 1])
 // Reads a body into the struct: 0, or the refusal that is due, 10 to 12, and then the struct is as it was.
 #[unsafe(no_mangle)]
 pub extern "C" fn ostrogosz_ucp_read_request(body: &[u8], message: &mut [u8; 1]) -> u32
-    ensures { ReadsInto requestFormat requestStruct body.now message.old result message.new }
+    ensures { ReadsInto request_format request_struct body.now message.old result message.new }
 {
     let refusal = c_lent::first_refusal(body, 44, 3);
     if refusal != 0 {
@@ -41,7 +41,7 @@ pub extern "C" fn ostrogosz_ucp_read_request(body: &[u8], message: &mut [u8; 1])
 // Puts the body at the start of output.
 fn put(message: &[u8], output: &mut [u8])
     requires { (length message.now ≡ 1) × (3 ≤ length output.old) }
-    ensures { output.new ≡ body_of requestFormat (held requestStruct message.now) ++ drop 3 output.old }
+    ensures { output.new ≡ body_of request_format (held request_struct message.now) ++ drop 3 output.old }
 {
     output[0] = 44;
     output[1] = 2;
@@ -50,7 +50,7 @@ fn put(message: &[u8], output: &mut [u8])
 
 // Every field has room in the body.
 fn write(message: &[u8; 1], output: &mut [u8]) -> OstrogoszWritten
-    ensures { WritesStructBody requestFormat (held requestStruct message.now) output.old result output.new }
+    ensures { WritesStructBody request_format (held request_struct message.now) output.old result output.new }
 {
     if output.len() < 3 {
         return OstrogoszWritten {
@@ -71,7 +71,7 @@ pub extern "C" fn ostrogosz_ucp_write_request(
     message: &[u8; 1],
     output: &mut [u8],
 ) -> OstrogoszWritten
-    ensures { WritesStructBody requestFormat (held requestStruct message.now) output.old result output.new }
+    ensures { WritesStructBody request_format (held request_struct message.now) output.old result output.new }
 {
     write(message, output)
 }
@@ -85,7 +85,7 @@ pub extern "C" fn ostrogosz_ucp_send_request(
     message: &[u8; 1],
     buffer: &mut FrameBuffer,
 ) -> OstrogoszWritten
-    ensures { SendsStruct requestFormat (held requestStruct message.now) buffer.old result buffer.new }
+    ensures { SendsStruct request_format (held request_struct message.now) buffer.old result buffer.new }
 {
     let written = write(message, buffer);
     c_lent::frame_written(written, buffer)

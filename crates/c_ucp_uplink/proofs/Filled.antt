@@ -10,22 +10,22 @@ use lib.ListN.{length, take, drop, length-drop}
 use lib.Seq.{take_all, drop-length}
 
 -- the part of a body that is lent
-behind-is : (body : List ℕ) → take (length body - 1) (drop 1 body) ≡ drop 1 body
-behind-is body = take_all (length body - 1) (drop 1 body) (simp length-drop (omega arith))
+behind_is : (body : List ℕ) → take (length body - 1) (drop 1 body) ≡ drop 1 body
+behind_is body = take_all (length body - 1) (drop 1 body) (simp length-drop (omega arith))
 
 module _ (octets before : List ℕ) {r : Bool} {after : List ℕ} (n : length octets ≡ length before) where
-  over-all : r ≡ leb (length octets) (length before) → after ≡ cond r (octets ++ drop (length octets) before) before → after ≡ octets
-  over-all e is =
+  over_all : r ≡ leb (length octets) (length before) → after ≡ cond r (octets ++ drop (length octets) before) before → after ≡ octets
+  over_all e is =
       is
       ∙ ap (λ (t : Bool). cond t (octets ++ drop (length octets) before) before) (e ∙ le-leb (length octets) (length before) (omega arith))
       ∙ ap (λ (k : ℕ). octets ++ drop k before) n
       ∙ ap (λ (l : List ℕ). octets ++ l) (drop-length before)
       ∙ append-nil octets
 
-pub all-stored : (body before : List ℕ) {r : Bool} {after : List ℕ} → length body ≡ 436 → length before ≡ 435
+pub all_stored : (body before : List ℕ) {r : Bool} {after : List ℕ} → length body ≡ 436 → length before ≡ 435
     → r ≡ leb (length (take (length body - 1) (drop 1 body))) (length before)
     → after ≡ cond r (take (length body - 1) (drop 1 body) ++ drop (length (take (length body - 1) (drop 1 body))) before) before
     → after ≡ drop 1 body
-all-stored body before n m e is =
+all_stored body before n m e is =
     let size : length (drop 1 body) ≡ length before = simp length-drop (omega arith) in
-    over-all (take (length body - 1) (drop 1 body)) before (ap length (behind-is body) ∙ size) e is ∙ behind-is body
+    over_all (take (length body - 1) (drop 1 body)) before (ap length (behind_is body) ∙ size) e is ∙ behind_is body

@@ -6,10 +6,10 @@ use native.Mathlib.Omega.{arith}
 use native.Mathlib.Nat.{mod-lt}
 use lib.Bits.{bit_xor, xor_lt, xor_mod, xor_shr}
 use Rattle.crc_polynomial.specs.Polynomial.{degree16}
-use Rattle.crc_polynomial.proofs.Xor.{xor-swap}
+use Rattle.crc_polynomial.proofs.Xor.{xor_swap}
 use Rattle.crc_polynomial.proofs.Linear.{up_from, Linear, both}
-use Rattle.crc_polynomial.proofs.Wide.{Linear₂, itself, low, down, up, behind, behind₂, both₂, forced, forced-is, forced-at, same₂}
-use Rattle.crc_polynomial.proofs.Shifts.{quotient, spread, left, left-linear}
+use Rattle.crc_polynomial.proofs.Wide.{Linear₂, itself, low, down, up, behind, behind₂, both₂, forced, forced_is, forced_at, same₂}
+use Rattle.crc_polynomial.proofs.Shifts.{quotient, spread, left, left_linear}
 
 -- ---- the step by shifts
 abbrev up64 : ℕ → ℕ → ℕ
@@ -42,31 +42,31 @@ eight check word = e (d (c (b (a (joined check word))))) word
 less : (f : ℕ → ℕ) (k : ℕ) → Linear f → Linear (λ n. bit_xor (f n) (n / 2 ^ k))
 less f k lf = both f (λ n. n / 2 ^ k) lf (down k)
 
-joined-linear : Linear₂ joined
-joined-linear = both₂ (λ m n. up64 48 m) (λ m n. n / 2 ^ 16) (λ m n x y. up 64 48 m n) (λ m n x y. xor_shr x y 16)
+joined_linear : Linear₂ joined
+joined_linear = both₂ (λ m n. up64 48 m) (λ m n. n / 2 ^ 16) (λ m n x y. up 64 48 m n) (λ m n x y. xor_shr x y 16)
 
-quotient-linear : Linear₂ (λ m n. d (c (b (a (joined m n)))))
-quotient-linear =
+quotient_linear : Linear₂ (λ m n. d (c (b (a (joined m n)))))
+quotient_linear =
     behind₂ (λ m n. c (b (a (joined m n)))) d
     (behind₂ (λ m n. b (a (joined m n))) c
     (behind₂ (λ m n. a (joined m n)) b
-    (behind₂ joined a joined-linear (less (λ n. n) 32 itself))
+    (behind₂ joined a joined_linear (less (λ n. n) 32 itself))
     (less (λ n. bit_xor n (n / 2 ^ 16)) 44 (less (λ n. n) 16 itself)))
     (less (λ n. bit_xor (bit_xor n (n / 2 ^ 8)) (n / 2 ^ 22)) 32 (less (λ n. bit_xor n (n / 2 ^ 8)) 22 (less (λ n. n) 8 itself))))
     (less (λ n. bit_xor (bit_xor n (n / 2 ^ 4)) (n / 2 ^ 11)) 16 (less (λ n. bit_xor n (n / 2 ^ 4)) 11 (less (λ n. n) 4 itself)))
 
-wide-linear : Linear (λ q. bit_xor (bit_xor q (up64 5 q)) (up64 12 q))
-wide-linear =
+wide_linear : Linear (λ q. bit_xor (bit_xor q (up64 5 q)) (up64 12 q))
+wide_linear =
     both (λ q. bit_xor q (up64 5 q)) (up64 12) (both (λ q. q) (up64 5) itself (up 64 5)) (up 64 12)
 
-eight-linear : Linear₂ eight
+eight_linear : Linear₂ eight
 unfolding eight
-eight-linear =
+eight_linear =
     behind₂ (λ m n. bit_xor (bit_xor (bit_xor (d (c (b (a (joined m n))))) (up64 5 (d (c (b (a (joined m n))))))) (up64 12 (d (c (b (a (joined m n))))))) n)
     (λ n. n % 65536)
     (both₂ (λ m n. bit_xor (bit_xor (d (c (b (a (joined m n))))) (up64 5 (d (c (b (a (joined m n))))))) (up64 12 (d (c (b (a (joined m n)))))))
     (λ m n. n)
-    (behind₂ (λ m n. d (c (b (a (joined m n))))) (λ q. bit_xor (bit_xor q (up64 5 q)) (up64 12 q)) quotient-linear wide-linear)
+    (behind₂ (λ m n. d (c (b (a (joined m n))))) (λ q. bit_xor (bit_xor q (up64 5 q)) (up64 12 q)) quotient_linear wide_linear)
     (λ m n x y. refl))
     (low 16)
 
@@ -75,14 +75,14 @@ abbrev pub pairs : ℕ → ℕ → ℕ → ℕ
 pairs zero check word = check
 pairs (suc k) check word = bit_xor (left (pairs k check (word / 65536))) (word % 65536)
 
-pairs-linear : (k : ℕ) → Linear₂ (pairs k)
-pairs-linear zero m n x y = refl
-pairs-linear (suc k) m n x y =
+pairs_linear : (k : ℕ) → Linear₂ (pairs k)
+pairs_linear zero m n x y = refl
+pairs_linear (suc k) m n x y =
     ap₂ bit_xor
-    (ap left (ap (pairs k (bit_xor m n)) (xor_shr x y 16) ∙ pairs-linear k m n (x / 65536) (y / 65536))
-    ∙ left-linear (pairs k m (x / 65536)) (pairs k n (y / 65536)))
+    (ap left (ap (pairs k (bit_xor m n)) (xor_shr x y 16) ∙ pairs_linear k m n (x / 65536) (y / 65536))
+    ∙ left_linear (pairs k m (x / 65536)) (pairs k n (y / 65536)))
     (xor_mod x y 16)
-    ∙ xor-swap (left (pairs k m (x / 65536))) (left (pairs k n (y / 65536))) (x % 65536) (y % 65536)
+    ∙ xor_swap (left (pairs k m (x / 65536))) (left (pairs k n (y / 65536))) (x % 65536) (y % 65536)
 
 pub pairs_lt : (k check word : ℕ) → check < degree16 → pairs k check word < degree16
 pairs_lt zero check word h = h
@@ -90,46 +90,46 @@ pairs_lt (suc k) check word h =
     xor_lt 16 (left (pairs k check (word / 65536))) (word % 65536) (mod-lt _ (omega arith)) (mod-lt word (omega arith))
 
 -- ---- both as they are computed
-eight-quick : ℕ → ℕ → ℕ
-eight-quick check word = forced (λ q. e q word) (forced d (forced c (forced b (forced a (joined check word)))))
+eight_quick : ℕ → ℕ → ℕ
+eight_quick check word = forced (λ q. e q word) (forced d (forced c (forced b (forced a (joined check word)))))
 
-eight-quick-is : (check word : ℕ) → eight-quick check word ≡ eight check word
-unfolding eight-quick eight
-eight-quick-is check word =
-    forced-at (λ q. e q word) (forced-at d (forced-at c (forced-at b (forced-is a (joined check word)))))
+eight_quick_is : (check word : ℕ) → eight_quick check word ≡ eight check word
+unfolding eight_quick eight
+eight_quick_is check word =
+    forced_at (λ q. e q word) (forced_at d (forced_at c (forced_at b (forced_is a (joined check word)))))
 
-left-quick : ℕ → ℕ
-left-quick n = forced (λ q. spread q % 65536) (forced quotient n)
+left_quick : ℕ → ℕ
+left_quick n = forced (λ q. spread q % 65536) (forced quotient n)
 
-left-quick-is : (n : ℕ) → left-quick n ≡ left n
-unfolding left-quick
-left-quick-is n = forced-at (λ q. spread q % 65536) (forced-is quotient n)
+left_quick_is : (n : ℕ) → left_quick n ≡ left n
+unfolding left_quick
+left_quick_is n = forced_at (λ q. spread q % 65536) (forced_is quotient n)
 
-abbrev pairs-quick : ℕ → ℕ → ℕ → ℕ
-pairs-quick zero check word = check
-pairs-quick (suc k) check word = bit_xor (left-quick (pairs-quick k check (word / 65536))) (word % 65536)
+abbrev pairs_quick : ℕ → ℕ → ℕ → ℕ
+pairs_quick zero check word = check
+pairs_quick (suc k) check word = bit_xor (left_quick (pairs_quick k check (word / 65536))) (word % 65536)
 
-pairs-quick-is : (k check word : ℕ) → pairs-quick k check word ≡ pairs k check word
-pairs-quick-is zero check word = refl
-pairs-quick-is (suc k) check word =
+pairs_quick_is : (k check word : ℕ) → pairs_quick k check word ≡ pairs k check word
+pairs_quick_is zero check word = refl
+pairs_quick_is (suc k) check word =
     ap (λ (n : ℕ). bit_xor n (word % 65536))
-    (left-quick-is (pairs-quick k check (word / 65536)) ∙ ap left (pairs-quick-is k check (word / 65536)))
+    (left_quick_is (pairs_quick k check (word / 65536)) ∙ ap left (pairs_quick_is k check (word / 65536)))
 
-by-check : up_from (λ i. eight-quick (2 ^ i) 0) 16 0 ≡ up_from (λ i. pairs-quick 4 (2 ^ i) 0) 16 0
-unfolding eight-quick left-quick
-by-check = refl
+by_check : up_from (λ i. eight_quick (2 ^ i) 0) 16 0 ≡ up_from (λ i. pairs_quick 4 (2 ^ i) 0) 16 0
+unfolding eight_quick left_quick
+by_check = refl
 
-by_word : up_from (λ i. eight-quick 0 (2 ^ i)) 64 0 ≡ up_from (λ i. pairs-quick 4 0 (2 ^ i)) 64 0
-unfolding eight-quick left-quick
+by_word : up_from (λ i. eight_quick 0 (2 ^ i)) 64 0 ≡ up_from (λ i. pairs_quick 4 0 (2 ^ i)) 64 0
+unfolding eight_quick left_quick
 by_word = refl
 
 -- eight octets are two and two and two and two
-pub eight-pairs : (check word : ℕ) → check < 2 ^ 16 → word < 2 ^ 64 → eight check word ≡ pairs 4 check word
-eight-pairs =
-    same₂ eight (pairs 4) eight-linear (pairs-linear 4) eight-quick (pairs-quick 4) eight-quick-is (pairs-quick-is 4)
-    16 64 by-check by_word
+pub eight_pairs : (check word : ℕ) → check < 2 ^ 16 → word < 2 ^ 64 → eight check word ≡ pairs 4 check word
+eight_pairs =
+    same₂ eight (pairs 4) eight_linear (pairs_linear 4) eight_quick (pairs_quick 4) eight_quick_is (pairs_quick_is 4)
+    16 64 by_check by_word
 
 -- what the step needs to fit
-pub eight-lt : (check word : ℕ) → eight check word < degree16
+pub eight_lt : (check word : ℕ) → eight check word < degree16
 unfolding eight
-eight-lt check word = mod-lt _ (omega arith)
+eight_lt check word = mod-lt _ (omega arith)

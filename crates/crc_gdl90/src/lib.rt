@@ -1,9 +1,9 @@
 // The frame check sequence of GDL90: by a table of 256 entries, and by shifts.
 ghost use Rattle.std.specs.Prelude.{◌≡◌, [], ◌++◌, ◌+◌, ◌-◌, ◌%◌, ◌<◌, ◌≤◌, length, take, drop};
-ghost use Rattle.field_words.specs.Words.{octetsDown};
-ghost use Rattle.crc_gdl90.specs.Check.{frameCheck, IsTable};
-ghost use Rattle.crc_gdl90.specs.Steps.{byTable, byShifts, twoByShifts, eightByShifts};
-ghost use Rattle.crc_polynomial.specs.Polynomial.{bits_of, bitsOfOctets, divided};
+ghost use Rattle.field_words.specs.Words.{octets_down};
+ghost use Rattle.crc_gdl90.specs.Check.{frame_check, IsTable};
+ghost use Rattle.crc_gdl90.specs.Steps.{by_table, by_shifts, two_by_shifts, eight_by_shifts};
+ghost use Rattle.crc_polynomial.specs.Polynomial.{bits_of, bits_of_octets, divided};
 
 // For each octet, the remainder of that octet followed by 16 zero bits.
 const TABLE: [u16; 256] = [
@@ -41,14 +41,14 @@ fn table() -> [u16; 256]
 // The running remainder, one octet further, by the table that is lent.
 fn next_check(table: &[u16; 256], check: u16, octet: u8) -> u16
     requires { IsTable table.now }
-    ensures { (result ≡ divided check (bits_of 8 octet)) × (result ≡ byTable table.now check octet) }
+    ensures { (result ≡ divided check (bits_of 8 octet)) × (result ≡ by_table table.now check octet) }
 {
     table[(check / 256) as usize] ^ ((check % 256) * 256 + octet as u16)
 }
 
 // The frame check sequence of a body of any length.
 pub fn frame_check(body: &[u8]) -> u16
-    ensures { result ≡ frameCheck body.now }
+    ensures { result ≡ frame_check body.now }
 {
     let table = table();
     let mut check: u16 = 0;
@@ -62,7 +62,7 @@ pub fn frame_check(body: &[u8]) -> u16
 
 // The running remainder, one octet further, by shifts.
 pub fn next_check_octet(check: u16, octet: u8) -> u16
-    ensures { (result ≡ divided check (bits_of 8 octet)) × (result ≡ byShifts check octet) }
+    ensures { (result ≡ divided check (bits_of 8 octet)) × (result ≡ by_shifts check octet) }
 {
     let high = check >> 8;
     let fold = high ^ (high >> 4);
@@ -72,7 +72,7 @@ pub fn next_check_octet(check: u16, octet: u8) -> u16
 // The running remainder, two octets further, by shifts. A caller that has other work at each octet takes this one: it needs
 // no table, which a call would copy to its stack, and two octets at once halve the chain of steps that wait for each other.
 pub fn next_check_pair(check: u16, first: u8, second: u8) -> u16
-    ensures { (result ≡ divided check (bits_of 8 first ++ bits_of 8 second)) × (result ≡ twoByShifts check first second) }
+    ensures { (result ≡ divided check (bits_of 8 first ++ bits_of 8 second)) × (result ≡ two_by_shifts check first second) }
 {
     let r = check as u32;
     let q = r ^ (r / 16) ^ (r / 256) ^ (r / 2048) ^ (r / 4096);
@@ -82,7 +82,7 @@ pub fn next_check_pair(check: u16, first: u8, second: u8) -> u16
 
 // The running remainder, eight octets further, the most significant first: sixty-four places by shifts of 64 bits.
 pub fn next_check_eight(check: u16, word: u64) -> u16
-    ensures { (result ≡ divided check (bitsOfOctets (octetsDown 8 word []))) × (result ≡ eightByShifts check word) }
+    ensures { (result ≡ divided check (bits_of_octets (octets_down 8 word []))) × (result ≡ eight_by_shifts check word) }
 {
     let joined = ((check as u64) << 48) ^ (word >> 16);
     let a = joined ^ (joined >> 32);
@@ -94,7 +94,7 @@ pub fn next_check_eight(check: u16, word: u64) -> u16
 
 // The frame check sequence by shifts alone, for a receiver that has no room for a table.
 pub fn frame_check_by_shifts(body: &[u8]) -> u16
-    ensures { result ≡ frameCheck body.now }
+    ensures { result ≡ frame_check body.now }
 {
     let start = head_length(body.len());
     check_words(body, start, head_check(body, start))
@@ -110,7 +110,7 @@ pub fn head_length(octets: usize) -> usize
 // The check of the first octets, at most two: they are their own check.
 pub fn head_check(body: &[u8], octets: usize) -> u16
     requires { (octets ≤ 2) × (octets ≤ length body.now) }
-    ensures { result ≡ divided 0 (bitsOfOctets (take octets body.now)) }
+    ensures { result ≡ divided 0 (bits_of_octets (take octets body.now)) }
 {
     if octets == 0 {
         return 0;
@@ -130,7 +130,7 @@ fn wide(octet: u8) -> u16
 // The check of a body whose octets before start have this check; an even number of octets is left.
 fn check_words(body: &[u8], start: usize, check: u16) -> u16
     requires { (start ≤ length body.now) × ((length body.now - start) % 2 ≡ 0) }
-    ensures { result ≡ divided check (bitsOfOctets (drop start body.now)) }
+    ensures { result ≡ divided check (bits_of_octets (drop start body.now)) }
 {
     let mut check = check;
     let mut i = start;
@@ -144,7 +144,7 @@ fn check_words(body: &[u8], start: usize, check: u16) -> u16
 // The same, two octets at a time.
 fn check_pairs(body: &[u8], start: usize, check: u16) -> u16
     requires { (start ≤ length body.now) × ((length body.now - start) % 2 ≡ 0) }
-    ensures { result ≡ divided check (bitsOfOctets (drop start body.now)) }
+    ensures { result ≡ divided check (bits_of_octets (drop start body.now)) }
 {
     let mut check = check;
     let mut i = start;

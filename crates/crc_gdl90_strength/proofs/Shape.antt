@@ -10,11 +10,11 @@ use lib.Pow.{pow_mono}
 use lib.ListN.{length, get_or, take, drop, replicate, length-append, length-replicate, length-take, take-append-drop, replicate-append-replicate}
 use lib.Seq.{get_or-append-add, get_or_at, get_or-drop}
 use lib.Bits.{bit_xor, xor_zero_r}
-use Rattle.crc_polynomial.specs.Polynomial.{coefficient, degree16, broughtDown, step, reduced, divided, remainder, polynomial}
-use Rattle.crc_polynomial.proofs.Xor.{xor-apart}
-use Rattle.crc_polynomial.proofs.Laws.{coefficient-lt, step-lt, step-xor, divided-append, divided-lt, divided-small, polynomial-grows, zeros-zero, zeros-nonzero}
+use Rattle.crc_polynomial.specs.Polynomial.{coefficient, degree16, brought_down, step, reduced, divided, remainder, polynomial}
+use Rattle.crc_polynomial.proofs.Xor.{xor_apart}
+use Rattle.crc_polynomial.proofs.Laws.{coefficient_lt, step_lt, step_xor, divided_append, divided_lt, divided_small, polynomial_grows, zeros_zero, zeros_nonzero}
 use Rattle.crc_order.specs.Order.{power, order}
-use Rattle.crc_order.proofs.Order.{is-order}
+use Rattle.crc_order.proofs.Order.{is_order}
 
 abbrev pub Zeros : List Bool → Type 0
 Zeros bs = bs ≡ replicate (length bs) false
@@ -37,7 +37,7 @@ shape (false ∷ bs) = behind (shape bs)
 pub from_first : (m : ℕ) (rest : List Bool) → remainder (replicate m false ++ true ∷ rest) ≡ divided 1 rest
 unfolding divided step reduced
 from_first m rest =
-    divided-append 0 (replicate m false) (true ∷ rest) ∙ ap (λ (r : ℕ). divided r (true ∷ rest)) (zeros-zero m)
+    divided_append 0 (replicate m false) (true ∷ rest) ∙ ap (λ (r : ℕ). divided r (true ∷ rest)) (zeros_zero m)
 
 -- ---- all within 16 places
 
@@ -49,21 +49,21 @@ no_index bs h = go (shape bs)
     go (first m rest e) =
         absurd (h m (ap (λ (l : List Bool). get_or l m false) e ∙ get_or_at (replicate m false) true rest false m (length-replicate m false)))
 
-polynomial-lt : (n : ℕ) (bs : List Bool) → polynomial n bs < (n + 1) * 2 ^ length bs
+polynomial_lt : (n : ℕ) (bs : List Bool) → polynomial n bs < (n + 1) * 2 ^ length bs
 unfolding polynomial
-polynomial-lt n [] = omega arith
-polynomial-lt n (b ∷ bs) =
+polynomial_lt n [] = omega arith
+polynomial_lt n (b ∷ bs) =
     let double : (n + 1) * 2 ^ suc (length bs) ≡ (n + 1) * 2 * 2 ^ length bs =
     ap (λ (p : ℕ). (n + 1) * p) (pow-suc 2 (length bs) ∙ mul_comm (2 ^ length bs) 2)
     ∙ sym (mul_assoc (n + 1) 2 (2 ^ length bs)) in
-    le_trans (polynomial-lt (broughtDown n b) bs)
-    (rw double (mul-le-mul_right (2 ^ length bs) (omega (arith, coefficient-lt b))))
+    le_trans (polynomial_lt (brought_down n b) bs)
+    (rw double (mul-le-mul_right (2 ^ length bs) (omega (arith, coefficient_lt b))))
 
 -- a 1 and at most 15 coefficients behind it are their own remainder, and that is not 0
 burst : (bs : List Bool) → length bs ≤ 15 → divided 1 bs ≡ 0 → ⊥
 burst bs h e =
-    let p : polynomial 1 bs ≡ 0 = sym (divided-small 1 bs (omega (arith, polynomial-lt 1 bs, pow_mono h))) ∙ e in
-    omega (arith, polynomial-grows 1 bs)
+    let p : polynomial 1 bs ≡ 0 = sym (divided_small 1 bs (omega (arith, polynomial_lt 1 bs, pow_mono h))) ∙ e in
+    omega (arith, polynomial_grows 1 bs)
 
 pub span : (bs : List Bool) → ((k l : ℕ) → get_or bs k false ≡ true → get_or bs l false ≡ true → l ≤ k + 15)
     → remainder bs ≡ 0 → Zeros bs
@@ -72,7 +72,7 @@ span bs h e = go (shape bs)
     go : Shape bs → Zeros bs
     go (none z) = z
     go (first m rest q) =
-        absurd (burst (take 15 rest) (rw (length-take 15 rest) (omega arith)) (zeros-nonzero (length (drop 15 rest)) (divided 1 (take 15 rest)) (divided-lt 1 (take 15 rest) (omega arith)) ended))
+        absurd (burst (take 15 rest) (rw (length-take 15 rest) (omega arith)) (zeros_nonzero (length (drop 15 rest)) (divided 1 (take 15 rest)) (divided_lt 1 (take 15 rest) (omega arith)) ended))
       where
         at : (j : ℕ) → get_or rest j false ≡ true → get_or bs (m + suc j) false ≡ true
         at j t =
@@ -89,7 +89,7 @@ span bs h e = go (shape bs)
         ended : divided (divided 1 (take 15 rest)) (replicate (length (drop 15 rest)) false) ≡ 0
         ended =
             ap (divided (divided 1 (take 15 rest))) (sym behind)
-            ∙ sym (divided-append 1 (take 15 rest) (drop 15 rest))
+            ∙ sym (divided_append 1 (take 15 rest) (drop 15 rest))
             ∙ ap (divided 1) (take-append-drop 15 rest)
             ∙ sym (from_first m rest) ∙ ap remainder (sym q) ∙ e
 
@@ -99,64 +99,64 @@ unfoldable pub weight : List Bool → ℕ
 weight [] = 0
 weight (b ∷ bs) = coefficient b + weight bs
 
-pub weight-zeros : (bs : List Bool) → weight bs ≡ 0 → Zeros bs
+pub weight_zeros : (bs : List Bool) → weight bs ≡ 0 → Zeros bs
 unfolding weight
-weight-zeros [] e = refl
-weight-zeros (true ∷ bs) e = absurd (omega arith)
-weight-zeros (false ∷ bs) e = ap (λ (l : List Bool). false ∷ l) (weight-zeros bs (omega arith))
+weight_zeros [] e = refl
+weight_zeros (true ∷ bs) e = absurd (omega arith)
+weight_zeros (false ∷ bs) e = ap (λ (l : List Bool). false ∷ l) (weight_zeros bs (omega arith))
 
-pub zeros-weight : (bs : List Bool) → Zeros bs → weight bs ≡ 0
+pub zeros_weight : (bs : List Bool) → Zeros bs → weight bs ≡ 0
 unfolding weight
-zeros-weight bs z = ap weight z ∙ none-weight (length bs)
+zeros_weight bs z = ap weight z ∙ none_weight (length bs)
   where
-    none-weight : (n : ℕ) → weight (replicate n false) ≡ 0
-    none-weight zero = refl
-    none-weight (suc n) = omega (arith, none-weight n)
+    none_weight : (n : ℕ) → weight (replicate n false) ≡ 0
+    none_weight zero = refl
+    none_weight (suc n) = omega (arith, none_weight n)
 
-weight-first : (m : ℕ) (rest : List Bool) → weight (replicate m false ++ true ∷ rest) ≡ 1 + weight rest
+weight_first : (m : ℕ) (rest : List Bool) → weight (replicate m false ++ true ∷ rest) ≡ 1 + weight rest
 unfolding weight
-weight-first zero rest = refl
-weight-first (suc m) rest = omega (arith, weight-first m rest)
+weight_first zero rest = refl
+weight_first (suc m) rest = omega (arith, weight_first m rest)
 
-weight-of : {bs : List Bool} (m : ℕ) (rest : List Bool) → bs ≡ replicate m false ++ true ∷ rest → weight bs ≡ 1 + weight rest
-weight-of m rest e = ap weight e ∙ weight-first m rest
+weight_of : {bs : List Bool} (m : ℕ) (rest : List Bool) → bs ≡ replicate m false ++ true ∷ rest → weight bs ≡ 1 + weight rest
+weight_of m rest e = ap weight e ∙ weight_first m rest
 
-length-of : {bs : List Bool} (m : ℕ) (rest : List Bool) → bs ≡ replicate m false ++ true ∷ rest → length bs ≡ m + suc (length rest)
-length-of m rest e = ap length e ∙ simp (length-append, length-replicate)
+length_of : {bs : List Bool} (m : ℕ) (rest : List Bool) → bs ≡ replicate m false ++ true ∷ rest → length bs ≡ m + suc (length rest)
+length_of m rest e = ap length e ∙ simp (length-append, length-replicate)
 
 -- a coefficient that is 1, brought down, is 1 more than one that is 0
-step-true : (r : ℕ) → r < degree16 → step r true ≡ bit_xor (step r false) 1
+step_true : (r : ℕ) → r < degree16 → step r true ≡ bit_xor (step r false) 1
 unfolding xor step reduced
-step-true r h = ap (λ (x : ℕ). step x true) (sym (xor_zero_r r)) ∙ step-xor r 0 false true h (omega arith)
+step_true r h = ap (λ (x : ℕ). step x true) (sym (xor_zero_r r)) ∙ step_xor r 0 false true h (omega arith)
 
-power-next : (k : ℕ) → power (k + 1) ≡ step (power k) false
+power_next : (k : ℕ) → power (k + 1) ≡ step (power k) false
 unfolding divided
-power-next k =
-    ap (divided 1) (sym (replicate-append-replicate k 1 false)) ∙ divided-append 1 (replicate k false) (replicate 1 false)
+power_next k =
+    ap (divided 1) (sym (replicate-append-replicate k 1 false)) ∙ divided_append 1 (replicate k false) (replicate 1 false)
 
 -- two that are 1, p others between them: their remainder is 0 only at a multiple of the order of x
 pair : (p : ℕ) (rest : List Bool) → Zeros rest → p + 1 < order → divided 1 (replicate p false ++ true ∷ rest) ≡ 0 → ⊥
 unfolding divided
-pair p rest z h e = is-order.first (p + 1) (omega arith) h (power-next p ∙ xor-apart _ _ (sym (step-true (power p) low) ∙ zero))
+pair p rest z h e = is_order.first (p + 1) (omega arith) h (power_next p ∙ xor_apart _ _ (sym (step_true (power p) low) ∙ zero))
   where
     low : power p < degree16
-    low = divided-lt 1 (replicate p false) (omega arith)
+    low = divided_lt 1 (replicate p false) (omega arith)
 
     zero : step (power p) true ≡ 0
     zero =
-        zeros-nonzero (length rest) (step (power p) true) (step-lt (power p) true low)
-        (ap (divided (step (power p) true)) (sym z) ∙ sym (divided-append 1 (replicate p false) (true ∷ rest)) ∙ e)
+        zeros_nonzero (length rest) (step (power p) true) (step_lt (power p) true low)
+        (ap (divided (step (power p) true)) (sym z) ∙ sym (divided_append 1 (replicate p false) (true ∷ rest)) ∙ e)
 
 -- two that are 1 are seen in any list no longer than the order of x
 pub two : (bs : List Bool) → length bs ≤ order → weight bs ≡ 2 → remainder bs ≡ 0 → ⊥
 two bs l w e = go (shape bs)
   where
     inner : (m : ℕ) (rest : List Bool) → bs ≡ replicate m false ++ true ∷ rest → Shape rest → ⊥
-    inner m rest q (none z) = omega (arith, weight-of m rest q, zeros-weight rest z)
-    inner m rest q (first p end r) = pair p end (weight-zeros end (omega (arith, weight-of m rest q, weight-of p end r)))
-        (omega (arith, length-of m rest q, length-of p end r))
+    inner m rest q (none z) = omega (arith, weight_of m rest q, zeros_weight rest z)
+    inner m rest q (first p end r) = pair p end (weight_zeros end (omega (arith, weight_of m rest q, weight_of p end r)))
+        (omega (arith, length_of m rest q, length_of p end r))
         (ap (divided 1) (sym r) ∙ sym (from_first m rest) ∙ ap remainder (sym q) ∙ e)
 
     go : Shape bs → ⊥
-    go (none z) = omega (arith, zeros-weight bs z)
+    go (none z) = omega (arith, zeros_weight bs z)
     go (first m rest q) = inner m rest q (shape rest)

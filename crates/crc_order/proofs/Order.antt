@@ -9,14 +9,14 @@ use borrow.Author.Tests.{eq-eqb, ltb-true, ltb-false}
 use lib.Dec.{eqb, ltb}
 use lib.ListN.{replicate, replicate-append-replicate}
 use Rattle.crc_polynomial.specs.Polynomial.{divided, step, reduced}
-use Rattle.crc_polynomial.proofs.Laws.{divided-append}
+use Rattle.crc_polynomial.proofs.Laws.{divided_append}
 use Rattle.crc_polynomial.proofs.Linear.{everywhere}
-use Rattle.crc_polynomial.proofs.Shifts.{left, sixteen-places}
+use Rattle.crc_polynomial.proofs.Shifts.{left, sixteen_places}
 use Rattle.crc_order.specs.Order.{power, order, IsOrder}
 
 -- places after places
 split : (r a b : ℕ) → divided r (replicate (a + b) false) ≡ divided (divided r (replicate a false)) (replicate b false)
-split r a b = ap (divided r) (sym (replicate-append-replicate a b false)) ∙ divided-append r (replicate a false) (replicate b false)
+split r a b = ap (divided r) (sym (replicate-append-replicate a b false)) ∙ divided_append r (replicate a false) (replicate b false)
 
 -- ---- a power, sixteen places at once
 blocks : ℕ → ℕ → ℕ
@@ -30,15 +30,15 @@ by_blocks (suc n) r h =
     let more : suc n * 16 ≡ 16 + n * 16 = omega arith in
     ap (λ (k : ℕ). divided r (replicate k false)) more
     ∙ split r 16 (n * 16)
-    ∙ ap (λ (s : ℕ). divided s (replicate (n * 16) false)) (sym (sixteen-places r h))
+    ∙ ap (λ (s : ℕ). divided s (replicate (n * 16) false)) (sym (sixteen_places r h))
     ∙ by_blocks n (left r) (mod-lt _ (omega arith))
 
 quick : ℕ → ℕ
 quick k = divided (blocks (k / 16) 1) (replicate (k % 16) false)
 
-quick-power : (k : ℕ) → power k ≡ quick k
+quick_power : (k : ℕ) → power k ≡ quick k
 unfolding quick
-quick-power k =
+quick_power k =
     ap power (sym (div-add-mod' k 16))
     ∙ split 1 (k / 16 * 16) (k % 16)
     ∙ ap (λ (r : ℕ). divided r (replicate (k % 16) false)) (by_blocks (k / 16) 1 (omega arith))
@@ -76,10 +76,10 @@ above : (i : ℕ) → i < 180 → clear (i + 2) (order / (i + 2)) ≡ true
 unfolding clear quick blocks divided step reduced
 above = everywhere (λ i. clear (i + 2) (order / (i + 2))) (λ i. true) 180 refl
 
-not-one : (a b : ℕ) → clear a b ≡ true → order % a ≡ 0 → power b ≡ 1 → ⊥
+not_one : (a b : ℕ) → clear a b ≡ true → order % a ≡ 0 → power b ≡ 1 → ⊥
 unfolding clear
-not-one a b c d e =
-    let t = rw (eq-eqb _ _ d, eq-eqb _ _ (sym (quick-power b) ∙ e)) at c in
+not_one a b c d e =
+    let t = rw (eq-eqb _ _ d, eq-eqb _ _ (sym (quick_power b) ∙ e)) at c in
     let z : ◌≡◌ {A = ℕ} 0 1 = cc in
     omega arith
 
@@ -105,15 +105,15 @@ module _ (q k : ℕ) (pair : q * k ≡ order) where
       let two = some l in
       let most = few h in
       let back : q - 2 + 2 ≡ q = omega arith in
-      not-one q (order / q) (subst (λ (a : ℕ). clear a (order / a) ≡ true) back (above (q - 2) (omega arith)))
+      not_one q (order / q) (subst (λ (a : ℕ). clear a (order / a) ≡ true) back (above (q - 2) (omega arith)))
       (ap (λ (n : ℕ). n % q) (sym pair) ∙ mul-mod_right q k)
       (ap power (ap (λ (n : ℕ). n / q) (sym pair) ∙ mul-div_right k (omega arith)) ∙ e)
 
-no-divisor : (k : ℕ) → 0 < k → k < order → order % k ≡ 0 → power k ≡ 1 → ⊥
-no-divisor k p l d e = go (ltb k 182) refl
+no_divisor : (k : ℕ) → 0 < k → k < order → order % k ≡ 0 → power k ≡ 1 → ⊥
+no_divisor k p l d e = go (ltb k 182) refl
   where
     go : (t : Bool) → ltb k 182 ≡ t → ⊥
-    go true t = not-one k k (below k (ltb-true _ _ t)) d e
+    go true t = not_one k k (below k (ltb-true _ _ t)) d e
     go false t = paired (order / k) k (div-mul_cancel k (dvd_of_mod-eq-zero k d)) (ltb-false _ _ t) l e
 
 computed : quick order ≡ 1
@@ -121,10 +121,10 @@ unfolding quick blocks divided step reduced
 computed = refl
 
 returns : power order ≡ 1
-returns = quick-power order ∙ computed
+returns = quick_power order ∙ computed
 
 first : (k : ℕ) → 0 < k → k < order → power k ≡ 1 → ⊥
-first k = lowest order returns no-divisor (suc k) k (omega arith)
+first k = lowest order returns no_divisor (suc k) k (omega arith)
 
-pub is-order : IsOrder
-is-order = record { returns = returns; first = first }
+pub is_order : IsOrder
+is_order = record { returns = returns; first = first }

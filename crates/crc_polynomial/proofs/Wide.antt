@@ -6,7 +6,7 @@ use native.Mathlib.Omega.{arith}
 use native.Mathlib.Nat.{zero-mul, one-mul, mod-lt, div-add-mod'}
 use lib.Bits.{bit_xor, xor_self, xor_shr, xor_mod, xor_shifted, xor_zero_r, xor_zero_l}
 use lib.Pow.{pow_pos, shr_lt}
-use Rattle.crc_polynomial.proofs.Xor.{digit-cases, xor-swap}
+use Rattle.crc_polynomial.proofs.Xor.{digit_cases, xor_swap}
 use Rattle.crc_polynomial.proofs.Linear.{up_from, everywhere, Linear, both, times}
 
 -- ---- shifts are linear
@@ -34,19 +34,19 @@ pub behind₂ : (f : ℕ → ℕ → ℕ) (g : ℕ → ℕ) → Linear₂ f → 
 behind₂ f g lf lg a b x y = ap g (lf a b x y) ∙ lg (f a x) (f b y)
 
 pub both₂ : (f g : ℕ → ℕ → ℕ) → Linear₂ f → Linear₂ g → Linear₂ (λ m n. bit_xor (f m n) (g m n))
-both₂ f g lf lg a b x y = ap₂ bit_xor (lf a b x y) (lg a b x y) ∙ xor-swap (f a x) (f b y) (g a x) (g b y)
+both₂ f g lf lg a b x y = ap₂ bit_xor (lf a b x y) (lg a b x y) ∙ xor_swap (f a x) (f b y) (g a x) (g b y)
 
 -- ---- a number computed before it is used, and so only once
 abbrev pub forced : (ℕ → ℕ) → ℕ → ℕ
 forced f zero = f zero
 forced f (suc n) = f (suc n)
 
-pub forced-is : (f : ℕ → ℕ) (n : ℕ) → forced f n ≡ f n
-forced-is f zero = refl
-forced-is f (suc n) = refl
+pub forced_is : (f : ℕ → ℕ) (n : ℕ) → forced f n ≡ f n
+forced_is f zero = refl
+forced_is f (suc n) = refl
 
-pub forced-at : (f : ℕ → ℕ) {m n : ℕ} → m ≡ n → forced f m ≡ f n
-forced-at f {m} p = forced-is f m ∙ ap f p
+pub forced_at : (f : ℕ → ℕ) {m n : ℕ} → m ≡ n → forced f m ≡ f n
+forced_at f {m} p = forced_is f m ∙ ap f p
 
 -- ---- equal at each power of x
 module _ (f g : ℕ → ℕ) (lf : Linear f) (lg : Linear g) where
@@ -63,7 +63,7 @@ module _ (f g : ℕ → ℕ) (lf : Linear f) (lg : Linear g) where
       let rest = mod-lt r (pow_pos w) in
       let more : suc w ≡ 1 + w = omega arith in
       at_sum (sym (div-add-mod' r (2 ^ w)) ∙ sym (xor_shifted (r / 2 ^ w) w (r % 2 ^ w) rest))
-      (digit-cases (λ (d : ℕ). f (d * 2 ^ w) ≡ g (d * 2 ^ w)) (rw zero-mul at_zero)
+      (digit_cases (λ (d : ℕ). f (d * 2 ^ w) ≡ g (d * 2 ^ w)) (rw zero-mul at_zero)
       (rw one-mul (e w (omega arith))) (r / 2 ^ w) (shr_lt 1 w (rw more at h)))
       (same w (λ i k. e i (omega arith)) (r % 2 ^ w) rest)
 

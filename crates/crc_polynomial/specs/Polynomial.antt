@@ -18,9 +18,9 @@ bits_of zero n = []
 bits_of (suc w) n = odd (n / 2 ^ w) ∷ bits_of w n
 
 -- the bits of a list of octets, in the order of the line: first octet first, its most significant bit first
-unfoldable pub bitsOfOctets : List ℕ → List Bool
-bitsOfOctets [] = []
-bitsOfOctets (x ∷ xs) = bits_of 8 x ++ bitsOfOctets xs
+unfoldable pub bits_of_octets : List ℕ → List Bool
+bits_of_octets [] = []
+bits_of_octets (x ∷ xs) = bits_of 8 x ++ bits_of_octets xs
 
 abbrev pub coefficient : Bool → ℕ
 coefficient true = 1
@@ -36,17 +36,17 @@ degree16 = 0x10000
 
 -- One place of the long division: the next coefficient is brought down; where the degree is then 16, the generator goes
 -- into it once, and is subtracted.
-abbrev pub broughtDown : ℕ → Bool → ℕ
-broughtDown r b = r * 2 + coefficient b
+abbrev pub brought_down : ℕ → Bool → ℕ
+brought_down r b = r * 2 + coefficient b
 
-abbrev pub goesInto : ℕ → Bool
-goesInto s = leb degree16 s
+abbrev pub goes_into : ℕ → Bool
+goes_into s = leb degree16 s
 
 unfoldable pub reduced : ℕ → ℕ
-reduced s = cond (goesInto s) (bit_xor s generator) s
+reduced s = cond (goes_into s) (bit_xor s generator) s
 
 unfoldable pub step : ℕ → Bool → ℕ
-step r b = reduced (broughtDown r b)
+step r b = reduced (brought_down r b)
 
 -- what is left of r once all the coefficients are brought down
 unfoldable pub divided : ℕ → List Bool → ℕ
@@ -54,27 +54,27 @@ divided r [] = r
 divided r (b ∷ bs) = divided (step r b) bs
 
 -- the quotient's coefficients, one for each place
-unfoldable pub quotientFrom : ℕ → List Bool → List Bool
-quotientFrom r [] = []
-quotientFrom r (b ∷ bs) = goesInto (broughtDown r b) ∷ quotientFrom (step r b) bs
+unfoldable pub quotient_from : ℕ → List Bool → List Bool
+quotient_from r [] = []
+quotient_from r (b ∷ bs) = goes_into (brought_down r b) ∷ quotient_from (step r b) bs
 
 abbrev pub remainder : List Bool → ℕ
 remainder = divided 0
 
 abbrev pub quotient : List Bool → List Bool
-quotient = quotientFrom 0
+quotient = quotient_from 0
 
 -- n·x^(length qs) plus qs times the generator, by Horner's rule
-unfoldable pub timesGenerator : ℕ → List Bool → ℕ
-timesGenerator n [] = n
-timesGenerator n (q ∷ qs) = timesGenerator (bit_xor (n * 2) (cond q generator 0)) qs
+unfoldable pub times_generator : ℕ → List Bool → ℕ
+times_generator n [] = n
+times_generator n (q ∷ qs) = times_generator (bit_xor (n * 2) (cond q generator 0)) qs
 
 -- the polynomial of a list of coefficients that follow those of n, as a number
 unfoldable pub polynomial : ℕ → List Bool → ℕ
 polynomial n [] = n
-polynomial n (b ∷ bs) = polynomial (broughtDown n b) bs
+polynomial n (b ∷ bs) = polynomial (brought_down n b) bs
 
 -- `remainder` is the remainder: the dividend is the quotient times the generator plus it, and its degree is under 16
 pub record Divides (bs : List Bool) : Type 0 where
-  pub dividend : polynomial 0 bs ≡ bit_xor (timesGenerator 0 (quotient bs)) (remainder bs)
+  pub dividend : polynomial 0 bs ≡ bit_xor (times_generator 0 (quotient bs)) (remainder bs)
   pub degree : remainder bs < degree16

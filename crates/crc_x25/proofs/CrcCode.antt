@@ -6,10 +6,10 @@ use native.Mathlib.Omega.{arith}
 use native.Mathlib.Nat.{mod-eq_of_lt}
 use lib.Bits.{bit_and, bit_xor, and_mask, xor_mod, xor_shr, xor_comm, xor_zero_r}
 use Rattle.crc_polynomial.specs.Polynomial.{Octets, degree16}
-use Rattle.crc_x25.specs.Check.{x25, x25From}
-use Rattle.crc_x25.specs.CrcCode.{x25InitCrc, uint8, uint16, crcAccumulate, crcAccumulateBuffer, crcCalculate}
+use Rattle.crc_x25.specs.Check.{x25, x25_from}
+use Rattle.crc_x25.specs.CrcCode.{x25_init_crc, uint8, uint16, crc_accumulate, crc_accumulate_buffer, crc_calculate}
 use Rattle.crc_x25.proofs.Shifts.{fold, shifted}
-use Rattle.crc_x25.proofs.Step.{octet-step, from-lt, from-append, from-none, starts}
+use Rattle.crc_x25.proofs.Step.{octet_step, from_lt, from_append, from_none, starts}
 
 -- the check's low octet
 low : (check : ℕ) → uint8 (bit_and check 0xFF) % 256 ≡ check % 256
@@ -34,21 +34,21 @@ high octet check h =
 abbrev joined : ℕ → ℕ → ℕ
 joined above below = bit_xor (bit_xor (bit_xor above (fold below * 256)) (fold below * 8)) (fold below / 16)
 
-accumulated : (octet check : ℕ) → check < degree16 → octet < 256 → crcAccumulate octet check ≡ x25From check (octet ∷ [])
-unfolding crcAccumulate shifted
+accumulated : (octet check : ℕ) → check < degree16 → octet < 256 → crc_accumulate octet check ≡ x25_from check (octet ∷ [])
+unfolding crc_accumulate shifted
 accumulated octet check hc hd =
-    let step = octet-step check octet hc hd in
-    let fits : shifted (bit_xor check octet) < degree16 = subst (λ (n : ℕ). n < degree16) (sym step) (from-lt check (octet ∷ [])) in
+    let step = octet_step check octet hc hd in
+    let fits : shifted (bit_xor check octet) < degree16 = subst (λ (n : ℕ). n < degree16) (sym step) (from_lt check (octet ∷ [])) in
     ap uint16 (ap₂ joined (high octet check hd) (met octet check)) ∙ mod-eq_of_lt fits ∙ step
 
-buffer-is : (check : ℕ) (octets : List ℕ) → check < degree16 → Octets octets → crcAccumulateBuffer check octets ≡ x25From check octets
-unfolding crcAccumulateBuffer
-buffer-is check [] hc o = from-none check hc
-buffer-is check (x ∷ xs) hc o =
+buffer_is : (check : ℕ) (octets : List ℕ) → check < degree16 → Octets octets → crc_accumulate_buffer check octets ≡ x25_from check octets
+unfolding crc_accumulate_buffer
+buffer_is check [] hc o = from_none check hc
+buffer_is check (x ∷ xs) hc o =
     let one = accumulated x check hc (o 0) in
-    ap (λ (n : ℕ). crcAccumulateBuffer n xs) one
-    ∙ buffer-is (x25From check (x ∷ [])) xs (from-lt check (x ∷ [])) (λ i. o (suc i))
-    ∙ sym (from-append check (x ∷ []) xs)
+    ap (λ (n : ℕ). crc_accumulate_buffer n xs) one
+    ∙ buffer_is (x25_from check (x ∷ [])) xs (from_lt check (x ∷ [])) (λ i. o (suc i))
+    ∙ sym (from_append check (x ∷ []) xs)
 
-pub by_code : (octets : List ℕ) → Octets octets → crcCalculate octets ≡ x25 octets
-by_code octets o = buffer-is x25InitCrc octets (omega arith) o ∙ starts octets
+pub by_code : (octets : List ℕ) → Octets octets → crc_calculate octets ≡ x25 octets
+by_code octets o = buffer_is x25_init_crc octets (omega arith) o ∙ starts octets

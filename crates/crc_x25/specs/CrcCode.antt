@@ -4,8 +4,8 @@ use Rattle.std.specs.Prelude.{List, [], ◌∷◌, ℕ, ◌*◌, ◌/◌, ◌%�
 use Rattle.std.specs.Int.Bits.{bit_and, bit_xor}
 
 -- #define X25_INIT_CRC 0xffff
-abbrev pub x25InitCrc : ℕ
-x25InitCrc = 0xFFFF
+abbrev pub x25_init_crc : ℕ
+x25_init_crc = 0xFFFF
 
 -- what is stored in a uint8_t and in a uint16_t
 abbrev pub uint8 : ℕ → ℕ
@@ -18,21 +18,21 @@ uint16 n = n % 2 ^ 16
 --   tmp = data ^ (uint8_t) (*crcAccum & 0xff);
 --   tmp ^= (tmp << 4);
 --   *crcAccum = (*crcAccum >> 8) ^ (tmp << 8) ^ (tmp << 3) ^ (tmp >> 4);
-unfoldable pub crcAccumulate : ℕ → ℕ → ℕ
-crcAccumulate «data» crcAccum =
-    let tmp = uint8 (bit_xor «data» (uint8 (bit_and crcAccum 0xFF))) in
+unfoldable pub crc_accumulate : ℕ → ℕ → ℕ
+crc_accumulate «data» crc_accum =
+    let tmp = uint8 (bit_xor «data» (uint8 (bit_and crc_accum 0xFF))) in
     let tmp = uint8 (bit_xor tmp (tmp * 2 ^ 4)) in
-    uint16 (bit_xor (bit_xor (bit_xor (crcAccum / 2 ^ 8) (tmp * 2 ^ 8)) (tmp * 2 ^ 3)) (tmp / 2 ^ 4))
+    uint16 (bit_xor (bit_xor (bit_xor (crc_accum / 2 ^ 8) (tmp * 2 ^ 8)) (tmp * 2 ^ 3)) (tmp / 2 ^ 4))
 
 -- void crc_accumulate_buffer(uint16_t *crcAccum, const char *pBuffer, uint16_t length)
---   while (length--) crc_accumulate(*p++, crcAccum);
-unfoldable pub crcAccumulateBuffer : ℕ → List ℕ → ℕ
-crcAccumulateBuffer crcAccum [] = crcAccum
-crcAccumulateBuffer crcAccum («data» ∷ buffer) = crcAccumulateBuffer (crcAccumulate «data» crcAccum) buffer
+--   while (length--) crc_accumulate(*p++, crc_accum);
+unfoldable pub crc_accumulate_buffer : ℕ → List ℕ → ℕ
+crc_accumulate_buffer crc_accum [] = crc_accum
+crc_accumulate_buffer crc_accum («data» ∷ buffer) = crc_accumulate_buffer (crc_accumulate «data» crc_accum) buffer
 
 -- uint16_t crc_calculate(const uint8_t *pBuffer, uint16_t length)
 --   crc_init(&crcTmp);
 --   while (length--) crc_accumulate(*pBuffer++, &crcTmp);
 --   return crcTmp;
-abbrev pub crcCalculate : List ℕ → ℕ
-crcCalculate = crcAccumulateBuffer x25InitCrc
+abbrev pub crc_calculate : List ℕ → ℕ
+crc_calculate = crc_accumulate_buffer x25_init_crc

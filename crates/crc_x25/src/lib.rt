@@ -1,11 +1,11 @@
 // The X.25 check that MAVLink carries, by shifts.
 ghost use Rattle.std.specs.Prelude.{◌≡◌, [], ◌∷◌, ◌++◌, ◌≤◌, length, drop};
-ghost use Rattle.field_words.specs.Words.{octetsUp};
-ghost use Rattle.crc_x25.specs.Check.{x25, x25From};
+ghost use Rattle.field_words.specs.Words.{octets_up};
+ghost use Rattle.crc_x25.specs.Check.{x25, x25_from};
 
 // The check of octets, with the one of those before this octet at hand.
 fn next_octet(check: u16, octet: u8) -> u16
-    ensures { result ≡ x25From check (octet ∷ []) }
+    ensures { result ≡ x25_from check (octet ∷ []) }
 {
     let met = check ^ octet as u16;
     let low = met % 256;
@@ -15,7 +15,7 @@ fn next_octet(check: u16, octet: u8) -> u16
 
 // Two octets at once, sixteen places of the division: the steps of a check wait for each other, and this halves their number.
 fn next_pair(check: u16, first: u8, second: u8) -> u16
-    ensures { result ≡ x25From check (first ∷ second ∷ []) }
+    ensures { result ≡ x25_from check (first ∷ second ∷ []) }
 {
     let met = check as u32 ^ (second as u32 * 256 + first as u32);
     let q = (met ^ (met * 16) ^ (met * 256) ^ (met * 2048) ^ (met * 4096)) % 65536;
@@ -24,7 +24,7 @@ fn next_pair(check: u16, first: u8, second: u8) -> u16
 
 // Eight octets at once, the least significant first: the same division by shifts of 64 bits.
 fn next_eight(check: u16, word: u64) -> u16
-    ensures { result ≡ x25From check (octetsUp 8 word) }
+    ensures { result ≡ x25_from check (octets_up 8 word) }
 {
     let met = word ^ check as u64;
     let a = met ^ (met << 32);
@@ -36,7 +36,7 @@ fn next_eight(check: u16, word: u64) -> u16
 
 // A number's four lowest octets at once: the step of eight over four zeros and them, once they have met the check.
 fn next_four(check: u16, word: u64) -> u16
-    ensures { result ≡ x25From check (octetsUp 4 word) }
+    ensures { result ≡ x25_from check (octets_up 4 word) }
 {
     next_eight(0, (word ^ check as u64) << 32)
 }
@@ -51,21 +51,21 @@ pub fn x25_five(first: u8, second: u8, third: u8, fourth: u8, fifth: u8) -> u16
 
 // The check of seven octets at once, a number's lowest: the step of eight over a zero and them.
 pub fn x25_seven(word: u64) -> u16
-    ensures { result ≡ x25 (octetsUp 7 word) }
+    ensures { result ≡ x25 (octets_up 7 word) }
 {
     next_eight(0x3078, word << 8)
 }
 
 // The check of eight octets at once.
 pub fn x25_eight(word: u64) -> u16
-    ensures { result ≡ x25 (octetsUp 8 word) }
+    ensures { result ≡ x25 (octets_up 8 word) }
 {
     next_eight(0xFFFF, word)
 }
 
 // The check of a number's four lowest octets and eight more: the step of eight over four zeros and the four, then over the eight.
 pub fn x25_twelve(first: u64, word: u64) -> u16
-    ensures { result ≡ x25 (octetsUp 4 first ++ octetsUp 8 word) }
+    ensures { result ≡ x25 (octets_up 4 first ++ octets_up 8 word) }
 {
     next_eight(next_eight(0xEC2A, first << 32), word)
 }
@@ -79,7 +79,7 @@ pub fn x25_check(octets: &[u8], extra: u8) -> u16
 
 // The same of octets that follow others, whose check is given.
 pub fn x25_after(check: u16, octets: &[u8], extra: u8) -> u16
-    ensures { result ≡ x25From check (octets.now ++ extra ∷ []) }
+    ensures { result ≡ x25_from check (octets.now ++ extra ∷ []) }
 {
     let mut check = check;
     let mut i = 0;
@@ -94,7 +94,7 @@ pub fn x25_after(check: u16, octets: &[u8], extra: u8) -> u16
 // leaves, in one step. The check is that of the octets before.
 fn check_last(octets: &[u8], start: usize, check: u16, extra: u8) -> u16
     requires { start ≤ length octets.now }
-    ensures { result ≡ x25From check (drop start (octets.now ++ extra ∷ [])) }
+    ensures { result ≡ x25_from check (drop start (octets.now ++ extra ∷ [])) }
 {
     let left = octets.len() - start;
     if left == 0 {
@@ -130,7 +130,7 @@ fn check_last(octets: &[u8], start: usize, check: u16, extra: u8) -> u16
 // The octets from start on and then the extra, two by two. The check is that of the octets before.
 fn check_rest(octets: &[u8], start: usize, check: u16, extra: u8) -> u16
     requires { start ≤ length octets.now }
-    ensures { result ≡ x25From check (drop start (octets.now ++ extra ∷ [])) }
+    ensures { result ≡ x25_from check (drop start (octets.now ++ extra ∷ [])) }
 {
     let mut check = check;
     let mut i = start;

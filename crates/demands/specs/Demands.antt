@@ -4,31 +4,31 @@
 -- `ostrogosz_ucp_read_..`, `.._write_..` and `.._send_..`; `ostrogosz_mavlink_read_id` and, for every kind, `ostrogosz_mavlink_read_..`
 -- and `.._write_..`. The others are of public functions of the Rattle crates, of which the programs call some: `WritesFrame` of
 -- `ucp_writer::write_frame`, `Receives` of `ucp_receiver::octet::receive` and `Takes` of `receive_slice`; `Reads`, `WritesBody` and
--- `Sends` of messages (ucp_messages, ucp_answers, ucp_send); `readDue` and `writeDue` of MAVLink (mavlink_messages). What a raw number
+-- `Sends` of messages (ucp_messages, ucp_answers, ucp_send); `read_due` and `write_due` of MAVLink (mavlink_messages). What a raw number
 -- means in feet and in feet per minute, and which failures a status reports, 01 states too: those calls have contracts that fix each
--- answer by `altitudeMeans`, `rateMeans`, `geometricMeans` (ucp_meanings) and `failuresIn` (mavlink_messages), which `ucpKinds`,
--- `mavlinkKinds` and `numbers` of `Examples` tie to 01. Of degrees, of `ostrogosz_ucp_frame_check` and of the interface's number the
+-- answer by `altitude_means`, `rate_means`, `geometric_means` (ucp_meanings) and `failures_in` (mavlink_messages), which `ucp_kinds`,
+-- `mavlink_kinds` and `numbers` of `Examples` tie to 01. Of degrees, of `ostrogosz_ucp_frame_check` and of the interface's number the
 -- tender asks nothing but that they return; contracts fix their answers too. That every call on every input returns, with no
 -- undefined step, is what proving a Rattle function means; no linked call, and none that is named here, has a `requires`. (What
 -- pointers from C have to be, include/ostrogosz/common.h says; the header's inline functions and the Rust wrapper have no contract.)
 -- Proved in proofs/Demands.antt. Assumes nothing.
 use Rattle.std.specs.Prelude.{◌≡◌, true, false, List, [], ◌∷◌, ◌++◌, map, ◌⊎◌, ◌↔◌, ℕ, ◌+◌, ◌≤◌, ◌<◌, length, drop}
 use Rattle.std.specs.Int.Bits.{bit_xor}
-use Rattle.crc_polynomial.specs.Polynomial.{Octets, bitsOfOctets, polynomial, quotient, timesGenerator, degree16}
-use Rattle.crc_gdl90.specs.Check.{frameCheck}
+use Rattle.crc_polynomial.specs.Polynomial.{Octets, bits_of_octets, polynomial, quotient, times_generator, degree16}
+use Rattle.crc_gdl90.specs.Check.{frame_check}
 use Rattle.crc_x25.specs.Check.{x25}
-use Rattle.crc_x25.specs.CrcCode.{crcCalculate}
+use Rattle.crc_x25.specs.CrcCode.{crc_calculate}
 use Rattle.refusals.specs.Numbers as because
-use Rattle.ucp_frame.specs.Frame.{frame, longestBody, longestFrame}
+use Rattle.ucp_frame.specs.Frame.{frame, longest_body, longest_frame}
 use Rattle.output_writing.specs.declared.Written.{Written}
-use Rattle.output_writing.specs.Writing.{WriterAnswer, refused, wrote, writerAnswer, Writing}
+use Rattle.output_writing.specs.Writing.{WriterAnswer, refused, wrote, writer_answer, Writing}
 use Rattle.ucp_writer.specs.Writes.{WritesFrame}
 use Rattle.ucp_writer.specs.Refusals.{WrongBodyLength, NoRoomForFrame, RoomForFrame, FrameWriterRefuses}
 use Rattle.mavlink_frame.specs.declared.Header.{Header}
 use Rattle.mavlink_messages.specs.declared.Message as mavlink
 use Rattle.mavlink_messages.specs.declared.Read.{Read as MavlinkRead}
 use Rattle.mavlink_messages.specs.Messages as MavlinkReads
-use Rattle.mavlink_messages.specs.Messages.{readDue, writeDue, messageFrame, in_range, payloadOf}
+use Rattle.mavlink_messages.specs.Messages.{read_due, write_due, message_frame, in_range, payload_of}
 use Rattle.mavlink_messages.specs.Refusals.{MavlinkShort, MavlinkWrongStart, MavlinkUnknownId, MavlinkWrongLength, MavlinkWrongCheck, MavlinkOutsideRange}
 use Rattle.thm_mavlink_messages.specs.RoundTrips as mavlink-trips
 use Rattle.thm_c_mavlink.specs.RoundTrips.{LentMavlinkReadsBack, LentMavlinkWritesBack}
@@ -41,15 +41,15 @@ use Rattle.thm_ucp_messages.specs.Typed.{ReadIsTyped}
 use Rattle.ucp_receiver.specs.declared.Record.{Record}
 use Rattle.ucp_receiver.specs.declared.Received.{Received}
 use Rattle.ucp_receiver.specs.declared.Taken.{Taken}
-use Rattle.ucp_receiver.specs.Answers.{ReceiverAnswer, nothing, refusal, receiverAnswer}
+use Rattle.ucp_receiver.specs.Answers.{ReceiverAnswer, nothing, refusal, receiver_answer}
 use Rattle.ucp_receiver.specs.Octet.{Receives}
 use Rattle.ucp_receiver.specs.Slice.{Takes}
 use Rattle.ucp_history.specs.History.{answer}
 use Rattle.crc_gdl90_strength.specs.Strength.{TwoBodies, AtMostThreeBits, Within16Bits, Strength}
 use Rattle.ucp_messages.specs.declared.Message as ucp
 use Rattle.ucp_messages.specs.declared.Read as ucp-read
-use Rattle.ucp_messages.specs.Messages.{messageFits, messageBody}
-use Rattle.ucp_messages.specs.Kinds.{kindIn}
+use Rattle.ucp_messages.specs.Messages.{message_fits, message_body}
+use Rattle.ucp_messages.specs.Kinds.{kind_in}
 use Rattle.ucp_messages.specs.Messages as Reads
 use Rattle.ucp_messages.specs.Refusals.{UnknownId, WrongMessageLength, WrongFixedOctet, FieldOutsideRange}
 use Rattle.ucp_answers.specs.Writes as Message
@@ -83,23 +83,23 @@ use Rattle.thm_ucp_receiver.specs.Promises.{AnswersAs, AnswersByHistory, Stretch
 -- The numbers that stand behind the refusals' names are those of document 01's table.
 pub record TableNumbers : Type 0 where
   pub receiver :
-      (because.badEscape ≡ 1) × (because.escapeBeforeFlag ≡ 2) × (because.tooLong ≡ 3) × (because.tooShort ≡ 4)
-      × (because.wrongCheck ≡ 5) × (because.room ≡ 6)
-  pub writers : (because.bodyLength ≡ 7) × (because.outputLength ≡ 8)
-  pub messages : (because.unknownId ≡ 10) × (because.messageLength ≡ 11) × (because.fixed ≡ 12) × (because.field ≡ 13)
+      (because.bad_escape ≡ 1) × (because.escape_before_flag ≡ 2) × (because.too_long ≡ 3) × (because.too_short ≡ 4)
+      × (because.wrong_check ≡ 5) × (because.room ≡ 6)
+  pub writers : (because.body_length ≡ 7) × (because.output_length ≡ 8)
+  pub messages : (because.unknown_id ≡ 10) × (because.message_length ≡ 11) × (because.fixed ≡ 12) × (because.field ≡ 13)
   pub mavlink :
-      (because.mavlinkShort ≡ 20) × (because.mavlinkStart ≡ 21) × (because.mavlinkUnknownId ≡ 22) × (because.mavlinkLength ≡ 23)
-      × (because.mavlinkWrongCheck ≡ 24) × (because.mavlinkField ≡ 25)
+      (because.mavlink_short ≡ 20) × (because.mavlink_start ≡ 21) × (because.mavlink_unknown_id ≡ 22) × (because.mavlink_length ≡ 23)
+      × (because.mavlink_wrong_check ≡ 24) × (because.mavlink_field ≡ 25)
 
 -- an answer of the receiver that is no body: a refusal's number is of 1 to 6, and neither a refusal nor silence changes the output
-pub record RefusalOrSilence (given : ReceiverAnswer) (output outputThen : List ℕ) : Type 0 where
-  pub refuses : (number : ℕ) → given ≡ refusal number → (1 ≤ number) × (number ≤ 6) × (outputThen ≡ output)
-  pub silent : given ≡ nothing → outputThen ≡ output
+pub record RefusalOrSilence (given : ReceiverAnswer) (output output_then : List ℕ) : Type 0 where
+  pub refuses : (number : ℕ) → given ≡ refusal number → (1 ≤ number) × (number ≤ 6) × (output_then ≡ output)
+  pub silent : given ≡ nothing → output_then ≡ output
 
 -- the same in C's numbers: kind 2 is a refusal, by its number; 0 silence; and any other is 1, a body
-pub record LinkedRefusalOrSilence (kind value : ℕ) (output outputThen : List ℕ) : Type 0 where
-  pub refuses : kind ≡ 2 → (1 ≤ value) × (value ≤ 6) × (outputThen ≡ output)
-  pub silent : kind ≡ 0 → (value ≡ 0) × (outputThen ≡ output)
+pub record LinkedRefusalOrSilence (kind value : ℕ) (output output_then : List ℕ) : Type 0 where
+  pub refuses : kind ≡ 2 → (1 ≤ value) × (value ≤ 6) × (output_then ≡ output)
+  pub silent : kind ≡ 0 → (value ≡ 0) × (output_then ≡ output)
   pub no_other : (kind ≡ 2 → ⊥) → (kind ≡ 0 → ⊥) → kind ≡ 1
 
 -- Demand 1. Each clause stands below the tender's sentence, in its words. "Every call on every input returns, with no undefined
@@ -111,178 +111,178 @@ pub record Demand1 : Type 0 where
   -- linked reader of one kind, for another kind's ID too, and 13 for an uplink's payload of another length
   pub numbers : TableNumbers
   -- ---- the frame writer: 7, then 8
-  pub writerRefuses7 :
+  pub writer_refuses7 :
       (body output after : List ℕ) (r : Written) → WritesFrame body output r after
-      → (writerAnswer r ≡ refused because.bodyLength) ↔ WrongBodyLength body
-  pub writerRefuses8 :
+      → (writer_answer r ≡ refused because.body_length) ↔ WrongBodyLength body
+  pub writer_refuses8 :
       (body output after : List ℕ) (r : Written) → WritesFrame body output r after
-      → (writerAnswer r ≡ refused because.outputLength) ↔ NoRoomForFrame body output
-  pub writerRefuses :
-      (body output after : List ℕ) (r : Written) (number : ℕ) → WritesFrame body output r after → writerAnswer r ≡ refused number
-      → ((number ≡ because.bodyLength) ⊎ (number ≡ because.outputLength)) × (after ≡ output)
-  pub linkedWriterRefuses : LinkedWriterRefuses
+      → (writer_answer r ≡ refused because.output_length) ↔ NoRoomForFrame body output
+  pub writer_refuses :
+      (body output after : List ℕ) (r : Written) (number : ℕ) → WritesFrame body output r after → writer_answer r ≡ refused number
+      → ((number ≡ because.body_length) ⊎ (number ≡ because.output_length)) × (after ≡ output)
+  pub linked_writer_refuses : LinkedWriterRefuses
   -- any other writer too, whatever it writes
-  pub refusalWritesNothing :
+  pub refusal_writes_nothing :
       (due : WriterAnswer) (octets output after : List ℕ) (r : Written) (number : ℕ) → Writing due octets output r after
-      → writerAnswer r ≡ refused number → after ≡ output
+      → writer_answer r ≡ refused number → after ≡ output
   -- ---- messages of the UCP line: readers, 10 to 13; writers, 13, then 8; sends, 13, then as the frame writer
-  pub messageReaderRefuses :
+  pub message_reader_refuses :
       (body : List ℕ) (r : ucp-read.Read) (number : ℕ) → Reads.Reads body r
-      → (Reads.readerAnswer r ≡ Reads.refused number)
-      ↔ ((number ≡ Reads.refusalIn (kindIn body) body) × (10 ≤ number) × (number ≤ 13))
-  pub messageReaderRefuses10 :
+      → (Reads.reader_answer r ≡ Reads.refused number)
+      ↔ ((number ≡ Reads.refusal_in (kind_in body) body) × (10 ≤ number) × (number ≤ 13))
+  pub message_reader_refuses10 :
       (body : List ℕ) (r : ucp-read.Read) → Reads.Reads body r
-      → (Reads.readerAnswer r ≡ Reads.refused because.unknownId) ↔ UnknownId body
-  pub messageReaderRefuses11 :
+      → (Reads.reader_answer r ≡ Reads.refused because.unknown_id) ↔ UnknownId body
+  pub message_reader_refuses11 :
       (body : List ℕ) (r : ucp-read.Read) → Reads.Reads body r
-      → (Reads.readerAnswer r ≡ Reads.refused because.messageLength) ↔ WrongMessageLength body
-  pub messageReaderRefuses12 :
+      → (Reads.reader_answer r ≡ Reads.refused because.message_length) ↔ WrongMessageLength body
+  pub message_reader_refuses12 :
       (body : List ℕ) (r : ucp-read.Read) → Reads.Reads body r
-      → (Reads.readerAnswer r ≡ Reads.refused because.fixed) ↔ WrongFixedOctet body
-  pub messageReaderRefuses13 :
+      → (Reads.reader_answer r ≡ Reads.refused because.fixed) ↔ WrongFixedOctet body
+  pub message_reader_refuses13 :
       (body : List ℕ) (r : ucp-read.Read) → Reads.Reads body r
-      → (Reads.readerAnswer r ≡ Reads.refused because.field) ↔ FieldOutsideRange body
-  pub messageWriterRefuses :
+      → (Reads.reader_answer r ≡ Reads.refused because.field) ↔ FieldOutsideRange body
+  pub message_writer_refuses :
       (m : ucp.Message) (payload output after : List ℕ) (r : Written) (number : ℕ)
-      → Message.WritesBody (messageFits m payload) (messageBody m payload) output r after
-      → (writerAnswer r ≡ refused number)
-      ↔ (((number ≡ because.field) × (messageFits m payload ≡ false))
-      ⊎ ((number ≡ because.outputLength) × (messageFits m payload ≡ true) × (length output < length (messageBody m payload))))
-  pub messageSendRefuses :
+      → Message.WritesBody (message_fits m payload) (message_body m payload) output r after
+      → (writer_answer r ≡ refused number)
+      ↔ (((number ≡ because.field) × (message_fits m payload ≡ false))
+      ⊎ ((number ≡ because.output_length) × (message_fits m payload ≡ true) × (length output < length (message_body m payload))))
+  pub message_send_refuses :
       (m : ucp.Message) (payload buffer after : List ℕ) (r : Written) (number : ℕ) → Sends m payload buffer r after
-      → (writerAnswer r ≡ refused number)
-      ↔ (((number ≡ because.field) × (messageFits m payload ≡ false))
-      ⊎ ((messageFits m payload ≡ true) × FrameWriterRefuses (messageBody m payload) buffer number))
+      → (writer_answer r ≡ refused number)
+      ↔ (((number ≡ because.field) × (message_fits m payload ≡ false))
+      ⊎ ((message_fits m payload ≡ true) × FrameWriterRefuses (message_body m payload) buffer number))
   -- of the linked calls, for each kind, with what was lent; and of the call that gives a body's ID
-  pub linkedMessagesRefuse : LentRefusals
-  pub linkedIdRefuses : IdRefuses
+  pub linked_messages_refuse : LentRefusals
+  pub linked_id_refuses : IdRefuses
   -- ---- MAVLink: readers, 20 to 25; writers, 25, then 8
-  pub mavlinkReaderRefuses :
-      (input : List ℕ) (r : MavlinkRead) (number : ℕ) → MavlinkReads.mavlinkAnswer r ≡ readDue input
-      → MavlinkReads.mavlinkAnswer r ≡ MavlinkReads.refused number → (20 ≤ number) × (number ≤ 25)
-  pub mavlinkReaderRefuses20 :
-      (input : List ℕ) (r : MavlinkRead) → MavlinkReads.mavlinkAnswer r ≡ readDue input
-      → (MavlinkReads.mavlinkAnswer r ≡ MavlinkReads.refused because.mavlinkShort) ↔ MavlinkShort input
-  pub mavlinkReaderRefuses21 :
-      (input : List ℕ) (r : MavlinkRead) → MavlinkReads.mavlinkAnswer r ≡ readDue input
-      → (MavlinkReads.mavlinkAnswer r ≡ MavlinkReads.refused because.mavlinkStart) ↔ MavlinkWrongStart input
-  pub mavlinkReaderRefuses22 :
-      (input : List ℕ) (r : MavlinkRead) → MavlinkReads.mavlinkAnswer r ≡ readDue input
-      → (MavlinkReads.mavlinkAnswer r ≡ MavlinkReads.refused because.mavlinkUnknownId) ↔ MavlinkUnknownId input
-  pub mavlinkReaderRefuses23 :
-      (input : List ℕ) (r : MavlinkRead) → MavlinkReads.mavlinkAnswer r ≡ readDue input
-      → (MavlinkReads.mavlinkAnswer r ≡ MavlinkReads.refused because.mavlinkLength) ↔ MavlinkWrongLength input
-  pub mavlinkReaderRefuses24 :
-      (input : List ℕ) (r : MavlinkRead) → MavlinkReads.mavlinkAnswer r ≡ readDue input
-      → (MavlinkReads.mavlinkAnswer r ≡ MavlinkReads.refused because.mavlinkWrongCheck) ↔ MavlinkWrongCheck input
-  pub mavlinkReaderRefuses25 :
-      (input : List ℕ) (r : MavlinkRead) → MavlinkReads.mavlinkAnswer r ≡ readDue input
-      → (MavlinkReads.mavlinkAnswer r ≡ MavlinkReads.refused because.mavlinkField) ↔ MavlinkOutsideRange input
-  pub mavlinkWriterRefuses :
+  pub mavlink_reader_refuses :
+      (input : List ℕ) (r : MavlinkRead) (number : ℕ) → MavlinkReads.mavlink_answer r ≡ read_due input
+      → MavlinkReads.mavlink_answer r ≡ MavlinkReads.refused number → (20 ≤ number) × (number ≤ 25)
+  pub mavlink_reader_refuses20 :
+      (input : List ℕ) (r : MavlinkRead) → MavlinkReads.mavlink_answer r ≡ read_due input
+      → (MavlinkReads.mavlink_answer r ≡ MavlinkReads.refused because.mavlink_short) ↔ MavlinkShort input
+  pub mavlink_reader_refuses21 :
+      (input : List ℕ) (r : MavlinkRead) → MavlinkReads.mavlink_answer r ≡ read_due input
+      → (MavlinkReads.mavlink_answer r ≡ MavlinkReads.refused because.mavlink_start) ↔ MavlinkWrongStart input
+  pub mavlink_reader_refuses22 :
+      (input : List ℕ) (r : MavlinkRead) → MavlinkReads.mavlink_answer r ≡ read_due input
+      → (MavlinkReads.mavlink_answer r ≡ MavlinkReads.refused because.mavlink_unknown_id) ↔ MavlinkUnknownId input
+  pub mavlink_reader_refuses23 :
+      (input : List ℕ) (r : MavlinkRead) → MavlinkReads.mavlink_answer r ≡ read_due input
+      → (MavlinkReads.mavlink_answer r ≡ MavlinkReads.refused because.mavlink_length) ↔ MavlinkWrongLength input
+  pub mavlink_reader_refuses24 :
+      (input : List ℕ) (r : MavlinkRead) → MavlinkReads.mavlink_answer r ≡ read_due input
+      → (MavlinkReads.mavlink_answer r ≡ MavlinkReads.refused because.mavlink_wrong_check) ↔ MavlinkWrongCheck input
+  pub mavlink_reader_refuses25 :
+      (input : List ℕ) (r : MavlinkRead) → MavlinkReads.mavlink_answer r ≡ read_due input
+      → (MavlinkReads.mavlink_answer r ≡ MavlinkReads.refused because.mavlink_field) ↔ MavlinkOutsideRange input
+  pub mavlink_writer_refuses :
       (m : mavlink.Message) (h : Header) (output after : List ℕ) (r : Written) (number : ℕ)
-      → Writing (writeDue m output) (messageFrame m h) output r after
-      → (writerAnswer r ≡ refused number)
-      ↔ (((number ≡ because.mavlinkField) × (in_range m ≡ false))
-      ⊎ ((number ≡ because.outputLength) × (in_range m ≡ true) × (length output < length (payloadOf m) + 8)))
-  pub linkedMavlinkReadersRefuse : MavlinkReaderRefuses
-  pub linkedMavlinkWritersRefuse : MavlinkWriterRefuses
-  pub linkedMavlinkIdRefuses : MavlinkIdRefuses
+      → Writing (write_due m output) (message_frame m h) output r after
+      → (writer_answer r ≡ refused number)
+      ↔ (((number ≡ because.mavlink_field) × (in_range m ≡ false))
+      ⊎ ((number ≡ because.output_length) × (in_range m ≡ true) × (length output < length (payload_of m) + 8)))
+  pub linked_mavlink_readers_refuse : MavlinkReaderRefuses
+  pub linked_mavlink_writers_refuse : MavlinkWriterRefuses
+  pub linked_mavlink_id_refuses : MavlinkIdRefuses
   -- ---- the receiver, 1 to 6: each exactly when, of the stretch that a flag closes, as its octets stand on the line; and, by the octet and
-  -- by the slice, from any record, no other number. (Which answer is due at all: `answersByHistory` of demand 2.)
-  pub receiverRefusesWhen : ReceiverRefusesWhen
-  pub linkedReceiverRefusesWhen : LinkedReceiverRefusesWhen
-  pub receiverRefuses :
-      (receiver : Record) (store : List ℕ) (octet : ℕ) (output : List ℕ) (given : Received) (storeAfter outputThen : List ℕ)
-      → Receives receiver store octet output given storeAfter outputThen
-      → RefusalOrSilence (receiverAnswer given.answer) output outputThen
-  pub sliceRefuses :
-      (receiver : Record) (store line output : List ℕ) (given : Taken) (storeAfter outputThen : List ℕ)
-      → Takes receiver store line output given storeAfter outputThen
-      → RefusalOrSilence (receiverAnswer given.answer) output outputThen
-  pub linkedReceiverRefuses :
-      (store line : List ℕ) (octet : ℕ) (output : List ℕ) (kind value : ℕ) (storeAfter lineAfter outputThen : List ℕ)
-      → ReceivesNumbers store line octet output kind value storeAfter lineAfter outputThen
-      → LinkedRefusalOrSilence kind value output outputThen
-  pub linkedSliceRefuses :
-      (store line octets output : List ℕ) (kind value taken : ℕ) (storeAfter lineAfter outputThen : List ℕ)
-      → TakesNumbers store line octets output kind value taken storeAfter lineAfter outputThen
-      → LinkedRefusalOrSilence kind value output outputThen
+  -- by the slice, from any record, no other number. (Which answer is due at all: `answers_by_history` of demand 2.)
+  pub receiver_refuses_when : ReceiverRefusesWhen
+  pub linked_receiver_refuses_when : LinkedReceiverRefusesWhen
+  pub receiver_refuses :
+      (receiver : Record) (store : List ℕ) (octet : ℕ) (output : List ℕ) (given : Received) (store_after output_then : List ℕ)
+      → Receives receiver store octet output given store_after output_then
+      → RefusalOrSilence (receiver_answer given.answer) output output_then
+  pub slice_refuses :
+      (receiver : Record) (store line output : List ℕ) (given : Taken) (store_after output_then : List ℕ)
+      → Takes receiver store line output given store_after output_then
+      → RefusalOrSilence (receiver_answer given.answer) output output_then
+  pub linked_receiver_refuses :
+      (store line : List ℕ) (octet : ℕ) (output : List ℕ) (kind value : ℕ) (store_after line_after output_then : List ℕ)
+      → ReceivesNumbers store line octet output kind value store_after line_after output_then
+      → LinkedRefusalOrSilence kind value output output_then
+  pub linked_slice_refuses :
+      (store line octets output : List ℕ) (kind value taken : ℕ) (store_after line_after output_then : List ℕ)
+      → TakesNumbers store line octets output kind value taken store_after line_after output_then
+      → LinkedRefusalOrSilence kind value output output_then
   -- "At every flag, line counts excepted, the store is all zero, the rest of the receiver's record is one fixed value"
-  pub flagClears : FlagClears
-  pub sliceFlagClears : SliceFlagClears
-  pub linkedFlagClears : LinkedFlagClears
-  pub linkedSliceFlagClears : LinkedSliceFlagClears
+  pub flag_clears : FlagClears
+  pub slice_flag_clears : SliceFlagClears
+  pub linked_flag_clears : LinkedFlagClears
+  pub linked_slice_flag_clears : LinkedSliceFlagClears
   -- document 01 on the store: before the first flag nothing, then the open stretch unstuffed as far as its first fault, and zero behind
-  pub storeByHistory : StoreByHistory
-  pub huntingStoresNothing : HuntingStoresNothing
-  pub storeClean : StoreClean
-  pub linkedStoreByHistory : LinkedStoreByHistory
+  pub store_by_history : StoreByHistory
+  pub hunting_stores_nothing : HuntingStoresNothing
+  pub store_clean : StoreClean
+  pub linked_store_by_history : LinkedStoreByHistory
   -- "and what the line answers from there on depends only on later bytes, for the same room lent"
-  pub laterOnly : LaterOnly
-  pub linkedLaterOnly : LinkedLaterOnly
+  pub later_only : LaterOnly
+  pub linked_later_only : LinkedLaterOnly
   -- ---- lists of linked calls are lines, lines driven by slices, and the writer's lists, in C's numbers: so all that is said of those
   -- here holds of them
-  pub linkedReceiverIsLine : LinkedLines
-  pub linkedSlicesAreLine : LinkedSliceLines
-  pub linkedWriterIsWriter : LinkedWriter
+  pub linked_receiver_is_line : LinkedLines
+  pub linked_slices_are_line : LinkedSliceLines
+  pub linked_writer_is_writer : LinkedWriter
 
 -- Demand 2. "Frames, checks and messages are those of the GDL90 public document, the maker's UCP control document and its MAVLink
 -- pages, as document 01 states them."
 pub record Demand2 : Type 0 where
   -- the check of every body is the remainder: the body as a polynomial is the quotient times the generator plus it, and its degree
   -- is under 16; MAVLink's is what 001's code computes
-  pub checkIsRemainder :
+  pub check_is_remainder :
       (body : List ℕ)
-      → (polynomial 0 (bitsOfOctets body) ≡ bit_xor (timesGenerator 0 (quotient (bitsOfOctets body))) (frameCheck body))
-      × (frameCheck body < degree16)
-  pub x25IsCode : (octets : List ℕ) → Octets octets → crcCalculate octets ≡ x25 octets
-  -- a body of 1 to 436 octets with room for its frame is written, and that exactly (of the linked call: `linkedWriterRefuses`)
+      → (polynomial 0 (bits_of_octets body) ≡ bit_xor (times_generator 0 (quotient (bits_of_octets body))) (frame_check body))
+      × (frame_check body < degree16)
+  pub x25_is_code : (octets : List ℕ) → Octets octets → crc_calculate octets ≡ x25 octets
+  -- a body of 1 to 436 octets with room for its frame is written, and that exactly (of the linked call: `linked_writer_refuses`)
   pub writes :
       (body output after : List ℕ) (r : Written) → WritesFrame body output r after
       → RoomForFrame body output
-      → (writerAnswer r ≡ wrote (length (frame body)))
+      → (writer_answer r ≡ wrote (length (frame body)))
       × (after ≡ frame body ++ drop (length (frame body)) output)
-      × (length (frame body) ≤ longestFrame)
+      × (length (frame body) ≤ longest_frame)
   -- every call of the receiver answers as the rules say of the history, and a flag that closes a stretch with an octet in it is answered
-  pub answersByHistory : AnswersByHistory
-  pub stretchIsAnswered : StretchIsAnswered
-  pub linkedAnswersByHistory : LinkedAnswersByHistory
-  pub linkedStretchIsAnswered : LinkedStretchIsAnswered
+  pub answers_by_history : AnswersByHistory
+  pub stretch_is_answered : StretchIsAnswered
+  pub linked_answers_by_history : LinkedAnswersByHistory
+  pub linked_stretch_is_answered : LinkedStretchIsAnswered
   -- a line that is taken in slices is such a line of calls by the octet, with the same answers, outputs and records; a slice is taken
   -- up to the first octet that brings an answer, or whole
-  pub slicesAreCalls : LineOfSlices
-  pub sliceEndsAsCall : SliceIsCall
-  pub linkedSliceEndsAsCall : LinkedSliceIsCall
-  pub linkedSliceTakesAll : LinkedSliceTakesAll
+  pub slices_are_calls : LineOfSlices
+  pub slice_ends_as_call : SliceIsCall
+  pub linked_slice_ends_as_call : LinkedSliceIsCall
+  pub linked_slice_takes_all : LinkedSliceTakesAll
   -- "each frame delivered writes back to the same bytes", and each frame written is delivered
-  pub deliveredIsFrame : PutOutIsFrame
-  pub deliveredWritesBack : DeliveredWritesBack
-  pub frameIsDelivered : FrameIsPutOut
-  pub linkedDeliveredIsFrame : LinkedPutOutIsFrame
-  pub linkedDeliveredWritesBack : LinkedDeliveredWritesBack
-  pub linkedFrameIsDelivered : LinkedFrameIsPutOut
+  pub delivered_is_frame : PutOutIsFrame
+  pub delivered_writes_back : DeliveredWritesBack
+  pub frame_is_delivered : FrameIsPutOut
+  pub linked_delivered_is_frame : LinkedPutOutIsFrame
+  pub linked_delivered_writes_back : LinkedDeliveredWritesBack
+  pub linked_frame_is_delivered : LinkedFrameIsPutOut
   -- "Every byte received on the UCP line is counted once, under the class its history gives"
-  pub countsByHistory : CountsByHistory
-  pub everyOctetCounted : EveryOctetCounted
-  pub linkedCountsByHistory : LinkedCountsByHistory
+  pub counts_by_history : CountsByHistory
+  pub every_octet_counted : EveryOctetCounted
+  pub linked_counts_by_history : LinkedCountsByHistory
   -- "Each written message reads back equal", and each accepted one writes back to the same octets, on both lines. What a message has
   -- to be, to read back equal, is met by every one that is read: its numbers are those of its types
-  pub messageReadsBack : message-trips.MessageReadsBack
-  pub messageWritesBack : message-trips.MessageWritesBack
-  pub uplinkReadsBack : message-trips.UplinkReadsBack
-  pub messageReadIsTyped : ReadIsTyped
-  pub mavlinkReadsBack : mavlink-trips.MavlinkReadsBack
-  pub mavlinkWritesBack : mavlink-trips.MavlinkWritesBack
-  pub mavlinkReadIsTyped : mavlink-trips.MavlinkReadIsTyped
+  pub message_reads_back : message-trips.MessageReadsBack
+  pub message_writes_back : message-trips.MessageWritesBack
+  pub uplink_reads_back : message-trips.UplinkReadsBack
+  pub message_read_is_typed : ReadIsTyped
+  pub mavlink_reads_back : mavlink-trips.MavlinkReadsBack
+  pub mavlink_writes_back : mavlink-trips.MavlinkWritesBack
+  pub mavlink_read_is_typed : mavlink-trips.MavlinkReadIsTyped
   -- of the linked calls, for each kind: by `ReadsInto` and `WritesStructBody` (c_lent), by `ReadsMavlink` and `WritesMavlinkForC`
-  pub lentMessagesReadAndWriteBack : LentRoundTrips
-  pub lentMavlinkReadsBack : LentMavlinkReadsBack
-  pub lentMavlinkWritesBack : LentMavlinkWritesBack
+  pub lent_messages_read_and_write_back : LentRoundTrips
+  pub lent_mavlink_reads_back : LentMavlinkReadsBack
+  pub lent_mavlink_writes_back : LentMavlinkWritesBack
   -- a message sent on the UCP line is delivered, and means the same: sent and received by the Rattle crates; sent by the linked call
   -- (`SendsStruct` of c_lent) and received by either; and its linked reader gives the same struct
-  pub sentIsDelivered : SentIsDelivered
-  pub lentMessageSentIsDelivered : LentSentIsDelivered DeliversOnLine
-  pub linkedMessageSentIsDelivered : LentSentIsDelivered DeliversLinked
+  pub sent_is_delivered : SentIsDelivered
+  pub lent_message_sent_is_delivered : LentSentIsDelivered DeliversOnLine
+  pub linked_message_sent_is_delivered : LentSentIsDelivered DeliversLinked
 
 -- The receiver's part of demand 3, one claim about whole lists: from a fresh receiver every call answers as the rules say, and
 -- where the list ends in the frame carrying one of two such bodies with the other's check, the last call answers 5.
@@ -292,9 +292,9 @@ ReceiverLists =
     → ((before after : List Observed) (o : Observed) → calls ≡ before ++ o ∷ after
     → AnswersAs (answer (map call_of before) (call_of o)) o)
     × ((before : List Observed) (last : Observed) → calls ≡ before ++ last ∷ []
-    → (a b : List ℕ) → TwoBodies a b → 1 ≤ length a → length a ≤ longestBody → AtMostThreeBits a b ⊎ Within16Bits a b
+    → (a b : List ℕ) → TwoBodies a b → 1 ≤ length a → length a ≤ longest_body → AtMostThreeBits a b ⊎ Within16Bits a b
     → EndsIn (carrying a b) (up_to before last)
-    → receiverAnswer last.given.answer ≡ refusal because.wrongCheck)
+    → receiver_answer last.given.answer ≡ refusal because.wrong_check)
 
 -- Demand 3.
 pub record Demand3 : Type 0 where
@@ -308,8 +308,8 @@ pub record Demand3 : Type 0 where
   -- bytes aren't the same either"
   pub writer : WriterLists
   -- the same two of lists of linked calls
-  pub linkedReceiver : LinkedReceiverLists
-  pub linkedWriter : LinkedWriterLists
+  pub linked_receiver : LinkedReceiverLists
+  pub linked_writer : LinkedWriterLists
 
 -- The ranges that document 02 changed: what reader and writer test, of every message that has such a field, both ways, and by example.
 -- Request c, the squawk; request e, the emitter.
@@ -324,12 +324,12 @@ pub record ChangedRanges : Type 0 where
 pub record Examples : Type 0 where
   -- ---- the papers' own: 01's "Frames to try" that are marked P; 001's two packets
   pub frames : FrameExamples
-  pub flippedBit : DataOctetBecomesFlag
+  pub flipped_bit : DataOctetBecomesFlag
   pub packets : PacketExamples
   -- ---- each kind of message: octets that carry values, values that fit, and values that do not, but for 0, 11, 44, 66 and 203, of
   -- which every value fits; what raw numbers mean
-  pub ucpKinds : UcpKindExamples
-  pub mavlinkKinds : MavlinkKindExamples
+  pub ucp_kinds : UcpKindExamples
+  pub mavlink_kinds : MavlinkKindExamples
   -- ---- C: each message struct has its fields, by name, at their offsets; the line, the answers, a measure and the failures have their
   -- numbers in the header's order
   pub structs : StructExamples
@@ -340,9 +340,9 @@ pub record Examples : Type 0 where
   -- refuse
   pub bodies : PremisesMet
   pub lines : EveryLine
-  pub linkedLines : EveryLinkedLine
-  pub endsIn : EndsInMet
+  pub linked_lines : EveryLinkedLine
+  pub ends_in : EndsInMet
   pub stretches : StretchMet
-  pub sliceLine : SliceLineMet
-  pub writerCalls : WriterCallMet
-  pub structPremises : StructPremises
+  pub slice_line : SliceLineMet
+  pub writer_calls : WriterCallMet
+  pub struct_premises : StructPremises

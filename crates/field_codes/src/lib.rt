@@ -1,6 +1,6 @@
 // The ranges of coded fields that several messages share, each in one place.
 ghost use Rattle.std.specs.Prelude.{◌≡◌};
-ghost use Rattle.field_codes.specs.Codes.{isSquawk, isEmitter, isSizeCode};
+ghost use Rattle.field_codes.specs.Codes.{is_squawk, is_emitter, is_size_code};
 
 // One, its decimal parts and 0.8, in parts of 2^32, rounded up.
 const ONE: u64 = 4294967296;
@@ -16,7 +16,7 @@ const EIGHT_TENTHS: u64 = 3435973837;
 // Whether a number is a Mode A code. The first digit behind the point is at most 7 where the fraction is below 0.8: 1280 hundredths are
 // 12.80, so 1280 is no code. A product for each digit is quicker than divisions.
 pub fn is_squawk(code: u16) -> bool
-    ensures { result ≡ isSquawk code }
+    ensures { result ≡ is_squawk code }
 {
     let number = code as u64;
     (number <= 7777)
@@ -27,14 +27,14 @@ pub fn is_squawk(code: u16) -> bool
 
 // Whether a number is an emitter category.
 pub fn is_emitter(category: u8) -> bool
-    ensures { result ≡ isEmitter category }
+    ensures { result ≡ is_emitter category }
 {
     category <= 21
 }
 
 // Whether a number is a code of the aircraft's length and width.
 pub fn is_size_code(code: u8) -> bool
-    ensures { result ≡ isSizeCode code }
+    ensures { result ≡ is_size_code code }
 {
     code <= 15
 }

@@ -1,7 +1,7 @@
 -- The format of a kind of message: the octets that are fixed, the fields in the document's order, and their ranges; what a body
 -- carries, and the body that carries a value. Assumes nothing.
 use Rattle.std.specs.Prelude.{◌≡◌, Bool, true, ◌&&◌, List, [], ◌∷◌, ◌++◌, ℕ, zero, suc, ◌+◌, ◌*◌, ◌/◌, ◌^◌, ◌<◌, ltb, eqb, ℤ, get_or, length, drop}
-use Rattle.field_layout.specs.Layout.{bit_of, is_set, eights, textOctets, textAt, total, Run, high as highRun, low as lowRun, layoutSize, layoutFields, layoutOctets, Whole, textRuns}
+use Rattle.field_layout.specs.Layout.{bit_of, is_set, eights, text_octets, text_at, total, Run, high as high_run, low as low_run, layout_size, layout_fields, layout_octets, Whole, text_runs}
 use Rattle.field_layout.specs.declared.Text.{Text}
 use Rattle.field_signed.specs.Signed.{signed, complement, holds}
 
@@ -13,7 +13,7 @@ pub data Sort : Type 0 where
   part : Sort
   -- signed by two's complement; the same two
   integer : Sort
-  integerPart : Sort
+  integer_part : Sort
 
 -- a field: a number of so many bits, a bit as a truth value, or a text of eight octets
 pub data Column : Type 0 where
@@ -30,19 +30,19 @@ abbrev pub Number : Sort → Type 0
 Number unsigned = ℕ
 Number part = ℕ
 Number integer = ℤ
-Number integerPart = ℤ
+Number integer_part = ℤ
 
-abbrev pub numberTo : (s : Sort) → ℕ → Number s → ℕ
-numberTo unsigned w n = n
-numberTo part w n = n
-numberTo integer w z = complement (half w) z
-numberTo integerPart w z = complement (half w) z
+abbrev pub number_to : (s : Sort) → ℕ → Number s → ℕ
+number_to unsigned w n = n
+number_to part w n = n
+number_to integer w z = complement (half w) z
+number_to integer_part w z = complement (half w) z
 
 abbrev pub number_of : (s : Sort) → ℕ → ℕ → Number s
 number_of unsigned w n = n
 number_of part w n = n
 number_of integer w n = signed (half w) n
-number_of integerPart w n = signed (half w) n
+number_of integer_part w n = signed (half w) n
 
 -- ---- a field
 abbrev pub Of : Column → Type 0
@@ -51,10 +51,10 @@ Of flag = Bool
 Of letters = Text
 
 -- the widths of its numbers, in bits, and how many they are
-abbrev pub widthsOf : Column → List ℕ
-widthsOf (field s w) = w ∷ []
-widthsOf flag = 1 ∷ []
-widthsOf letters = eights 8
+abbrev pub widths_of : Column → List ℕ
+widths_of (field s w) = w ∷ []
+widths_of flag = 1 ∷ []
+widths_of letters = eights 8
 
 abbrev pub count : Column → ℕ
 count (field s w) = 1
@@ -63,21 +63,21 @@ count letters = 8
 
 -- its numbers, and its value from the numbers from a place on
 abbrev pub to : (c : Column) → Of c → List ℕ
-to (field s w) v = numberTo s w v ∷ []
+to (field s w) v = number_to s w v ∷ []
 to flag b = bit_of b ∷ []
-to letters t = textOctets t
+to letters t = text_octets t
 
 abbrev pub from : (c : Column) → ℕ → List ℕ → Of c
 from (field s w) k vs = number_of s w (get_or vs k 0)
 from flag k vs = is_set (get_or vs k 0)
-from letters k vs = textAt vs k
+from letters k vs = text_at vs k
 
 -- what its type says of a value, what a writer tests besides, and what the test shows
 abbrev pub Typed : (c : Column) → Of c → Type 0
 Typed (field unsigned w) n = n < 2 ^ w
 Typed (field part w) n = Unit {0}
 Typed (field integer w) z = holds (half w) z ≡ true
-Typed (field integerPart w) z = Unit {0}
+Typed (field integer_part w) z = Unit {0}
 Typed flag b = Unit {0}
 Typed letters t =
     (t.c0 < 256) × (t.c1 < 256) × (t.c2 < 256) × (t.c3 < 256) × (t.c4 < 256) × (t.c5 < 256) × (t.c6 < 256) × (t.c7 < 256)
@@ -86,7 +86,7 @@ abbrev pub tested : Bool → (c : Column) → Of c → Bool
 tested before (field unsigned w) n = before
 tested before (field part w) n = before && ltb n (2 ^ w)
 tested before (field integer w) z = before
-tested before (field integerPart w) z = before && holds (half w) z
+tested before (field integer_part w) z = before && holds (half w) z
 tested before flag b = before
 tested before letters t = before
 
@@ -94,7 +94,7 @@ abbrev pub Bounded : (c : Column) → Of c → Type 0
 Bounded (field unsigned w) n = Unit {0}
 Bounded (field part w) n = n < 2 ^ w
 Bounded (field integer w) z = Unit {0}
-Bounded (field integerPart w) z = complement (half w) z < 2 ^ w
+Bounded (field integer_part w) z = complement (half w) z < 2 ^ w
 Bounded flag b = Unit {0}
 Bounded letters t = Unit {0}
 
@@ -103,7 +103,7 @@ abbrev pub Sound : Column → Type 0
 Sound (field unsigned w) = Unit {0}
 Sound (field part w) = Unit {0}
 Sound (field integer w) = 0 < w
-Sound (field integerPart w) = 0 < w
+Sound (field integer_part w) = 0 < w
 Sound flag = Unit {0}
 Sound letters = Unit {0}
 
@@ -129,25 +129,25 @@ abbrev pub made : {A : Type 0} (cs : List Column) → Made cs A → Row cs → A
 made [] f r = f
 made (c ∷ cs) f r = made cs (f r.first) r.rest
 
-abbrev pub rowWidths : List Column → List ℕ
-rowWidths [] = []
-rowWidths (c ∷ cs) = widthsOf c ++ rowWidths cs
+abbrev pub row_widths : List Column → List ℕ
+row_widths [] = []
+row_widths (c ∷ cs) = widths_of c ++ row_widths cs
 
-abbrev pub rowTo : (cs : List Column) → Row cs → List ℕ
-rowTo [] r = []
-rowTo (c ∷ cs) r = to c r.first ++ rowTo cs r.rest
+abbrev pub row_to : (cs : List Column) → Row cs → List ℕ
+row_to [] r = []
+row_to (c ∷ cs) r = to c r.first ++ row_to cs r.rest
 
-abbrev pub rowFrom : (cs : List Column) → ℕ → List ℕ → Row cs
-rowFrom [] k vs = tt
-rowFrom (c ∷ cs) k vs = from c k vs & rowFrom cs (k + count c) vs
+abbrev pub row_from : (cs : List Column) → ℕ → List ℕ → Row cs
+row_from [] k vs = tt
+row_from (c ∷ cs) k vs = from c k vs & row_from cs (k + count c) vs
 
 abbrev pub RowTyped : (cs : List Column) → Row cs → Type 0
 RowTyped [] r = Unit {0}
 RowTyped (c ∷ cs) r = Typed c r.first × RowTyped cs r.rest
 
-abbrev pub rowTested : Bool → (cs : List Column) → Row cs → Bool
-rowTested before [] r = before
-rowTested before (c ∷ cs) r = rowTested (tested before c r.first) cs r.rest
+abbrev pub row_tested : Bool → (cs : List Column) → Row cs → Bool
+row_tested before [] r = before
+row_tested before (c ∷ cs) r = row_tested (tested before c r.first) cs r.rest
 
 abbrev pub RowBounded : (cs : List Column) → Row cs → Type 0
 RowBounded [] r = Unit {0}
@@ -192,30 +192,30 @@ module _ {A : Type 0} where
   abbrev pub octet : (A → ℕ) → Item A
   octet get = high (number unsigned 8 get ∷ [])
 
-  abbrev pub fieldColumns : List (Field A) → List Column
-  fieldColumns [] = []
-  fieldColumns (f ∷ fs) = f.column ∷ fieldColumns fs
+  abbrev pub field_columns : List (Field A) → List Column
+  field_columns [] = []
+  field_columns (f ∷ fs) = f.column ∷ field_columns fs
 
   abbrev pub runs : List (Item A) → List Run
   runs [] = []
-  runs (high fs ∷ is) = highRun (rowWidths (fieldColumns fs)) ∷ runs is
-  runs (low n s get ∷ is) = lowRun n ∷ runs is
-  runs (text get ∷ is) = textRuns ++ runs is
+  runs (high fs ∷ is) = high_run (row_widths (field_columns fs)) ∷ runs is
+  runs (low n s get ∷ is) = low_run n ∷ runs is
+  runs (text get ∷ is) = text_runs ++ runs is
 
   abbrev pub columns : List (Item A) → List Column
   columns [] = []
-  columns (high fs ∷ is) = fieldColumns fs ++ columns is
+  columns (high fs ∷ is) = field_columns fs ++ columns is
   columns (low n s get ∷ is) = field s (n * 8) ∷ columns is
   columns (text get ∷ is) = letters ∷ columns is
 
   -- a value's fields
-  abbrev pub fieldsRow : (fs : List (Field A)) (cs : List Column) → A → Row cs → Row (fieldColumns fs ++ cs)
-  fieldsRow [] cs a r = r
-  fieldsRow (f ∷ fs) cs a r = f.get a & fieldsRow fs cs a r
+  abbrev pub fields_row : (fs : List (Field A)) (cs : List Column) → A → Row cs → Row (field_columns fs ++ cs)
+  fields_row [] cs a r = r
+  fields_row (f ∷ fs) cs a r = f.get a & fields_row fs cs a r
 
   abbrev pub row_of : (is : List (Item A)) → A → Row (columns is)
   row_of [] a = tt
-  row_of (high fs ∷ is) a = fieldsRow fs (columns is) a (row_of is a)
+  row_of (high fs ∷ is) a = fields_row fs (columns is) a (row_of is a)
   row_of (low n s get ∷ is) a = get a & row_of is a
   row_of (text get ∷ is) a = get a & row_of is a
 
@@ -238,9 +238,9 @@ pub record Right {A : Type 0} (f : Format A) : Type 0 where
   pub again : (r : Row (columns f.items)) → row_of f.items (made (columns f.items) f.value r) ≡ r
 
 -- the octets are those from a place on
-abbrev pub standAt : Bool → ℕ → List ℕ → List ℕ → Bool
-standAt before k [] body = before
-standAt before k (x ∷ xs) body = standAt (before && eqb (get_or body k 0) x) (k + 1) xs body
+abbrev pub stand_at : Bool → ℕ → List ℕ → List ℕ → Bool
+stand_at before k [] body = before
+stand_at before k (x ∷ xs) body = stand_at (before && eqb (get_or body k 0) x) (k + 1) xs body
 
 -- what the round trips ask of a body's first octet: it is the kind's ID, if the kind has one. Of no octets this says that the ID is 0:
 -- that there is an octet, the length shows
@@ -250,34 +250,34 @@ HasId (id ∷ xs) body = get_or body 0 0 ≡ id
 
 module _ {A : Type 0} where
   -- the offsets at which the items stand, as the documents' tables give them
-  abbrev pub offsetsFrom : ℕ → List (Item A) → List ℕ
-  offsetsFrom k [] = []
-  offsetsFrom k (high fs ∷ is) = k ∷ offsetsFrom (k + total (rowWidths (fieldColumns fs)) / 8) is
-  offsetsFrom k (low n s get ∷ is) = k ∷ offsetsFrom (k + n) is
-  offsetsFrom k (text get ∷ is) = k ∷ offsetsFrom (k + 8) is
+  abbrev pub offsets_from : ℕ → List (Item A) → List ℕ
+  offsets_from k [] = []
+  offsets_from k (high fs ∷ is) = k ∷ offsets_from (k + total (row_widths (field_columns fs)) / 8) is
+  offsets_from k (low n s get ∷ is) = k ∷ offsets_from (k + n) is
+  offsets_from k (text get ∷ is) = k ∷ offsets_from (k + 8) is
 
 module _ {A : Type 0} (f : Format A) where
   abbrev pub offsets : List ℕ
-  offsets = offsetsFrom (length f.head) f.items
+  offsets = offsets_from (length f.head) f.items
 
   -- how many octets a body has
-  abbrev pub bodySize : ℕ
-  bodySize = length f.head + layoutSize (runs f.items)
+  abbrev pub body_size : ℕ
+  body_size = length f.head + layout_size (runs f.items)
 
   -- the value that a body carries, and the body that carries a value
-  unfoldable pub valueIn : List ℕ → A
-  valueIn body = made (columns f.items) f.value (rowFrom (columns f.items) 0 (layoutFields (runs f.items) (drop (length f.head) body)))
+  unfoldable pub value_in : List ℕ → A
+  value_in body = made (columns f.items) f.value (row_from (columns f.items) 0 (layout_fields (runs f.items) (drop (length f.head) body)))
 
   unfoldable pub body_of : A → List ℕ
-  body_of a = f.head ++ layoutOctets (runs f.items) (rowTo (columns f.items) (row_of f.items a))
+  body_of a = f.head ++ layout_octets (runs f.items) (row_to (columns f.items) (row_of f.items a))
 
   -- a writer's test, and what it shows of the numbers that are narrower than their type
   unfoldable pub fits : A → Bool
-  fits a = rowTested (f.ranges a) (columns f.items) (row_of f.items a)
+  fits a = row_tested (f.ranges a) (columns f.items) (row_of f.items a)
 
   -- the same without the ranges: every number has room in its bits
-  abbrev pub hasRoom : A → Bool
-  hasRoom a = rowTested true (columns f.items) (row_of f.items a)
+  abbrev pub has_room : A → Bool
+  has_room a = row_tested true (columns f.items) (row_of f.items a)
 
   abbrev pub Fitting : A → Type 0
   Fitting a = RowBounded (columns f.items) (row_of f.items a)

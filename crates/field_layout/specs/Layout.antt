@@ -15,10 +15,10 @@ joined (w ∷ []) (v ∷ vs) = v
 joined (w ∷ (u ∷ us)) (v ∷ vs) = v * 2 ^ total (u ∷ us) + joined (u ∷ us) vs
 
 -- the fields of these widths that a number is made of
-abbrev pub cutByWidths : List ℕ → ℕ → List ℕ
-cutByWidths [] n = []
-cutByWidths (w ∷ []) n = n ∷ []
-cutByWidths (w ∷ (u ∷ us)) n = n / 2 ^ total (u ∷ us) ∷ cutByWidths (u ∷ us) (n % 2 ^ total (u ∷ us))
+abbrev pub cut_by_widths : List ℕ → ℕ → List ℕ
+cut_by_widths [] n = []
+cut_by_widths (w ∷ []) n = n ∷ []
+cut_by_widths (w ∷ (u ∷ us)) n = n / 2 ^ total (u ∷ us) ∷ cut_by_widths (u ∷ us) (n % 2 ^ total (u ∷ us))
 
 -- as many values as widths, and each within its own
 abbrev pub Within : List ℕ → List ℕ → Type 0
@@ -42,49 +42,49 @@ pub data Run : Type 0 where
   low : ℕ → Run
 
 -- a field of one octet
-abbrev pub octetRun : Run
-octetRun = high (8 ∷ [])
+abbrev pub octet_run : Run
+octet_run = high (8 ∷ [])
 
 -- the widths of so many octets
 abbrev pub eights : ℕ → List ℕ
 eights n = replicate n 8
 
 -- how many octets a run takes, and the widths of its fields
-abbrev pub runSize : Run → ℕ
-runSize (high ws) = total ws / 8
-runSize (low n) = n
+abbrev pub run_size : Run → ℕ
+run_size (high ws) = total ws / 8
+run_size (low n) = n
 
 abbrev pub widths : Run → List ℕ
 widths (high ws) = ws
 widths (low n) = n * 8 ∷ []
 
 -- the fields of a run from its octets, and its octets from the fields
-abbrev pub runFields : Run → List ℕ → List ℕ
-runFields (high ws) xs = cutByWidths ws (joined (eights (total ws / 8)) xs)
-runFields (low n) xs = joined (eights n) (reverse xs) ∷ []
+abbrev pub run_fields : Run → List ℕ → List ℕ
+run_fields (high ws) xs = cut_by_widths ws (joined (eights (total ws / 8)) xs)
+run_fields (low n) xs = joined (eights n) (reverse xs) ∷ []
 
-abbrev pub runOctets : Run → List ℕ → List ℕ
-runOctets (high ws) vs = cutByWidths (eights (total ws / 8)) (joined ws vs)
-runOctets (low n) vs = reverse (cutByWidths (eights n) (get_or vs 0 0))
+abbrev pub run_octets : Run → List ℕ → List ℕ
+run_octets (high ws) vs = cut_by_widths (eights (total ws / 8)) (joined ws vs)
+run_octets (low n) vs = reverse (cut_by_widths (eights n) (get_or vs 0 0))
 
 -- ---- the same of a layout
-abbrev pub layoutSize : List Run → ℕ
-layoutSize [] = 0
-layoutSize (r ∷ rs) = runSize r + layoutSize rs
+abbrev pub layout_size : List Run → ℕ
+layout_size [] = 0
+layout_size (r ∷ rs) = run_size r + layout_size rs
 
-abbrev pub layoutWidths : List Run → List ℕ
-layoutWidths [] = []
-layoutWidths (r ∷ rs) = widths r ++ layoutWidths rs
+abbrev pub layout_widths : List Run → List ℕ
+layout_widths [] = []
+layout_widths (r ∷ rs) = widths r ++ layout_widths rs
 
 -- the fields, in the document's order, that a body's octets carry
-abbrev pub layoutFields : List Run → List ℕ → List ℕ
-layoutFields [] xs = []
-layoutFields (r ∷ rs) xs = runFields r (take (runSize r) xs) ++ layoutFields rs (drop (runSize r) xs)
+abbrev pub layout_fields : List Run → List ℕ → List ℕ
+layout_fields [] xs = []
+layout_fields (r ∷ rs) xs = run_fields r (take (run_size r) xs) ++ layout_fields rs (drop (run_size r) xs)
 
 -- the octets that carry the fields
-abbrev pub layoutOctets : List Run → List ℕ → List ℕ
-layoutOctets [] vs = []
-layoutOctets (r ∷ rs) vs = runOctets r (take (length (widths r)) vs) ++ layoutOctets rs (drop (length (widths r)) vs)
+abbrev pub layout_octets : List Run → List ℕ → List ℕ
+layout_octets [] vs = []
+layout_octets (r ∷ rs) vs = run_octets r (take (length (widths r)) vs) ++ layout_octets rs (drop (length (widths r)) vs)
 
 -- every run fills whole octets
 abbrev pub Whole : List Run → Type 0
@@ -93,19 +93,19 @@ Whole (high ws ∷ rs) = (total ws ≡ total ws / 8 * 8) × Whole rs
 Whole (low n ∷ rs) = Whole rs
 
 -- eight runs of one octet
-abbrev pub textRuns : List Run
-textRuns = octetRun ∷ octetRun ∷ octetRun ∷ octetRun ∷ octetRun ∷ octetRun ∷ octetRun ∷ octetRun ∷ []
+abbrev pub text_runs : List Run
+text_runs = octet_run ∷ octet_run ∷ octet_run ∷ octet_run ∷ octet_run ∷ octet_run ∷ octet_run ∷ octet_run ∷ []
 
-abbrev pub textOctets : Text → List ℕ
-textOctets t = t.c0 ∷ t.c1 ∷ t.c2 ∷ t.c3 ∷ t.c4 ∷ t.c5 ∷ t.c6 ∷ t.c7 ∷ []
+abbrev pub text_octets : Text → List ℕ
+text_octets t = t.c0 ∷ t.c1 ∷ t.c2 ∷ t.c3 ∷ t.c4 ∷ t.c5 ∷ t.c6 ∷ t.c7 ∷ []
 
 -- eight zeros, where there is no text
-abbrev pub noText : Text
-noText = record { c0 = 0; c1 = 0; c2 = 0; c3 = 0; c4 = 0; c5 = 0; c6 = 0; c7 = 0 }
+abbrev pub no_text : Text
+no_text = record { c0 = 0; c1 = 0; c2 = 0; c3 = 0; c4 = 0; c5 = 0; c6 = 0; c7 = 0 }
 
 -- the text from a place of a list on
-abbrev pub textAt : List ℕ → ℕ → Text
-textAt xs at = record {
+abbrev pub text_at : List ℕ → ℕ → Text
+text_at xs at = record {
   c0 = get_or xs at 0;
   c1 = get_or xs (at + 1) 0;
   c2 = get_or xs (at + 2) 0;

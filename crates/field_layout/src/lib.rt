@@ -1,6 +1,6 @@
 // Numbers at a place of a slice of octets. A place past the end reads as 0, so that no function asks anything.
 ghost use Rattle.std.specs.Prelude.{◌≡◌, cond, ◌++◌, ◌<◌, ◌≤◌, leb, length, get_or, drop};
-ghost use Rattle.field_layout.specs.Layout.{bit_of, textAt, textOctets, noText};
+ghost use Rattle.field_layout.specs.Layout.{bit_of, text_at, text_octets, no_text};
 ghost use Rattle.field_layout.specs.Steps.{big16, big24, big32, little16, little24, little32};
 
 // A text of eight octets. (An enum can't hold an array, and messages are held in one.)
@@ -38,7 +38,7 @@ fn wide(octets: &[u8], at: usize) -> u32
 
 // The text from a place on.
 pub fn text_at(octets: &[u8], at: u8) -> Text
-    ensures { result ≡ textAt octets.now at }
+    ensures { result ≡ text_at octets.now at }
 {
     let i = at as usize;
     Text {
@@ -55,7 +55,7 @@ pub fn text_at(octets: &[u8], at: u8) -> Text
 
 // A text as the array of its octets.
 pub fn text_octets(text: Text) -> [u8; 8]
-    ensures { result ≡ textOctets text }
+    ensures { result ≡ text_octets text }
 {
     [
         text.c0, text.c1, text.c2, text.c3, text.c4, text.c5, text.c6, text.c7,
@@ -64,7 +64,7 @@ pub fn text_octets(text: Text) -> [u8; 8]
 
 // Eight zeros, for where there is no text.
 pub fn no_text() -> Text
-    ensures { result ≡ noText }
+    ensures { result ≡ no_text }
 {
     Text {
         c0: 0,

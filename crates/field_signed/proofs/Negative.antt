@@ -11,19 +11,19 @@ use mir.Syntax.{Width, w16, w32}
 use mir.Val.{SFits, to_z, of_z}
 use mir.ValLaws.{to_z-of_z}
 use Rattle.field_signed.specs.Signed.{signed, complement}
-use Rattle.field_signed.proofs.Signed.{magnitude-signed}
+use Rattle.field_signed.proofs.Signed.{magnitude_signed}
 
 -- the magnitude fits as the number does
-pub magnitude-fits : {w : Width} (z : ℤ) → SFits w z → SFits w (pos (mag z))
-magnitude-fits z f = record { sfits = f.sfits }
+pub magnitude_fits : {w : Width} (z : ℤ) → SFits w z → SFits w (pos (mag z))
+magnitude_fits z f = record { sfits = f.sfits }
 
 -- -1 less a number
 pub less : (n : ℕ) → negsuc 0 -ℤ pos n ≡ negsuc n
 less zero = refl
 less (suc n) = ap (λ (k : ℕ). negsuc (suc k)) (zero-add n)
 
-less-negative : (n : ℕ) → negsuc 0 -ℤ negsuc n ≡ pos n
-less-negative n =
+less_negative : (n : ℕ) → negsuc 0 -ℤ negsuc n ≡ pos n
+less_negative n =
     let one : suc n - 1 ≡ n = omega arith in
     rw (le-ltb (suc n) 1 (omega arith)) (ap pos one)
 
@@ -36,15 +36,15 @@ positive (pos n) h = refl
 positive (negsuc n) h = let e : ◌≡◌ {A = ℕ} 0 1 = cc in absurd (omega arith)
 
 module _ {w : Width} (z : ℤ) (f : SFits w z) where
-  pub below-zero : lt_z (to_z w (of_z w z)) (pos 0) ≡ true → z ≡ negsuc (mag z)
-  below-zero h = negative z (rw (to_z-of_z w z f) at h)
+  pub below_zero : lt_z (to_z w (of_z w z)) (pos 0) ≡ true → z ≡ negsuc (mag z)
+  below_zero h = negative z (rw (to_z-of_z w z f) at h)
 
   pub from_zero : lt_z (to_z w (of_z w z)) (pos 0) ≡ false → z ≡ pos (mag z)
   from_zero h = positive z (rw (to_z-of_z w z f) at h)
 
   -- -1 less a number below 0
   pub turned : lt_z (to_z w (of_z w z)) (pos 0) ≡ true → negsuc 0 -ℤ to_z w (of_z w z) ≡ pos (mag z)
-  turned h = ap (λ (y : ℤ). negsuc 0 -ℤ y) (to_z-of_z w z f ∙ below-zero h) ∙ less-negative (mag z)
+  turned h = ap (λ (y : ℤ). negsuc 0 -ℤ y) (to_z-of_z w z f ∙ below_zero h) ∙ less_negative (mag z)
 
   pub kept : lt_z (to_z w (of_z w z)) (pos 0) ≡ false → to_z w (of_z w z) ≡ pos (mag z)
   kept h = to_z-of_z w z f ∙ from_zero h
@@ -53,22 +53,22 @@ module _ {w : Width} (z : ℤ) (f : SFits w z) where
 pub wider : (z : ℤ) → SFits w16 z → SFits w32 z
 wider z f = record { sfits = omega arith }
 
-pub widened-back : (z y : ℤ) → SFits w16 z → y ≡ to_z w16 (of_z w16 z) → to_z w32 (of_z w32 y) ≡ z
-widened-back z y f e = ap (λ (x : ℤ). to_z w32 (of_z w32 x)) (e ∙ to_z-of_z w16 z f) ∙ to_z-of_z w32 z (wider z f)
+pub widened_back : (z y : ℤ) → SFits w16 z → y ≡ to_z w16 (of_z w16 z) → to_z w32 (of_z w32 y) ≡ z
+widened_back z y f e = ap (λ (x : ℤ). to_z w32 (of_z w32 x)) (e ∙ to_z-of_z w16 z f) ∙ to_z-of_z w32 z (wider z f)
 
-pub complement-16 : (half : ℕ) (z : ℤ) → half ≤ 32768 → SFits w16 z → complement half z < 65536
-complement-16 half (pos n) h f = omega arith
-complement-16 half (negsuc n) h f = omega arith
+pub complement_16 : (half : ℕ) (z : ℤ) → half ≤ 32768 → SFits w16 z → complement half z < 65536
+complement_16 half (pos n) h f = omega arith
+complement_16 half (negsuc n) h f = omega arith
 
 module _ (half n : ℕ) (some : 0 < half) (few : half ≤ 32768) where
-  signed-16 : SFits w16 (signed half n)
-  signed-16 = let l = magnitude-signed half n some in record { sfits = omega arith }
+  signed_16 : SFits w16 (signed half n)
+  signed_16 = let l = magnitude_signed half n some in record { sfits = omega arith }
 
   pub narrow_back : (z : ℤ) → z ≡ signed half n → to_z w32 (of_z w32 z) ≡ signed half n
-  narrow_back z e = ap (λ (x : ℤ). to_z w32 (of_z w32 x)) e ∙ to_z-of_z w32 (signed half n) (wider (signed half n) signed-16)
+  narrow_back z e = ap (λ (x : ℤ). to_z w32 (of_z w32 x)) e ∙ to_z-of_z w32 (signed half n) (wider (signed half n) signed_16)
 
-  pub narrow-fits : (z : ℤ) → z ≡ signed half n → SFits w16 (to_z w32 (of_z w32 z))
-  narrow-fits z e = subst⁻¹ (SFits w16) (narrow_back z e) signed-16
+  pub narrow_fits : (z : ℤ) → z ≡ signed half n → SFits w16 (to_z w32 (of_z w32 z))
+  narrow_fits z e = subst⁻¹ (SFits w16) (narrow_back z e) signed_16
 
-  pub narrowed-back : (z y : ℤ) → z ≡ signed half n → y ≡ to_z w32 (of_z w32 z) → to_z w16 (of_z w16 y) ≡ signed half n
-  narrowed-back z y e d = ap (λ (x : ℤ). to_z w16 (of_z w16 x)) (d ∙ narrow_back z e) ∙ to_z-of_z w16 (signed half n) signed-16
+  pub narrowed_back : (z y : ℤ) → z ≡ signed half n → y ≡ to_z w32 (of_z w32 z) → to_z w16 (of_z w16 y) ≡ signed half n
+  narrowed_back z y e d = ap (λ (x : ℤ). to_z w16 (of_z w16 x)) (d ∙ narrow_back z e) ∙ to_z-of_z w16 (signed half n) signed_16

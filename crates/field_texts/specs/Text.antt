@@ -2,22 +2,22 @@
 use Rattle.std.specs.Prelude.{Bool, true, ◌&&◌, ◌||◌, List, [], ◌∷◌, ℕ, leb, eqb}
 
 -- 0 to 9, A to Z
-abbrev pub isLetterOrDigit : ℕ → Bool
-isLetterOrDigit c = leb 0x30 c && leb c 0x39 || leb 0x41 c && leb c 0x5A
+abbrev pub is_letter_or_digit : ℕ → Bool
+is_letter_or_digit c = leb 0x30 c && leb c 0x39 || leb 0x41 c && leb c 0x5A
 
-abbrev pub isSpace : ℕ → Bool
-isSpace c = eqb c 0x20
+abbrev pub is_space : ℕ → Bool
+is_space c = eqb c 0x20
 
-unfoldable pub allSpaces : List ℕ → Bool
-allSpaces [] = true
-allSpaces (c ∷ cs) = isSpace c && allSpaces cs
+unfoldable pub all_spaces : List ℕ → Bool
+all_spaces [] = true
+all_spaces (c ∷ cs) = is_space c && all_spaces cs
 
 -- 0 to 9, A to Z, and spaces only at the end; all spaces are allowed
-unfoldable pub isPadded : List ℕ → Bool
-isPadded [] = true
-isPadded (c ∷ cs) = isLetterOrDigit c && isPadded cs || isSpace c && allSpaces cs
+unfoldable pub is_padded : List ℕ → Bool
+is_padded [] = true
+is_padded (c ∷ cs) = is_letter_or_digit c && is_padded cs || is_space c && all_spaces cs
 
 -- 0 to 9, A to Z, and spaces anywhere
-unfoldable pub isSpaced : List ℕ → Bool
-isSpaced [] = true
-isSpaced (c ∷ cs) = (isLetterOrDigit c || isSpace c) && isSpaced cs
+unfoldable pub is_spaced : List ℕ → Bool
+is_spaced [] = true
+is_spaced (c ∷ cs) = (is_letter_or_digit c || is_space c) && is_spaced cs

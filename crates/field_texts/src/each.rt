@@ -1,11 +1,11 @@
 // The rule of a spaced text at a place, each octet by itself: no step waits for another.
 ghost use Rattle.std.specs.Prelude.{◌≡◌, ◌||◌, ◌+◌, ◌≤◌, length};
-ghost use Rattle.field_layout.specs.Layout.{textAt, textOctets};
-ghost use Rattle.field_texts.specs.Text.{isLetterOrDigit, isSpace, isSpaced};
+ghost use Rattle.field_layout.specs.Layout.{text_at, text_octets};
+ghost use Rattle.field_texts.specs.Text.{is_letter_or_digit, is_space, is_spaced};
 
 // Whether an octet is 0 to 9, A to Z or a space.
 fn is_spaced_octet(c: u8) -> bool
-    ensures { result ≡ (isLetterOrDigit c || isSpace c) }
+    ensures { result ≡ (is_letter_or_digit c || is_space c) }
 {
     (0x30 <= c) & (c <= 0x39) | (0x41 <= c) & (c <= 0x5A) | (c == 0x20)
 }
@@ -13,7 +13,7 @@ fn is_spaced_octet(c: u8) -> bool
 // Whether the eight octets from a place on are of 0 to 9, A to Z and spaces.
 pub fn is_spaced_at(octets: &[u8], at: usize) -> bool
     requires { at + 8 ≤ length octets.now }
-    ensures { result ≡ isSpaced (textOctets (textAt octets.now at)) }
+    ensures { result ≡ is_spaced (text_octets (text_at octets.now at)) }
 {
     let last = is_spaced_octet(octets[at + 6]) & is_spaced_octet(octets[at + 7]);
     let half = is_spaced_octet(octets[at + 4]) & (is_spaced_octet(octets[at + 5]) & last);

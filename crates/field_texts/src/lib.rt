@@ -3,18 +3,18 @@ pub mod each;
 pub mod pairs;
 
 ghost use Rattle.std.specs.Prelude.{◌≡◌};
-ghost use Rattle.field_texts.specs.Text.{isLetterOrDigit, isPadded, isSpaced};
+ghost use Rattle.field_texts.specs.Text.{is_letter_or_digit, is_padded, is_spaced};
 
 // Whether an octet is 0 to 9 or A to Z.
 fn is_letter_or_digit(c: u8) -> bool
-    ensures { result ≡ isLetterOrDigit c }
+    ensures { result ≡ is_letter_or_digit c }
 {
     (0x30 <= c) & (c <= 0x39) | (0x41 <= c) & (c <= 0x5A)
 }
 
 // Whether a text is of 0 to 9 and A to Z, with spaces only at its end.
 pub fn is_padded(text: &[u8]) -> bool
-    ensures { result ≡ isPadded text.now }
+    ensures { result ≡ is_padded text.now }
 {
     let mut padded = true;
     let mut spaces = true;
@@ -30,7 +30,7 @@ pub fn is_padded(text: &[u8]) -> bool
 
 // Whether a text is of 0 to 9, A to Z and spaces.
 pub fn is_spaced(text: &[u8]) -> bool
-    ensures { result ≡ isSpaced text.now }
+    ensures { result ≡ is_spaced text.now }
 {
     let mut spaced = true;
     let mut i = text.len();

@@ -1,17 +1,17 @@
 // The rule of a padded text, each octet by itself and the next: no step waits for another.
 ghost use Rattle.std.specs.Prelude.{◌≡◌, ◌+◌, ◌≤◌, length};
-ghost use Rattle.field_layout.specs.Layout.{textAt, textOctets};
-ghost use Rattle.field_texts.specs.Text.{isLetterOrDigit, isPadded};
-ghost use Rattle.field_texts.specs.Pairs.{goesOn};
+ghost use Rattle.field_layout.specs.Layout.{text_at, text_octets};
+ghost use Rattle.field_texts.specs.Text.{is_letter_or_digit, is_padded};
+ghost use Rattle.field_texts.specs.Pairs.{goes_on};
 
 fn is_letter_or_digit(c: u8) -> bool
-    ensures { result ≡ isLetterOrDigit c }
+    ensures { result ≡ is_letter_or_digit c }
 {
     (0x30 <= c) & (c <= 0x39) | (0x41 <= c) & (c <= 0x5A)
 }
 
 fn goes_on(c: u8, next: u8) -> bool
-    ensures { result ≡ goesOn c next }
+    ensures { result ≡ goes_on c next }
 {
     is_letter_or_digit(c) | (c == 0x20) & (next == 0x20)
 }
@@ -19,7 +19,7 @@ fn goes_on(c: u8, next: u8) -> bool
 // Whether the eight octets from a place on are of 0 to 9 and A to Z, with spaces only at their end.
 pub fn is_padded_at(octets: &[u8], at: usize) -> bool
     requires { at + 8 ≤ length octets.now }
-    ensures { result ≡ isPadded (textOctets (textAt octets.now at)) }
+    ensures { result ≡ is_padded (text_octets (text_at octets.now at)) }
 {
     let c1 = octets[at + 1];
     let c2 = octets[at + 2];

@@ -8,7 +8,7 @@ use native.Mathlib.Numerals.{add-one}
 use lib.Arith.{mod-mul}
 use lib.ListN.{length, get_or, take, drop}
 use lib.Seq.{drop-cons}
-use Rattle.field_words.specs.Words.{octetsUp, octetsDown, eight}
+use Rattle.field_words.specs.Words.{octets_up, octets_down, eight}
 
 -- ---- digits to the base 256
 
@@ -32,18 +32,18 @@ first a n h = omega arith
 others : (a n : ℕ) → a < 256 → (a + n * 256) / 256 ≡ n
 others a n h = omega arith
 
-up : (xs : List ℕ) → Small xs → octetsUp (length xs) (value xs) ≡ xs
-unfolding octetsUp
+up : (xs : List ℕ) → Small xs → octets_up (length xs) (value xs) ≡ xs
+unfolding octets_up
 up [] h = refl
 up (x ∷ xs) h =
-    ap₂ (λ (y n : ℕ). y ∷ octetsUp (length xs) n) (first x (value xs) h.0) (others x (value xs) h.0)
+    ap₂ (λ (y n : ℕ). y ∷ octets_up (length xs) n) (first x (value xs) h.0) (others x (value xs) h.0)
     ∙ ap (λ (ys : List ℕ). x ∷ ys) (up xs h.1)
 
-down : (xs ys : List ℕ) → Small xs → octetsDown (length xs) (value xs) ys ≡ onto xs ys
-unfolding octetsDown
+down : (xs ys : List ℕ) → Small xs → octets_down (length xs) (value xs) ys ≡ onto xs ys
+unfolding octets_down
 down [] ys h = refl
 down (x ∷ xs) ys h =
-    ap₂ (λ (y n : ℕ). octetsDown (length xs) n (y ∷ ys)) (first x (value xs) h.0) (others x (value xs) h.0)
+    ap₂ (λ (y n : ℕ). octets_down (length xs) n (y ∷ ys)) (first x (value xs) h.0) (others x (value xs) h.0)
     ∙ down xs (x ∷ ys) h.1
 
 -- the k lowest octets of a number
@@ -51,27 +51,27 @@ some : (k : ℕ) → 0 < 256 ^ k
 some zero = omega arith
 some (suc k) = let more = some k in omega arith
 
-pub lows : (k w : ℕ) → octetsUp k (w % 256 ^ k) ≡ octetsUp k w
-unfolding octetsUp
+pub lows : (k w : ℕ) → octets_up k (w % 256 ^ k) ≡ octets_up k w
+unfolding octets_up
 lows zero w = refl
 lows (suc k) w =
     let low = w / 256 % 256 ^ k in
     let halves : w % (256 ^ k * 256) ≡ low * 256 + w % 256 = mod-mul w (some k) (omega arith) in
     let digits : w % (256 ^ k * 256) ≡ w % 256 + low * 256 = omega (arith, halves) in
-    ap (λ (m : ℕ). octetsUp (suc k) (w % m)) (pow-suc 256 k)
-    ∙ ap (octetsUp (suc k)) digits
-    ∙ ap₂ (λ (y n : ℕ). y ∷ octetsUp k n) (first (w % 256) low (omega arith)) (others (w % 256) low (omega arith))
+    ap (λ (m : ℕ). octets_up (suc k) (w % m)) (pow-suc 256 k)
+    ∙ ap (octets_up (suc k)) digits
+    ∙ ap₂ (λ (y n : ℕ). y ∷ octets_up k n) (first (w % 256) low (omega arith)) (others (w % 256) low (omega arith))
     ∙ ap (λ (ys : List ℕ). w % 256 ∷ ys) (lows k (w / 256))
 
-pub lowest : (k n w : ℕ) → k ≤ n → octetsUp k w ≡ take k (octetsUp n w)
-unfolding octetsUp
+pub lowest : (k n w : ℕ) → k ≤ n → octets_up k w ≡ take k (octets_up n w)
+unfolding octets_up
 lowest zero n w h = refl
 lowest (suc k) zero w h = absurd (omega arith)
 lowest (suc k) (suc n) w h = ap (λ (ys : List ℕ). w % 256 ∷ ys) (lowest k n (w / 256) (omega arith))
 
 -- and one more above them
-pub topped : (k w x : ℕ) → x < 256 → octetsUp (suc k) (w % 256 ^ k + x * 256 ^ k) ≡ octetsUp k w ++ x ∷ []
-unfolding octetsUp
+pub topped : (k w x : ℕ) → x < 256 → octets_up (suc k) (w % 256 ^ k + x * 256 ^ k) ≡ octets_up k w ++ x ∷ []
+unfolding octets_up
 topped zero w x h = let only : (w % 1 + x * 1) % 256 ≡ x = omega arith in ap (λ (n : ℕ). n ∷ []) only
 topped (suc k) w x h =
     let low = w / 256 % 256 ^ k in
@@ -79,18 +79,18 @@ topped (suc k) w x h =
     let halves : w % (256 ^ k * 256) ≡ low * 256 + w % 256 = mod-mul w (some k) (omega arith) in
     let above : x * (256 ^ k * 256) ≡ high * 256 = sym (mul_assoc x (256 ^ k) 256) in
     let digits : w % (256 ^ k * 256) + x * (256 ^ k * 256) ≡ w % 256 + (low + high) * 256 = omega (arith, halves, above) in
-    ap (λ (m : ℕ). octetsUp (suc (suc k)) (w % m + x * m)) (pow-suc 256 k)
-    ∙ ap (octetsUp (suc (suc k))) digits
-    ∙ ap₂ (λ (y n : ℕ). y ∷ octetsUp (suc k) n) (first (w % 256) (low + high) (omega arith)) (others (w % 256) (low + high) (omega arith))
+    ap (λ (m : ℕ). octets_up (suc (suc k)) (w % m + x * m)) (pow-suc 256 k)
+    ∙ ap (octets_up (suc (suc k))) digits
+    ∙ ap₂ (λ (y n : ℕ). y ∷ octets_up (suc k) n) (first (w % 256) (low + high) (omega arith)) (others (w % 256) (low + high) (omega arith))
     ∙ ap (λ (ys : List ℕ). w % 256 ∷ ys) (topped k (w / 256) x h)
 
 -- a zero below them
-pub below : (k n m : ℕ) → n ≡ m * 256 → octetsUp (suc k) n ≡ 0 ∷ octetsUp k m
-unfolding octetsUp
+pub below : (k n m : ℕ) → n ≡ m * 256 → octets_up (suc k) n ≡ 0 ∷ octets_up k m
+unfolding octets_up
 below k n m e =
     let low : n % 256 ≡ 0 = omega arith in
     let rest : n / 256 ≡ m = omega arith in
-    ap₂ (λ (x n : ℕ). x ∷ octetsUp k n) low rest
+    ap₂ (λ (x n : ℕ). x ∷ octets_up k n) low rest
 
 module _ (w a b c d e f g h : ℕ) (la : a < 256) (lb : b < 256) (lc : c < 256) (ld : d < 256) (le : e < 256) (lf : f < 256) (lg : g < 256)
     (lh : h < 256) (is : w ≡ eight a b c d e f g h) where
@@ -100,11 +100,11 @@ module _ (w a b c d e f g h : ℕ) (la : a < 256) (lb : b < 256) (lc : c < 256) 
   small : Small (a ∷ b ∷ c ∷ d ∷ e ∷ f ∷ g ∷ h ∷ [])
   small = (la, (lb, (lc, (ld, (le, (lf, (lg, (lh, tt))))))))
 
-  pub up-eight : octetsUp 8 w ≡ a ∷ b ∷ c ∷ d ∷ e ∷ f ∷ g ∷ h ∷ []
-  up-eight = ap (octetsUp 8) digits ∙ up (a ∷ b ∷ c ∷ d ∷ e ∷ f ∷ g ∷ h ∷ []) small
+  pub up_eight : octets_up 8 w ≡ a ∷ b ∷ c ∷ d ∷ e ∷ f ∷ g ∷ h ∷ []
+  up_eight = ap (octets_up 8) digits ∙ up (a ∷ b ∷ c ∷ d ∷ e ∷ f ∷ g ∷ h ∷ []) small
 
-  pub down-eight : octetsDown 8 w [] ≡ h ∷ g ∷ f ∷ e ∷ d ∷ c ∷ b ∷ a ∷ []
-  down-eight = ap (λ (n : ℕ). octetsDown 8 n []) digits ∙ down (a ∷ b ∷ c ∷ d ∷ e ∷ f ∷ g ∷ h ∷ []) [] small
+  pub down_eight : octets_down 8 w [] ≡ h ∷ g ∷ f ∷ e ∷ d ∷ c ∷ b ∷ a ∷ []
+  down_eight = ap (λ (n : ℕ). octets_down 8 n []) digits ∙ down (a ∷ b ∷ c ∷ d ∷ e ∷ f ∷ g ∷ h ∷ []) [] small
 
 -- ---- a list from some place on
 
@@ -123,6 +123,6 @@ from xs i (suc n) k h =
     one_more n xs (i + k) (i + suc k) (omega arith) (omega arith)
     ∙ ap (λ (ys : List ℕ). get_or xs (i + k) 0 ∷ ys) (from xs i n (suc k) (omega arith))
 
-pub eight-from : (xs : List ℕ) (i : ℕ) → i + 8 ≤ length xs → take 8 (drop i xs) ≡ get_or xs i 0 ∷ elements xs i 1 7
-eight-from xs i fits =
+pub eight_from : (xs : List ℕ) (i : ℕ) → i + 8 ≤ length xs → take 8 (drop i xs) ≡ get_or xs i 0 ∷ elements xs i 1 7
+eight_from xs i fits =
     one_more 7 xs i (i + 1) refl (omega arith) ∙ ap (λ (ys : List ℕ). get_or xs i 0 ∷ ys) (from xs i 7 1 (omega arith))

@@ -7,5 +7,5 @@ unfoldable pub double : ℕ → ℕ
 double zero = zero
 double (suc k) = suc (suc (double k))
 
-pub two-of : (word : ℕ) → word % 65536 ≡ word / 256 % 256 * 256 + word % 256
-two-of word = omega arith
+pub two_of : (word : ℕ) → word % 65536 ≡ word / 256 % 256 * 256 + word % 256
+two_of word = omega arith

@@ -7,9 +7,9 @@ use native.Mathlib.Numerals.{add-one}
 use lib.ListN.{length, set}
 use lib.Seq.{sets}
 
-pub sets-append : (l : List ℕ) (i : ℕ) (us vs : List ℕ) → sets l i (us ++ vs) ≡ sets (sets l i us) (i + length us) vs
-sets-append l i [] vs = rw add-zero
-sets-append l i (u ∷ us) vs = sets-append (set l i u) (suc i) us vs ∙ rw (suc-add, add-suc)
+pub sets_append : (l : List ℕ) (i : ℕ) (us vs : List ℕ) → sets l i (us ++ vs) ≡ sets (sets l i us) (i + length us) vs
+sets_append l i [] vs = rw add-zero
+sets_append l i (u ∷ us) vs = sets_append (set l i u) (suc i) us vs ∙ rw (suc-add, add-suc)
 
 -- stored by code that counts from a place, so far behind it
 abbrev pub stores : List ℕ → ℕ → ℕ → List ℕ → List ℕ

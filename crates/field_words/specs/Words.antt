@@ -2,22 +2,22 @@
 use Rattle.std.specs.Prelude.{List, [], ◌∷◌, ℕ, zero, suc, ◌+◌, ◌*◌, ◌/◌, ◌%◌, ◌<◌, get_or}
 
 -- the n lowest octets of a number, least significant first
-unfoldable pub octetsUp : ℕ → ℕ → List ℕ
-octetsUp zero number = []
-octetsUp (suc n) number = number % 256 ∷ octetsUp n (number / 256)
+unfoldable pub octets_up : ℕ → ℕ → List ℕ
+octets_up zero number = []
+octets_up (suc n) number = number % 256 ∷ octets_up n (number / 256)
 
 -- the n lowest octets of a number, most significant first, before others
-unfoldable pub octetsDown : ℕ → ℕ → List ℕ → List ℕ
-octetsDown zero number others = others
-octetsDown (suc n) number others = octetsDown n (number / 256) (number % 256 ∷ others)
+unfoldable pub octets_down : ℕ → ℕ → List ℕ → List ℕ
+octets_down zero number others = others
+octets_down (suc n) number others = octets_down n (number / 256) (number % 256 ∷ others)
 
 -- eight digits to the base 256, the first least significant
 abbrev pub eight : ℕ → ℕ → ℕ → ℕ → ℕ → ℕ → ℕ → ℕ → ℕ
 eight a b c d e f g h =
     a + (b * 256 + (c * 65536 + (d * 16777216 + (e * 4294967296 + (f * 1099511627776 + (g * 281474976710656 + h * 72057594037927936))))))
 
-abbrev pub eightAt : List ℕ → ℕ → ℕ
-eightAt xs at =
+abbrev pub eight_at : List ℕ → ℕ → ℕ
+eight_at xs at =
     eight (get_or xs at 0) (get_or xs (at + 1) 0) (get_or xs (at + 2) 0) (get_or xs (at + 3) 0) (get_or xs (at + 4) 0) (get_or xs (at + 5) 0)
     (get_or xs (at + 6) 0) (get_or xs (at + 7) 0)
 

@@ -3,7 +3,7 @@ pub mod copies;
 
 ghost use Rattle.std.specs.Prelude.{◌≡◌, [], ◌∷◌, ◌+◌, ◌<◌, ◌≤◌, length, get_or, take, drop};
 ghost use Rattle.std.proofs.lemmas.List.Edits.{sets};
-ghost use Rattle.field_words.specs.Words.{octetsUp, octetsDown, eightAt, Eight};
+ghost use Rattle.field_words.specs.Words.{octets_up, octets_down, eight_at, Eight};
 
 fn octet(octets: &[u8], at: usize) -> u8
     requires { at < length octets.now }
@@ -21,7 +21,7 @@ fn wide(octets: &[u8], at: usize) -> u64
 
 fn sum(octets: &[u8], at: usize) -> u64
     requires { at + 8 ≤ length octets.now }
-    ensures { (result ≡ eightAt octets.now at) × Eight octets.now at }
+    ensures { (result ≡ eight_at octets.now at) × Eight octets.now at }
 {
     wide(octets, at)
         + (wide(octets, at + 1) * 256
@@ -36,14 +36,14 @@ fn sum(octets: &[u8], at: usize) -> u64
 // Least significant octet first.
 pub fn little_64(octets: &[u8], at: usize) -> u64
     requires { at + 8 ≤ length octets.now }
-    ensures { octetsUp 8 result ≡ take 8 (drop at octets.now) }
+    ensures { octets_up 8 result ≡ take 8 (drop at octets.now) }
 {
     sum(octets, at)
 }
 
 // Eight octets, the first least significant.
 pub fn word_of(a: u8, b: u8, c: u8, d: u8, e: u8, f: u8, g: u8, h: u8) -> u64
-    ensures { octetsUp 8 result ≡ a ∷ b ∷ c ∷ d ∷ e ∷ f ∷ g ∷ h ∷ [] }
+    ensures { octets_up 8 result ≡ a ∷ b ∷ c ∷ d ∷ e ∷ f ∷ g ∷ h ∷ [] }
 {
     a as u64
         + (b as u64 * 256
@@ -56,7 +56,7 @@ pub fn word_of(a: u8, b: u8, c: u8, d: u8, e: u8, f: u8, g: u8, h: u8) -> u64
 
 // The octets of a number turned round.
 pub fn turned(word: u64) -> u64
-    ensures { octetsDown 8 result [] ≡ octetsUp 8 word }
+    ensures { octets_down 8 result [] ≡ octets_up 8 word }
 {
     let from_1 = word / 256;
     let from_2 = from_1 / 256;
@@ -77,7 +77,7 @@ pub fn turned(word: u64) -> u64
 // Most significant octet first.
 pub fn big_64(octets: &[u8], at: usize) -> u64
     requires { at + 8 ≤ length octets.now }
-    ensures { octetsDown 8 result [] ≡ take 8 (drop at octets.now) }
+    ensures { octets_down 8 result [] ≡ take 8 (drop at octets.now) }
 {
     turned(little_64(octets, at))
 }
@@ -85,7 +85,7 @@ pub fn big_64(octets: &[u8], at: usize) -> u64
 // Puts eight octets at a place of output, the least significant first: compiled, one store.
 pub fn put_64(output: &mut [u8], at: usize, word: u64)
     requires { at + 8 ≤ length output.old }
-    ensures { output.new ≡ sets output.old at (octetsUp 8 word) }
+    ensures { output.new ≡ sets output.old at (octets_up 8 word) }
 {
     let from_1 = word / 256;
     let from_2 = from_1 / 256;

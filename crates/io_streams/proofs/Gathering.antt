@@ -5,9 +5,9 @@ use lib.Seq.{paste}
 use Rattle.io_streams.specs.Gathering.{GathersLine}
 
 module _ (before : List ℕ) (waiting : ℕ) (line : List ℕ) (within : waiting ≤ length before) {after : List ℕ} where
-  pub fits-behind : length line ≤ length before - waiting → after ≡ paste before waiting line (length line)
+  pub fits_behind : length line ≤ length before - waiting → after ≡ paste before waiting line (length line)
       → GathersLine before waiting line (waiting + length line) 0 after
-  fits-behind h e =
+  fits_behind h e =
       let none : waiting ≡ waiting - 0 = omega arith in
       record {
         fits = λ f. refl;
@@ -28,8 +28,8 @@ module _ (before : List ℕ) (waiting : ℕ) (line : List ℕ) (within : waiting
       }
 
 -- the first octets of a list are those of all that it has
-pub take-clipped : (l : List ℕ) (n : ℕ) → take (min n (length l)) l ≡ take n l
-take-clipped l n = go (leb (length l) n) refl
+pub take_clipped : (l : List ℕ) (n : ℕ) → take (min n (length l)) l ≡ take n l
+take_clipped l n = go (leb (length l) n) refl
   where
     go : (b : Bool) → leb (length l) n ≡ b → take (min n (length l)) l ≡ take n l
     go true e =
@@ -42,17 +42,17 @@ take-clipped l n = go (leb (length l) n) refl
         ap (λ (k : ℕ). take k l) same
 
 -- a line of n octets more, whether it waits or those before it went out: what went out and what waits make up the same
-pub makes-up : (written waiting n out next : ℕ) → out + next ≡ waiting + n
+pub makes_up : (written waiting n out next : ℕ) → out + next ≡ waiting + n
     → ((written + out) % 2 ^ 64 + next) % 2 ^ 64 ≡ ((written + waiting) % 2 ^ 64 + n) % 2 ^ 64
-makes-up written waiting n out next e =
+makes_up written waiting n out next e =
     let same : written + out + next ≡ written + waiting + n = omega arith in
     mod-add-mod (written + out) (2 ^ 64) next
     ∙ ap (λ (k : ℕ). k % 2 ^ 64) same
     ∙ sym (mod-add-mod (written + waiting) (2 ^ 64) n)
 
-waits-within : {before : List ℕ} {waiting : ℕ} {line : List ℕ} {next out : ℕ} {after : List ℕ} → GathersLine before waiting line next out after
+waits_within : {before : List ℕ} {waiting : ℕ} {line : List ℕ} {next out : ℕ} {after : List ℕ} → GathersLine before waiting line next out after
     → length line ≤ length before → next ≤ length before
-waits-within {before} {waiting} {line} {next} g h = go (leb (waiting + length line) (length before)) refl
+waits_within {before} {waiting} {line} {next} g h = go (leb (waiting + length line) (length before)) refl
   where
     go : (b : Bool) → leb (waiting + length line) (length before) ≡ b → next ≤ length before
     go true e =
@@ -63,9 +63,9 @@ waits-within {before} {waiting} {line} {next} g h = go (leb (waiting + length li
         omega (arith, g.full f, g.ends)
 
 -- a line of n octets, behind others within the buffer
-pub gathered-line : {before : List ℕ} (text : List ℕ) (waiting n : ℕ) {next out : ℕ} {after : List ℕ}
+pub gathered_line : {before : List ℕ} (text : List ℕ) (waiting n : ℕ) {next out : ℕ} {after : List ℕ}
     → GathersLine before (min waiting (length before)) (take (min n (length before)) text) next out after
     → waiting ≤ length before → n ≤ length before → n ≤ length text → (next ≤ length before) × (out + next ≡ waiting + n)
-gathered-line {before} text waiting n g w b t =
+gathered_line {before} text waiting n g w b t =
     let long : length (take (min n (length before)) text) ≡ n = simp length-take (omega arith) in
-    (waits-within g (omega (arith, long)), omega (arith, g.ends, long))
+    (waits_within g (omega (arith, long)), omega (arith, g.ends, long))

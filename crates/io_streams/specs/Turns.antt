@@ -36,10 +36,10 @@ BlockTurns More left block held t = ReadsBlock t.input left block held t
 BlockTurns Ended left block held t = t ≡ over Ended
 BlockTurns Failed left block held t = t ≡ over Failed
 
-abbrev pub hasEnded : Input → Bool
-hasEnded More = false
-hasEnded Ended = true
-hasEnded Failed = false
+abbrev pub has_ended : Input → Bool
+has_ended More = false
+has_ended Ended = true
+has_ended Failed = false
 
 -- what is claimed of a run that no read and no write has failed
 abbrev pub UnlessFailed : Input → Type 0 → Type 0

@@ -6,7 +6,7 @@
 ghost use Rattle.std.specs.Prelude.{◌≡◌, ◌+◌, ◌%◌, ◌^◌, ◌<◌, ◌≤◌, min, length, take};
 ghost use Rattle.io_streams.specs.Blocks.{Zeroed, WithinBlock, WrittenIfEmpty, WritesFirst};
 ghost use Rattle.io_streams.specs.Gathering.{Gathers, WritesWaiting};
-ghost use Rattle.io_streams.specs.Turns.{Behind, KeepsHeld, over, hasEnded, AtEnd, ReadsBlock, BlockTurns};
+ghost use Rattle.io_streams.specs.Turns.{Behind, KeepsHeld, over, has_ended, AtEnd, ReadsBlock, BlockTurns};
 
 use libc::{STDIN_FILENO, STDOUT_FILENO};
 
@@ -128,7 +128,7 @@ pub fn next_turn(input: Input, block: &mut [u8], held: usize, left: u64) -> Turn
 }
 
 pub fn has_ended(input: Input) -> bool
-    ensures { result ≡ hasEnded input }
+    ensures { result ≡ has_ended input }
 {
     match input {
         Input::More => false,

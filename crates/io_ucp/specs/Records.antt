@@ -3,7 +3,7 @@ use Rattle.std.specs.Prelude.{◌≡◌, Bool, true, false, List, ℕ, ◌%◌, 
 use Rattle.ucp_receiver.specs.declared.Counts.{Counts}
 use Rattle.ucp_receiver.specs.declared.Record.{Record}
 use Rattle.ucp_receiver.specs.Octet.{State, state_of}
-use Rattle.text_ucp_listing.specs.Lists.{RecordBehind, behindAll, PutsClosing}
+use Rattle.text_ucp_listing.specs.Lists.{RecordBehind, behind_all, PutsClosing}
 use Rattle.io_streams.specs.Blocks.{WrittenIfEmpty}
 use Rattle.io_streams.specs.Turns.{BlockTurns}
 use Rattle.io_streams.specs.declared.Input.{Input}
@@ -19,7 +19,7 @@ use Rattle.io_ucp.specs.declared.Run.{Run}
 pub record BehindSome (s : State) (c : Counts) (b : RecordBehind) (block : List ℕ) : Type 0 where
   pub taken : ℕ
   pub within : taken ≤ length block
-  pub leads : b ≡ behindAll s c (drop taken block)
+  pub leads : b ≡ behind_all s c (drop taken block)
 
 -- the input goes on: the record is the one behind the whole block. It does not end in a block. Where a write failed, behind some of it
 abbrev pub Leaves : Input → State → Counts → RecordBehind → List ℕ → Type 0
@@ -43,9 +43,9 @@ Ends Failed counts before written after = (written ≡ false) × (after ≡ befo
 -- ---- what goes out
 
 -- a block is done where all of its text went out
-abbrev pub blockDone : Record → Output → BlockDone
-blockDone receiver (Wrote n) = record { progress = record { receiver = receiver; input = More }; written = n }
-blockDone receiver WriteFailed = record { progress = record { receiver = receiver; input = Failed }; written = 0 }
+abbrev pub block_done : Record → Output → BlockDone
+block_done receiver (Wrote n) = record { progress = record { receiver = receiver; input = More }; written = n }
+block_done receiver WriteFailed = record { progress = record { receiver = receiver; input = Failed }; written = 0 }
 
 -- the input goes on: as many octets went out as these lines have, modulo 2^64. A write fails only where there are lines to write
 abbrev pub WritesLines : Input → ℕ → List ℕ → Type 0
@@ -67,9 +67,9 @@ LinesOf = State → Counts → List ℕ → List ℕ
 
 -- a turn, whole: its octets of the block are worked on from the record and the store as they were, and the turn that follows is by
 -- what that came to
-pub record WorksTurn (every : LinesOf) (receiver : Record) (store block : List ℕ) (turn : Turn) (given : TurnDone) (storeAfter : List ℕ) : Type 0 where
+pub record WorksTurn (every : LinesOf) (receiver : Record) (store block : List ℕ) (turn : Turn) (given : TurnDone) (store_after : List ℕ) : Type 0 where
   pub input : Input
-  pub leaves : Leaves input (state_of given.receiver.rest storeAfter) given.receiver.counts (behindAll (state_of receiver.rest store) receiver.counts (take turn.octets block)) (take turn.octets block)
+  pub leaves : Leaves input (state_of given.receiver.rest store_after) given.receiver.counts (behind_all (state_of receiver.rest store) receiver.counts (take turn.octets block)) (take turn.octets block)
   pub writes : WritesLines input given.written (every (state_of receiver.rest store) receiver.counts (take turn.octets block))
   pub follows : BlockTurns input turn.left (length block) 0 given.turn
 
@@ -81,7 +81,7 @@ pub record Passed (every : LinesOf) (s : State) (c : Counts) (octets written : �
   pub line : List ℕ
   pub long : octets ≡ length line % 2 ^ 64
   pub texts : written ≡ length (every s c line) % 2 ^ 64
-  pub ends : b ≡ behindAll s c line
+  pub ends : b ≡ behind_all s c line
 
 -- and the closing line in the text is of the record behind all of it
 pub record RunsWhole (every : LinesOf) (s : State) (c : Counts) (given : Run) (after : List ℕ) : Type 0 where

@@ -2,7 +2,7 @@
 // closing line, and clearing what was lent.
 ghost use Rattle.std.specs.Prelude.{◌≡◌, length};
 ghost use Rattle.io_streams.specs.Blocks.{Zeroed};
-ghost use Rattle.io_ucp.specs.Records.{Closed, Ends, blockDone, Follows};
+ghost use Rattle.io_ucp.specs.Records.{Closed, Ends, block_done, Follows};
 
 use io_streams::{Input, Output, Turn};
 use ucp_frame::BodyRoom;
@@ -24,7 +24,7 @@ pub struct BlockDone {
 
 // A block is done where all of its text went out.
 pub fn block_done(receiver: Record, output: Output) -> BlockDone
-    ensures { result ≡ blockDone receiver output }
+    ensures { result ≡ block_done receiver output }
 {
     match output {
         Output::Wrote(n) => BlockDone {

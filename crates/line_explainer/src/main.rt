@@ -8,11 +8,11 @@
 // Where a read or a write fails the line lister's rules hold: what was explained has been written out, the failure is said on
 // standard error, and no closing line follows.
 ghost use Rattle.std.specs.Prelude.{◌≤◌, length};
-ghost use Rattle.text_output.specs.Clips.{textRoom};
-ghost use Rattle.ucp_receiver.specs.Account.{zeroCounts};
-ghost use Rattle.ucp_receiver.specs.Octet.{state_of, freshRest};
-ghost use Rattle.text_ucp_listing.specs.Lists.{behindAll};
-ghost use Rattle.text_ucp_explanation.specs.Explanation.{everyExplanation};
+ghost use Rattle.text_output.specs.Clips.{text_room};
+ghost use Rattle.ucp_receiver.specs.Account.{zero_counts};
+ghost use Rattle.ucp_receiver.specs.Octet.{state_of, fresh_rest};
+ghost use Rattle.text_ucp_listing.specs.Lists.{behind_all};
+ghost use Rattle.text_ucp_explanation.specs.Explanation.{every_explanation};
 ghost use Rattle.io_ucp.specs.Records.{Leaves, WritesLines, WorksTurn, RunsLine};
 ghost use Rattle.io_streams.specs.Blocks.{Zeroed};
 
@@ -31,9 +31,9 @@ fn explain_block(
     text: &mut TextRoom,
     buffer: &mut [u8],
 ) -> BlockDone
-    requires { textRoom ≤ length buffer.old }
-    ensures leaves { Leaves result.progress.input (state_of result.progress.receiver.rest store.new) result.progress.receiver.counts (behindAll (state_of receiver.rest store.old) receiver.counts block.now) block.now }
-    ensures writes_lines { WritesLines result.progress.input result.written (everyExplanation (state_of receiver.rest store.old) receiver.counts block.now) }
+    requires { text_room ≤ length buffer.old }
+    ensures leaves { Leaves result.progress.input (state_of result.progress.receiver.rest store.new) result.progress.receiver.counts (behind_all (state_of receiver.rest store.old) receiver.counts block.now) block.now }
+    ensures writes_lines { WritesLines result.progress.input result.written (every_explanation (state_of receiver.rest store.old) receiver.counts block.now) }
 {
     let mut receiver = receiver;
     let mut taken = 0;
@@ -70,8 +70,8 @@ fn explain_turn(
     buffer: &mut [u8],
     turn: Turn,
 ) -> TurnDone
-    requires { (textRoom ≤ length buffer.old) × (turn.octets ≤ length block.old) }
-    ensures { WorksTurn everyExplanation receiver store.old block.old turn result store.new }
+    requires { (text_room ≤ length buffer.old) × (turn.octets ≤ length block.old) }
+    ensures { WorksTurn every_explanation receiver store.old block.old turn result store.new }
 {
     let end = turn.octets;
     let done = explain_block(receiver, store, room, &block[..end], text, buffer);
@@ -86,8 +86,8 @@ fn explain_input(
     text: &mut TextRoom,
     buffer: &mut [u8],
 ) -> Run
-    requires { textRoom ≤ length buffer.old }
-    ensures { RunsLine everyExplanation (state_of freshRest store.old) zeroCounts result text.new }
+    requires { text_room ≤ length buffer.old }
+    ensures { RunsLine every_explanation (state_of fresh_rest store.old) zero_counts result text.new }
 {
     let mut receiver = ucp_receiver::octet::fresh_record();
     let mut turn = io_streams::first_turn(block);

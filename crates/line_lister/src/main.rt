@@ -9,10 +9,10 @@
 // closing line follows: one stands only behind an input that was read to its end. Where a write fails the failure is said and
 // nothing more is written. A pipe that is closed behind the program ends it by a signal, and nothing is said.
 ghost use Rattle.std.specs.Prelude.{◌≤◌, length};
-ghost use Rattle.text_ucp_listing.specs.Listing.{longestLine};
-ghost use Rattle.ucp_receiver.specs.Account.{zeroCounts};
-ghost use Rattle.ucp_receiver.specs.Octet.{state_of, freshRest};
-ghost use Rattle.text_ucp_listing.specs.Lists.{behindAll, everyLine};
+ghost use Rattle.text_ucp_listing.specs.Listing.{longest_line};
+ghost use Rattle.ucp_receiver.specs.Account.{zero_counts};
+ghost use Rattle.ucp_receiver.specs.Octet.{state_of, fresh_rest};
+ghost use Rattle.text_ucp_listing.specs.Lists.{behind_all, every_line};
 ghost use Rattle.io_ucp.specs.Records.{Leaves, WritesLines, WorksTurn, RunsLine};
 
 use io_streams::{Output, Turn};
@@ -28,9 +28,9 @@ fn list_block(
     block: &[u8],
     text: &mut [u8],
 ) -> BlockDone
-    requires { longestLine ≤ length text.old }
-    ensures leaves { Leaves result.progress.input (state_of result.progress.receiver.rest store.new) result.progress.receiver.counts (behindAll (state_of receiver.rest store.old) receiver.counts block.now) block.now }
-    ensures writes_lines { WritesLines result.progress.input result.written (everyLine (state_of receiver.rest store.old) receiver.counts block.now) }
+    requires { longest_line ≤ length text.old }
+    ensures leaves { Leaves result.progress.input (state_of result.progress.receiver.rest store.new) result.progress.receiver.counts (behind_all (state_of receiver.rest store.old) receiver.counts block.now) block.now }
+    ensures writes_lines { WritesLines result.progress.input result.written (every_line (state_of receiver.rest store.old) receiver.counts block.now) }
 {
     let mut receiver = receiver;
     let mut taken = 0;
@@ -61,8 +61,8 @@ fn list_turn(
     text: &mut [u8],
     turn: Turn,
 ) -> TurnDone
-    requires { (longestLine ≤ length text.old) × (turn.octets ≤ length block.old) }
-    ensures { WorksTurn everyLine receiver store.old block.old turn result store.new }
+    requires { (longest_line ≤ length text.old) × (turn.octets ≤ length block.old) }
+    ensures { WorksTurn every_line receiver store.old block.old turn result store.new }
 {
     let end = turn.octets;
     let done = list_block(receiver, store, room, &block[..end], text);
@@ -71,8 +71,8 @@ fn list_turn(
 
 // Lists all of the input, turn by turn from a fresh record.
 fn list_input(store: &mut Store, room: &mut BodyRoom, block: &mut [u8], text: &mut [u8]) -> Run
-    requires { longestLine ≤ length text.old }
-    ensures { RunsLine everyLine (state_of freshRest store.old) zeroCounts result text.new }
+    requires { longest_line ≤ length text.old }
+    ensures { RunsLine every_line (state_of fresh_rest store.old) zero_counts result text.new }
 {
     let mut receiver = ucp_receiver::octet::fresh_record();
     let mut turn = io_streams::first_turn(block);

@@ -5,17 +5,17 @@ use Rattle.io_streams.specs.declared.Input.TheVariants.{More, Ended, Failed}
 use Rattle.io_streams.specs.declared.Output.{Output}
 use Rattle.io_streams.specs.declared.Output.TheVariants.{Wrote, Failed as WriteFailed}
 use Rattle.io_streams.specs.declared.Turn.{Turn}
-use Rattle.io_streams.specs.Turns.{ReadsBlock, BlockTurns, hasEnded, UnlessFailed}
+use Rattle.io_streams.specs.Turns.{ReadsBlock, BlockTurns, has_ended, UnlessFailed}
 use Rattle.mavlink_explainer.specs.declared.Progress.{Progress}
 use Rattle.mavlink_explainer.specs.declared.TurnDone.{TurnDone}
-use Rattle.mavlink_messages.specs.Messages.{readDue}
-use Rattle.text_mavlink_explanation.specs.Explanation.{frameLine, usedBy, is_refused, framesLine}
+use Rattle.mavlink_messages.specs.Messages.{read_due}
+use Rattle.text_mavlink_explanation.specs.Explanation.{frame_line, used_by, is_refused, frames_line}
 use Rattle.text_mavlink_explanation.specs.Calls.{WholeLine}
-use Rattle.text_mavlink_explanation.specs.Decided.{frameRoom}
+use Rattle.text_mavlink_explanation.specs.Decided.{frame_room}
 
 -- where the input goes on, fewer octets are carried over than decide a frame
 abbrev pub Carries : Input → ℕ → Type 0
-Carries More left = left < frameRoom
+Carries More left = left < frame_room
 Carries Ended left = Unit {0}
 Carries Failed left = Unit {0}
 
@@ -30,10 +30,10 @@ pub record FramesLeave (input : Input) (left block : ℕ) : Type 0 where
 -- left behind them, whether what stands there is refused, and the lines of all
 pub data Walks : ℕ → List ℕ → ℕ → ℕ → Bool → List ℕ → Type 0 where
   few : {least : ℕ} {s : List ℕ} {left : ℕ} → left ≡ length s → left < least → Walks least s 0 left false []
-  stops : {least : ℕ} {s : List ℕ} {left : ℕ} → left ≡ length s → least ≤ left → is_refused (readDue s) ≡ true
-      → Walks least s 0 left true (frameLine (readDue s))
-  onward : {least : ℕ} {s : List ℕ} {n left : ℕ} {refused : Bool} {lines : List ℕ} → least ≤ length s → is_refused (readDue s) ≡ false
-      → Walks least (drop (usedBy (readDue s)) s) n left refused lines → Walks least s (n + 1) left refused (frameLine (readDue s) ++ lines)
+  stops : {least : ℕ} {s : List ℕ} {left : ℕ} → left ≡ length s → least ≤ left → is_refused (read_due s) ≡ true
+      → Walks least s 0 left true (frame_line (read_due s))
+  onward : {least : ℕ} {s : List ℕ} {n left : ℕ} {refused : Bool} {lines : List ℕ} → least ≤ length s → is_refused (read_due s) ≡ false
+      → Walks least (drop (used_by (read_due s)) s) n left refused lines → Walks least s (n + 1) left refused (frame_line (read_due s) ++ lines)
 
 -- so many frames more, of so many octets, and so many octets of text; the counts run round
 abbrev pub explains : ℕ → ℕ → ℕ → ℕ → ℕ → Input → ℕ → Progress
@@ -45,21 +45,21 @@ abbrev pub input_of : Output → Input → Input
 input_of (Wrote n) input = input
 input_of WriteFailed input = Failed
 
-abbrev pub octetsOut : Output → ℕ
-octetsOut (Wrote n) = n
-octetsOut WriteFailed = 0
+abbrev pub octets_out : Output → ℕ
+octets_out (Wrote n) = n
+octets_out WriteFailed = 0
 
 -- a refused frame ends the input, and so does its end
-abbrev pub inputAfter : Bool → Bool → Input
-inputAfter last refused = cond refused Ended (cond last Ended More)
+abbrev pub input_after : Bool → Bool → Input
+input_after last refused = cond refused Ended (cond last Ended More)
 
 -- what the frames of a block leave, where all of their lines were written: as many octets went out as these have
 pub record Explored (last : Bool) (block : List ℕ) (frames bytes : ℕ) (given : Progress) : Type 0 where
   pub count : ℕ
   pub refused : Bool
   pub lines : List ℕ
-  pub walks : Walks (cond last 1 frameRoom) block count given.left refused lines
-  pub counts : given ≡ explains frames bytes count (length block - given.left) given.left (inputAfter last refused) (length lines % 2 ^ 64)
+  pub walks : Walks (cond last 1 frame_room) block count given.left refused lines
+  pub counts : given ≡ explains frames bytes count (length block - given.left) given.left (input_after last refused) (length lines % 2 ^ 64)
 
 pub record Explores (last : Bool) (block : List ℕ) (frames bytes : ℕ) (given : Progress) : Type 0 where
   pub leaves : FramesLeave given.input given.left (length block)
@@ -70,7 +70,7 @@ pub record Explores (last : Bool) (block : List ℕ) (frames bytes : ℕ) (given
 -- the frames in a turn's octets of the block are explained; the octets behind them stand at the block's start then, and the turn that
 -- follows reads on behind these, by what the block came to
 pub record WorksFrames (frames bytes : ℕ) (before : List ℕ) (turn : Turn) (given : TurnDone) (after : List ℕ) : Type 0 where
-  pub explores : Explores (hasEnded turn.input) (take turn.octets before) frames bytes given.progress
+  pub explores : Explores (has_ended turn.input) (take turn.octets before) frames bytes given.progress
   pub carried : take given.progress.left after ≡ drop (turn.octets - given.progress.left) (take turn.octets before)
   pub follows : BlockTurns given.progress.input turn.left (length before) given.progress.left given.turn
 
@@ -79,7 +79,7 @@ pub record WorksFrames (frames bytes : ℕ) (before : List ℕ) (turn : Turn) (g
 -- the closing line stands at the start of the text
 pub record FramesClosed (frames bytes : ℕ) (before after : List ℕ) : Type 0 where
   pub written : ℕ
-  pub line : WholeLine before (framesLine frames bytes) written after
+  pub line : WholeLine before (frames_line frames bytes) written after
 
 -- ---- a run
 
@@ -99,5 +99,5 @@ pub record RunsFrames (whole : Bool) (after : List ℕ) : Type 0 where
   pub before : List ℕ
   pub runs : FramesRun frames bytes block turn
   pub none : turn.left ≡ 0
-  pub closes : hasEnded turn.input ≡ true → FramesClosed frames bytes before after
-  pub unfinished : hasEnded turn.input ≡ false → whole ≡ false
+  pub closes : has_ended turn.input ≡ true → FramesClosed frames bytes before after
+  pub unfinished : has_ended turn.input ≡ false → whole ≡ false

@@ -12,9 +12,9 @@ ghost use Rattle.std.specs.Prelude.{◌≡◌, ◌-◌, ◌≤◌, length, drop,
 ghost use Rattle.std.proofs.Math.Seq.{paste};
 ghost use Rattle.io_streams.specs.declared.Input.TheVariants.{More, Ended, Failed};
 ghost use Rattle.io_streams.specs.Blocks.{Zeroed};
-ghost use Rattle.text_output.specs.Clips.{textRoom};
-ghost use Rattle.text_mavlink_explanation.specs.Decided.{frameRoom};
-ghost use Rattle.mavlink_explainer.specs.Blocks.{input_of, octetsOut, explains, Explores, WorksFrames, FramesClosed, RunsFrames};
+ghost use Rattle.text_output.specs.Clips.{text_room};
+ghost use Rattle.text_mavlink_explanation.specs.Decided.{frame_room};
+ghost use Rattle.mavlink_explainer.specs.Blocks.{input_of, octets_out, explains, Explores, WorksFrames, FramesClosed, RunsFrames};
 
 use io_streams::{Gathered, Input, Output, Turn};
 use text_output::TextRoom;
@@ -33,7 +33,7 @@ struct Progress {
 
 // How many octets decide a frame: 50 do, and all that there are where the input has ended.
 fn least_octets(last: bool) -> usize
-    ensures { result ≡ (if last then 1 else frameRoom) }
+    ensures { result ≡ (if last then 1 else frame_room) }
 {
     if last {
         return 1;
@@ -60,7 +60,7 @@ fn progressed(
     input: Input,
     output: Output,
 ) -> Progress
-    ensures { result ≡ explains frames bytes count used left (input_of output input) (octetsOut output) }
+    ensures { result ≡ explains frames bytes count used left (input_of output input) (octets_out output) }
 {
     let frames = std::num::wrapping_add_u64(frames, count as u64);
     let bytes = std::num::wrapping_add_u64(bytes, used as u64);
@@ -100,7 +100,7 @@ fn explain_block(
     text: &mut TextRoom,
     buffer: &mut [u8],
 ) -> Progress
-    requires { textRoom ≤ length buffer.old }
+    requires { text_room ≤ length buffer.old }
     ensures { Explores last block.now frames bytes result }
 {
     let mut count = 0;
@@ -166,7 +166,7 @@ fn explain_turn(
     buffer: &mut [u8],
     turn: Turn,
 ) -> TurnDone
-    requires { (textRoom ≤ length buffer.old) × (turn.octets ≤ length block.old) }
+    requires { (text_room ≤ length buffer.old) × (turn.octets ≤ length block.old) }
     ensures { WorksFrames frames bytes block.old turn result block.new }
 {
     let end = turn.octets;
@@ -185,7 +185,7 @@ fn explain_turn(
 
 // Explains all of the input, and answers whether it came to its end or to a refused frame, and all was written.
 fn explain_input(block: &mut [u8], text: &mut TextRoom, buffer: &mut [u8]) -> bool
-    requires { textRoom ≤ length buffer.old }
+    requires { text_room ≤ length buffer.old }
     ensures { RunsFrames result text.new }
 {
     let mut frames: u64 = 0;

@@ -4,7 +4,7 @@ use Rattle.std.specs.Prelude.{cond, List, [], ◌∷◌, ◌++◌, ℕ, eqb}
 use Rattle.mavlink_frame.specs.declared.Kind.{Kind}
 use Rattle.mavlink_frame.specs.declared.Lookup.{Lookup}
 use Rattle.mavlink_frame.specs.declared.Lookup.TheVariants.{Known, Unknown}
-use Rattle.crc_x25.specs.Check.{x25Octets}
+use Rattle.crc_x25.specs.Check.{x25_octets}
 use Rattle.mavlink_frame.specs.declared.Header.{Header}
 
 abbrev pub kind : ℕ → ℕ → ℕ → Kind
@@ -19,30 +19,30 @@ pub data KindAnswer : Type 0 where
   unknown : KindAnswer
 
 -- the same of each case of the code's answer
-abbrev pub kindAnswer : Lookup → KindAnswer
-kindAnswer (Known k) = known k
-kindAnswer Unknown = unknown
+abbrev pub kind_answer : Lookup → KindAnswer
+kind_answer (Known k) = known k
+kind_answer Unknown = unknown
 
-abbrev pub kindAmong : List Kind → ℕ → KindAnswer
-kindAmong [] id = unknown
-kindAmong (k ∷ ks) id = cond (eqb id k.id) (known k) (kindAmong ks id)
+abbrev pub kind_among : List Kind → ℕ → KindAnswer
+kind_among [] id = unknown
+kind_among (k ∷ ks) id = cond (eqb id k.id) (known k) (kind_among ks id)
 
 -- the kind that has a message ID
-unfoldable pub mavlinkKind : ℕ → KindAnswer
-mavlinkKind id = kindAmong kinds id
+unfoldable pub mavlink_kind : ℕ → KindAnswer
+mavlink_kind id = kind_among kinds id
 
 -- the start octet
 abbrev pub start : ℕ
 start = 0xFE
 
 -- octets 0 to 5: start, length, sequence, system, component, message ID
-abbrev pub headerOctets : Kind → Header → List ℕ
-headerOctets k h = start ∷ k.length ∷ h.sequence ∷ h.system ∷ h.component ∷ k.id ∷ []
+abbrev pub header_octets : Kind → Header → List ℕ
+header_octets k h = start ∷ k.length ∷ h.sequence ∷ h.system ∷ h.component ∷ k.id ∷ []
 
 -- what the check is over: the octets from the length to the payload's last, and then the kind's extra
 abbrev pub covered : Kind → Header → List ℕ → List ℕ
 covered k h payload = k.length ∷ h.sequence ∷ h.system ∷ h.component ∷ k.id ∷ (payload ++ k.extra ∷ [])
 
 -- octets 6 to n + 5: the payload; n + 6 and n + 7: the check, low octet first
-unfoldable pub mavlinkFrame : Kind → Header → List ℕ → List ℕ
-mavlinkFrame k h payload = headerOctets k h ++ (payload ++ x25Octets (covered k h payload))
+unfoldable pub mavlink_frame : Kind → Header → List ℕ → List ℕ
+mavlink_frame k h payload = header_octets k h ++ (payload ++ x25_octets (covered k h payload))

@@ -7,7 +7,7 @@ use Rattle.mavlink_frame.specs.declared.Kind.{Kind}
 use Rattle.mavlink_frame.specs.declared.Header.{Header}
 use Rattle.mavlink_frame.specs.declared.Found.{Found}
 use Rattle.mavlink_frame.specs.declared.Found.TheVariants.{Frame, Refused}
-use Rattle.mavlink_frame.specs.Frame.{KindAnswer, known, unknown, mavlinkKind, start}
+use Rattle.mavlink_frame.specs.Frame.{KindAnswer, known, unknown, mavlink_kind, start}
 
 -- an answer in the paper's terms: a refusal's number, or a right frame's message ID, header and number of octets
 pub data FrameAnswer : Type 0 where
@@ -15,41 +15,41 @@ pub data FrameAnswer : Type 0 where
   frame : ℕ → Header → ℕ → FrameAnswer
 
 -- the paper's number and values of each case
-abbrev pub foundAnswer : Found → FrameAnswer
-foundAnswer (Refused number) = refused number
-foundAnswer (Frame id h used) = frame id h used
+abbrev pub found_answer : Found → FrameAnswer
+found_answer (Refused number) = refused number
+found_answer (Frame id h used) = frame id h used
 
 -- octets 2, 3 and 4
 abbrev pub header_at : List ℕ → Header
 header_at s = record { sequence = get_or s 2 0; system = get_or s 3 0; component = get_or s 4 0 }
 
 -- the payload of n octets, from 6 on
-abbrev pub payloadAt : ℕ → List ℕ → List ℕ
-payloadAt n s = take n (drop 6 s)
+abbrev pub payload_at : ℕ → List ℕ → List ℕ
+payload_at n s = take n (drop 6 s)
 
 -- the check at n + 6, low octet first, is that of the octets from 1 to n + 5 and then the extra
-abbrev pub checkAt : ℕ → List ℕ → ℕ
-checkAt n s = get_or s (n + 6) 0 + 256 * get_or s (n + 6 + 1) 0
+abbrev pub check_at : ℕ → List ℕ → ℕ
+check_at n s = get_or s (n + 6) 0 + 256 * get_or s (n + 6 + 1) 0
 
-abbrev pub checkDue : ℕ → ℕ → List ℕ → ℕ
-checkDue n extra s = x25 (take (n + 5) (drop 1 s) ++ extra ∷ [])
+abbrev pub check_due : ℕ → ℕ → List ℕ → ℕ
+check_due n extra s = x25 (take (n + 5) (drop 1 s) ++ extra ∷ [])
 
 -- the tests from 23 on
-unfoldable pub foundOf : Kind → List ℕ → FrameAnswer
-foundOf k s =
+unfoldable pub found_of : Kind → List ℕ → FrameAnswer
+found_of k s =
     cond (eqb (get_or s 1 0) k.length)
-    (cond (ltb (length s) (k.length + 8)) (refused because.mavlinkShort)
-    (cond (eqb (checkAt k.length s) (checkDue k.length k.extra s)) (frame k.id (header_at s) (k.length + 8))
-    (refused because.mavlinkWrongCheck)))
-    (refused because.mavlinkLength)
+    (cond (ltb (length s) (k.length + 8)) (refused because.mavlink_short)
+    (cond (eqb (check_at k.length s) (check_due k.length k.extra s)) (frame k.id (header_at s) (k.length + 8))
+    (refused because.mavlink_wrong_check)))
+    (refused because.mavlink_length)
 
-abbrev pub foundBy : KindAnswer → List ℕ → FrameAnswer
-foundBy (known k) s = foundOf k s
-foundBy unknown s = refused because.mavlinkUnknownId
+abbrev pub found_by : KindAnswer → List ℕ → FrameAnswer
+found_by (known k) s = found_of k s
+found_by unknown s = refused because.mavlink_unknown_id
 
 unfoldable pub found : List ℕ → FrameAnswer
 found s =
-    cond (eqb (length s) 0) (refused because.mavlinkShort)
+    cond (eqb (length s) 0) (refused because.mavlink_short)
     (cond (eqb (get_or s 0 0) start)
-    (cond (ltb (length s) 6) (refused because.mavlinkShort) (foundBy (mavlinkKind (get_or s 5 0)) s))
-    (refused because.mavlinkStart))
+    (cond (ltb (length s) 6) (refused because.mavlink_short) (found_by (mavlink_kind (get_or s 5 0)) s))
+    (refused because.mavlink_start))

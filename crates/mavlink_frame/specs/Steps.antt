@@ -2,7 +2,7 @@
 use Rattle.std.specs.Prelude.{List, [], ◌∷◌, ◌++◌, ℕ, ◌/◌, ◌%◌}
 use Rattle.mavlink_frame.specs.declared.Kind.{Kind}
 use Rattle.mavlink_frame.specs.declared.Header.{Header}
-use Rattle.mavlink_frame.specs.Frame.{headerOctets}
+use Rattle.mavlink_frame.specs.Frame.{header_octets}
 
 -- a check as it is sent
 abbrev pub low_first : ℕ → List ℕ
@@ -10,4 +10,4 @@ low_first check = check % 256 ∷ check / 256 ∷ []
 
 -- header, payload, and whatever check
 abbrev pub closed : Kind → Header → List ℕ → ℕ → List ℕ
-closed k h payload check = headerOctets k h ++ (payload ++ low_first check)
+closed k h payload check = header_octets k h ++ (payload ++ low_first check)

@@ -3,9 +3,9 @@ pub mod reader;
 pub mod writer;
 
 ghost use Rattle.std.specs.Prelude.{◌≡◌};
-ghost use Rattle.mavlink_frame.specs.Frame.{kindAnswer, mavlinkKind};
+ghost use Rattle.mavlink_frame.specs.Frame.{kind_answer, mavlink_kind};
 
-// What stands at the start of an input. `foundAnswer` of specs/Reader.antt gives the paper's number and values of each case.
+// What stands at the start of an input. `found_answer` of specs/Reader.antt gives the paper's number and values of each case.
 #[derive(Drop)]
 pub enum Found {
     // A frame with its check right: its message ID, its header, and how many octets it has. Its payload is from 6 on.
@@ -25,7 +25,7 @@ pub struct Kind {
     pub extra: u8,
 }
 
-// The kind of a message ID. `kindAnswer` of specs/Frame.antt says what each case means.
+// The kind of a message ID. `kind_answer` of specs/Frame.antt says what each case means.
 #[derive(Drop)]
 pub enum Lookup {
     Known(Kind),
@@ -76,7 +76,7 @@ const KINDS: [Kind; 5] = [DATA_STREAM, STATIC, DYNAMIC, STATUS, TRAFFIC];
 
 // The kind that has a message ID.
 pub fn kind_of(id: u8) -> Lookup
-    ensures { kindAnswer result ≡ mavlinkKind id }
+    ensures { kind_answer result ≡ mavlink_kind id }
 {
     let kinds = KINDS;
     let mut i = 0;

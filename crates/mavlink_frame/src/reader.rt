@@ -1,12 +1,12 @@
 // Reads a MAVLink version 1 frame.
 ghost use Rattle.std.specs.Prelude.{◌≡◌, ◌+◌, ◌*◌, ◌≤◌, length};
-ghost use Rattle.mavlink_frame.specs.Reader.{foundAnswer, found, foundOf, checkDue};
+ghost use Rattle.mavlink_frame.specs.Reader.{found_answer, found, found_of, check_due};
 
 use super::{Found, Header, Kind, Lookup};
 
 // Reads the frame at the start of input. Octets behind it are left.
 pub fn read_frame(input: &[u8]) -> Found
-    ensures { foundAnswer result ≡ found input.now }
+    ensures { found_answer result ≡ found input.now }
 {
     let n = input.len();
     if n == 0 {
@@ -28,7 +28,7 @@ pub fn read_frame(input: &[u8]) -> Found
 // Reads a frame of a kind, of which six octets are there.
 fn read_kind(kind: Kind, input: &[u8]) -> Found
     requires { 6 ≤ length input.now }
-    ensures { foundAnswer result ≡ foundOf kind input.now }
+    ensures { found_answer result ≡ found_of kind input.now }
 {
     let length = input[1];
     if length != kind.length {
@@ -54,7 +54,7 @@ fn read_kind(kind: Kind, input: &[u8]) -> Found
 // The check that a frame of a kind should carry.
 pub fn check_due(kind: Kind, input: &[u8]) -> u16
     requires { kind.length + 8 ≤ length input.now }
-    ensures { result ≡ checkDue kind.length kind.extra input.now }
+    ensures { result ≡ check_due kind.length kind.extra input.now }
 {
     crc_x25::x25_check(&input[1..kind.length as usize + 6], kind.extra)
 }
@@ -62,7 +62,7 @@ pub fn check_due(kind: Kind, input: &[u8]) -> u16
 // The same of a kind whose payload has one octet: the octets stand in one word.
 pub fn check_of_one(extra: u8, input: &[u8]) -> u16
     requires { 9 ≤ length input.now }
-    ensures { result ≡ checkDue 1 extra input.now }
+    ensures { result ≡ check_due 1 extra input.now }
 {
     let covered = field_words::little_64(input, 1) % 281474976710656;
     crc_x25::x25_seven(covered + extra as u64 * 281474976710656)
@@ -71,7 +71,7 @@ pub fn check_of_one(extra: u8, input: &[u8]) -> u16
 // Of one whose payload has six: in two words.
 pub fn check_of_six(extra: u8, input: &[u8]) -> u16
     requires { 14 ≤ length input.now }
-    ensures { result ≡ checkDue 6 extra input.now }
+    ensures { result ≡ check_due 6 extra input.now }
 {
     let first = field_words::little_64(input, 1);
     let covered = field_words::little_64(input, 5) % 72057594037927936;

@@ -2,11 +2,11 @@
 ghost use Rattle.std.specs.Prelude.{◌≡◌, [], ◌∷◌, ◌++◌, ◌+◌, ◌≤◌, length, drop};
 ghost use Rattle.std.proofs.lemmas.List.Edits.{sets};
 ghost use Rattle.output_writing.specs.Writing.{Writing};
-ghost use Rattle.field_words.specs.Words.{octetsUp};
+ghost use Rattle.field_words.specs.Words.{octets_up};
 ghost use Rattle.crc_x25.specs.Check.{x25};
-ghost use Rattle.mavlink_frame.specs.Frame.{headerOctets, covered, mavlinkFrame};
-ghost use Rattle.mavlink_frame.specs.Reader.{payloadAt};
-ghost use Rattle.mavlink_frame.specs.Writer.{frameWriteDue, writeOf, frame_of};
+ghost use Rattle.mavlink_frame.specs.Frame.{header_octets, covered, mavlink_frame};
+ghost use Rattle.mavlink_frame.specs.Reader.{payload_at};
+ghost use Rattle.mavlink_frame.specs.Writer.{frame_write_due, write_of, frame_of};
 ghost use Rattle.mavlink_frame.specs.Steps.{low_first, closed};
 
 use super::{Header, Kind, Lookup};
@@ -14,7 +14,7 @@ use output_writing::Written;
 
 // Writes the frame of a payload at the start of output. On a refusal nothing is written.
 pub fn write_frame(id: u8, header: Header, payload: &[u8], output: &mut [u8]) -> Written
-    ensures { Writing (frameWriteDue id payload.now output.old) (frame_of id header payload.now) output.old result output.new }
+    ensures { Writing (frame_write_due id payload.now output.old) (frame_of id header payload.now) output.old result output.new }
 {
     match super::kind_of(id) {
         Lookup::Known(kind) => write_kind(kind, header, payload, output),
@@ -24,7 +24,7 @@ pub fn write_frame(id: u8, header: Header, payload: &[u8], output: &mut [u8]) ->
 
 // The same for the kind that a caller knows.
 pub fn write_kind(kind: Kind, header: Header, payload: &[u8], output: &mut [u8]) -> Written
-    ensures { Writing (writeOf kind payload.now output.old) (mavlinkFrame kind header payload.now) output.old result output.new }
+    ensures { Writing (write_of kind payload.now output.old) (mavlink_frame kind header payload.now) output.old result output.new }
 {
     let n = payload.len();
     if n != kind.length as usize {
@@ -40,7 +40,7 @@ pub fn write_kind(kind: Kind, header: Header, payload: &[u8], output: &mut [u8])
 // The same for a kind whose payload has one octet.
 pub fn write_one(kind: Kind, header: Header, octet: u8, output: &mut [u8]) -> Written
     requires { kind.length ≡ 1 }
-    ensures { Writing (writeOf kind (octet ∷ []) output.old) (mavlinkFrame kind header (octet ∷ [])) output.old result output.new }
+    ensures { Writing (write_of kind (octet ∷ []) output.old) (mavlink_frame kind header (octet ∷ [])) output.old result output.new }
 {
     if output.len() < 9 {
         return Written::Refused(refusals::OUTPUT_LENGTH);
@@ -54,7 +54,7 @@ pub fn write_one(kind: Kind, header: Header, octet: u8, output: &mut [u8]) -> Wr
 // For one whose payload has six: they are put as one word, whose last two octets the check goes over.
 pub fn write_six(kind: Kind, header: Header, payload: &[u8], output: &mut [u8]) -> Written
     requires { (kind.length ≡ 6) × (length payload.now ≡ 6) }
-    ensures { Writing (writeOf kind payload.now output.old) (mavlinkFrame kind header payload.now) output.old result output.new }
+    ensures { Writing (write_of kind payload.now output.old) (mavlink_frame kind header payload.now) output.old result output.new }
 {
     if output.len() < 14 {
         return Written::Refused(refusals::OUTPUT_LENGTH);
@@ -68,7 +68,7 @@ pub fn write_six(kind: Kind, header: Header, payload: &[u8], output: &mut [u8]) 
 // Six octets and two zeros.
 fn six(payload: &[u8]) -> u64
     requires { length payload.now ≡ 6 }
-    ensures { octetsUp 8 result ≡ payload.now ++ 0 ∷ 0 ∷ [] }
+    ensures { octets_up 8 result ≡ payload.now ++ 0 ∷ 0 ∷ [] }
 {
     field_words::word_of(
         payload[0], payload[1], payload[2], payload[3], payload[4], payload[5], 0, 0,
@@ -78,7 +78,7 @@ fn six(payload: &[u8]) -> u64
 // Writes the frame of a payload at the start of an output that has room for it.
 fn fill(kind: Kind, header: Header, payload: &[u8], output: &mut [u8])
     requires { (length payload.now ≡ kind.length) × (length payload.now + 8 ≤ length output.old) }
-    ensures { output.new ≡ mavlinkFrame kind header payload.now ++ drop (length payload.now + 8) output.old }
+    ensures { output.new ≡ mavlink_frame kind header payload.now ++ drop (length payload.now + 8) output.old }
 {
     let check = check_of(kind, header, payload);
     field_words::copies::copy(payload, output, 6);
@@ -88,7 +88,7 @@ fn fill(kind: Kind, header: Header, payload: &[u8], output: &mut [u8])
 // Puts header and check around a payload that stands in the output already, from 6 on.
 pub fn surround(kind: Kind, header: Header, output: &mut [u8])
     requires { kind.length + 8 ≤ length output.old }
-    ensures { output.new ≡ mavlinkFrame kind header (payloadAt kind.length output.old) ++ drop (kind.length + 8) output.old }
+    ensures { output.new ≡ mavlink_frame kind header (payload_at kind.length output.old) ++ drop (kind.length + 8) output.old }
 {
     let check = check_of(kind, header, &output[6..kind.length as usize + 6]);
     put_around(kind, header, check, output);
@@ -170,7 +170,7 @@ fn check_of_six(kind: Kind, header: Header, payload: &[u8]) -> u16
 // Puts the header before the payload, and behind it a check.
 fn put_around(kind: Kind, header: Header, check: u16, output: &mut [u8])
     requires { kind.length + 8 ≤ length output.old }
-    ensures { output.new ≡ closed kind header (payloadAt kind.length output.old) check ++ drop (kind.length + 8) output.old }
+    ensures { output.new ≡ closed kind header (payload_at kind.length output.old) check ++ drop (kind.length + 8) output.old }
 {
     put_header(kind, header, output);
     put_check(check, kind.length as usize + 6, output);
@@ -178,7 +178,7 @@ fn put_around(kind: Kind, header: Header, check: u16, output: &mut [u8])
 
 fn put_header(kind: Kind, header: Header, output: &mut [u8])
     requires { 6 ≤ length output.old }
-    ensures { output.new ≡ sets output.old 0 (headerOctets kind header) }
+    ensures { output.new ≡ sets output.old 0 (header_octets kind header) }
 {
     output[0] = 0xFE;
     output[1] = kind.length;

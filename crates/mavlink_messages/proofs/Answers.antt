@@ -10,25 +10,25 @@ use lib.ListN.{length, take, drop, length-drop}
 use lib.Seq.{length-take-le}
 use Rattle.mavlink_frame.specs.declared.Header.{Header}
 use Rattle.mavlink_frame.specs.declared.Kind.{Kind}
-use Rattle.mavlink_frame.specs.Frame.{kind, KindAnswer, known, unknown, mavlinkKind}
+use Rattle.mavlink_frame.specs.Frame.{kind, KindAnswer, known, unknown, mavlink_kind}
 use Rattle.mavlink_frame.specs.Reader.{frame, found}
 use Rattle.mavlink_frame.proofs.reader.Accepted.{Accepted, accepted}
 use Rattle.field_format.proofs.Conjunction.{both}
-use Rattle.mavlink_messages.specs.Messages.{payloadRead, read_by, readDue, ofLength, ofItsKind}
+use Rattle.mavlink_messages.specs.Messages.{payload_read, read_by, read_due, of_length, of_its_kind}
 
 pub tested : (id i n l : ℕ) → (eqb id i && eqb n l) ≡ true → (id ≡ i) × (n ≡ l)
 tested id i n l e = let h = both (eqb id i) (eqb n l) e in (eqb-true id i h.0, eqb-true n l h.1)
 
 -- a length that is right for the ID, where the table's first kind is not the one
-past : (b : Bool) (k : Kind) (rest : KindAnswer) (n : ℕ) → ofLength (cond b (known k) rest) n ≡ true → (b && eqb n k.length) ≡ false
-    → ofLength rest n ≡ true
+past : (b : Bool) (k : Kind) (rest : KindAnswer) (n : ℕ) → of_length (cond b (known k) rest) n ≡ true → (b && eqb n k.length) ≡ false
+    → of_length rest n ≡ true
 past true k rest n h e = let z : ◌≡◌ {A = ℕ} 0 1 = cc in absurd (omega arith)
 past false k rest n h e = h
 
 -- a length that is right for the ID is that of one of the five kinds
-pub no_kind : (id n : ℕ) → ofItsKind id n ≡ true → (eqb id 66 && eqb n 6) ≡ false → (eqb id 201 && eqb n 19) ≡ false
+pub no_kind : (id n : ℕ) → of_its_kind id n ≡ true → (eqb id 66 && eqb n 6) ≡ false → (eqb id 201 && eqb n 19) ≡ false
     → (eqb id 202 && eqb n 42) ≡ false → (eqb id 203 && eqb n 1) ≡ false → (eqb id 246 && eqb n 38) ≡ false → ⊥
-unfolding mavlinkKind
+unfolding mavlink_kind
 no_kind id n h a b c d e =
     let fifth =
     past (eqb id 246) (kind 246 38 184) unknown n
@@ -49,17 +49,17 @@ module _ (s : List ℕ) (id : ℕ) (h : Header) (used : ℕ) (e : found s ≡ fr
       (omega arith, omega arith, omega arith)
 
   -- the payload has the kind's length
-  payload-length : length (take (used - 2 - 6) (drop 6 s)) ≡ frame_is.kind.length
-  payload-length =
+  payload_length : length (take (used - 2 - 6) (drop 6 s)) ≡ frame_is.kind.length
+  payload_length =
       let a = frame_is.ends in
       let b = frame_is.room in
       let l : used - 2 - 6 ≡ frame_is.kind.length = omega arith in
       length-take-le (used - 2 - 6) (drop 6 s) (omega (arith, length-drop 6 s)) ∙ l
 
-  pub payload-of-its-kind : ofItsKind id (length (take (used - 2 - 6) (drop 6 s))) ≡ true
-  payload-of-its-kind = rw frame_is.known (eq-eqb _ _ payload-length)
+  pub payload-of-its-kind : of_its_kind id (length (take (used - 2 - 6) (drop 6 s))) ≡ true
+  payload-of-its-kind = rw frame_is.known (eq-eqb _ _ payload_length)
 
-  pub payload-read : payloadRead id h used (take (used - 2 - 6) (drop 6 s)) ≡ readDue s
+  pub payload-read : payload_read id h used (take (used - 2 - 6) (drop 6 s)) ≡ read_due s
   payload-read =
       let n : used - 2 - 6 ≡ used - 8 = omega arith in
-      ap (λ (k : ℕ). payloadRead id h used (take k (drop 6 s))) n ∙ ap (λ f. read_by f s) (sym e)
+      ap (λ (k : ℕ). payload_read id h used (take k (drop 6 s))) n ∙ ap (λ f. read_by f s) (sym e)

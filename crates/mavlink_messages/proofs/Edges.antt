@@ -1,27 +1,27 @@
 -- The edges, by computation. Assumes nothing.
 use mathlib.Core.Path.{refl}
-use Rattle.field_codes.specs.Codes.{isSquawk, isEmitter, isSizeCode}
-use Rattle.field_texts.specs.Text.{isSpaced}
-use Rattle.mavlink_messages.specs.Ranges.{staticFits, dynamicFits, trafficFits}
+use Rattle.field_codes.specs.Codes.{is_squawk, is_emitter, is_size_code}
+use Rattle.field_texts.specs.Text.{is_spaced}
+use Rattle.mavlink_messages.specs.Ranges.{static_fits, dynamic_fits, traffic_fits}
 use Rattle.mavlink_messages.specs.Edges.{RangeEdges}
 
 pub edges : RangeEdges
-unfolding isSquawk isEmitter isSizeCode isSpaced staticFits dynamicFits trafficFits
+unfolding is_squawk is_emitter is_size_code is_spaced static_fits dynamic_fits traffic_fits
 edges =
     record {
-      static-last = refl;
-      address-1000000 = refl;
-      ninth-octet-1 = refl;
-      emitter-22 = refl;
-      size-16 = refl;
-      lateral-8 = refl;
-      longitudinal-32 = refl;
-      fix-5 = refl;
-      fix-6 = refl;
-      squawk-7778 = refl;
-      squawk-65535 = refl;
-      traffic-7777 = refl;
-      traffic-7778 = refl;
-      traffic-65534 = refl;
-      traffic-65535 = refl;
+      static_last = refl;
+      address_1000000 = refl;
+      ninth_octet_1 = refl;
+      emitter_22 = refl;
+      size_16 = refl;
+      lateral_8 = refl;
+      longitudinal_32 = refl;
+      fix_5 = refl;
+      fix_6 = refl;
+      squawk_7778 = refl;
+      squawk_65535 = refl;
+      traffic_7777 = refl;
+      traffic_7778 = refl;
+      traffic_65534 = refl;
+      traffic_65535 = refl;
     }

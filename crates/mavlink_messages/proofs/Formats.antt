@@ -2,23 +2,23 @@
 use mathlib.Core.Path.{refl}
 use native.Mathlib.Omega.{arith}
 use Rattle.field_format.specs.Format.{Right}
-use Rattle.mavlink_messages.specs.DataStream66.{dataStreamFormat}
-use Rattle.mavlink_messages.specs.Static201.{staticFormat}
-use Rattle.mavlink_messages.specs.Dynamic202.{dynamicFormat}
-use Rattle.mavlink_messages.specs.Status203.{statusFormat}
-use Rattle.mavlink_messages.specs.Traffic246.{trafficFormat}
+use Rattle.mavlink_messages.specs.DataStream66.{data_stream_format}
+use Rattle.mavlink_messages.specs.Static201.{static_format}
+use Rattle.mavlink_messages.specs.Dynamic202.{dynamic_format}
+use Rattle.mavlink_messages.specs.Status203.{status_format}
+use Rattle.mavlink_messages.specs.Traffic246.{traffic_format}
 
-pub dataStream-right : Right dataStreamFormat
-dataStream-right = record { whole = omega arith; sound = omega arith; back = λ a. refl; again = λ r. refl }
+pub data_stream_right : Right data_stream_format
+data_stream_right = record { whole = omega arith; sound = omega arith; back = λ a. refl; again = λ r. refl }
 
-pub static-right : Right staticFormat
-static-right = record { whole = omega arith; sound = omega arith; back = λ a. refl; again = λ r. refl }
+pub static_right : Right static_format
+static_right = record { whole = omega arith; sound = omega arith; back = λ a. refl; again = λ r. refl }
 
-pub dynamic-right : Right dynamicFormat
-dynamic-right = record { whole = omega arith; sound = omega arith; back = λ a. refl; again = λ r. refl }
+pub dynamic_right : Right dynamic_format
+dynamic_right = record { whole = omega arith; sound = omega arith; back = λ a. refl; again = λ r. refl }
 
-pub status-right : Right statusFormat
-status-right = record { whole = omega arith; sound = omega arith; back = λ a. refl; again = λ r. refl }
+pub status_right : Right status_format
+status_right = record { whole = omega arith; sound = omega arith; back = λ a. refl; again = λ r. refl }
 
-pub traffic-right : Right trafficFormat
-traffic-right = record { whole = omega arith; sound = omega arith; back = λ a. refl; again = λ r. refl }
+pub traffic_right : Right traffic_format
+traffic_right = record { whole = omega arith; sound = omega arith; back = λ a. refl; again = λ r. refl }

@@ -9,24 +9,24 @@ use Rattle.field_format.specs.Format.{body_of}
 use Rattle.output_writing.specs.declared.Written.{Written}
 use Rattle.output_writing.specs.declared.Written.TheVariants.{Refused}
 use Rattle.output_writing.specs.Writing.{room_for, Writing}
-use Rattle.mavlink_messages.specs.Ranges.{staticFits}
+use Rattle.mavlink_messages.specs.Ranges.{static_fits}
 use Rattle.mavlink_frame.specs.declared.Header.{Header}
-use Rattle.mavlink_frame.specs.Frame.{mavlinkKind}
-use Rattle.mavlink_frame.specs.Writer.{writeOf, frame_of}
+use Rattle.mavlink_frame.specs.Frame.{mavlink_kind}
+use Rattle.mavlink_frame.specs.Writer.{write_of, frame_of}
 use Rattle.mavlink_frame.specs.Writer as frame-writes
 use Rattle.mavlink_messages.specs.declared.Static as static-as
 use Rattle.mavlink_messages.specs.declared.Message.{Message}
 use Rattle.mavlink_messages.specs.declared.Message.TheVariants.{DataStream, Static, Dynamic, Status, Traffic}
 use Rattle.field_format.proofs.Conjunction.{both}
-use Rattle.mavlink_messages.specs.Messages.{id_of, payloadOf, in_range, writeDue, messageFrame}
+use Rattle.mavlink_messages.specs.Messages.{id_of, payload_of, in_range, write_due, message_frame}
 
 pub refused : (m : Message) (h : Header) (output : List ℕ) → in_range m ≡ false
-    → Writing (writeDue m output) (messageFrame m h) output (Refused 25) output
+    → Writing (write_due m output) (message_frame m h) output (Refused 25) output
 refused m h output e = rw e (record { answers = refl; leaves = refl })
 
 -- each kind's octets are as many as the table says
-pub due : (m : Message) (output : List ℕ) → frame-writes.frameWriteDue (id_of m) (payloadOf m) output ≡ room_for (length (payloadOf m) + 8) output
-unfolding mavlinkKind writeOf body_of
+pub due : (m : Message) (output : List ℕ) → frame-writes.frame_write_due (id_of m) (payload_of m) output ≡ room_for (length (payload_of m) + 8) output
+unfolding mavlink_kind write_of body_of
 due (DataStream d) output = refl
 due (Static s) output = refl
 due (Dynamic d) output = refl
@@ -35,13 +35,13 @@ due (Traffic t) output = refl
 
 -- a message that is of this kind
 pub written : {message m : Message} (h : Header) {payload output : List ℕ} {r : Written} {after : List ℕ} → message ≡ m
-    → in_range message ≡ true → payload ≡ payloadOf m
-    → Writing (frame-writes.frameWriteDue (id_of m) payload output) (frame_of (id_of m) h payload) output r after
-    → Writing (writeDue message output) (messageFrame message h) output r after
+    → in_range message ≡ true → payload ≡ payload_of m
+    → Writing (frame-writes.frame_write_due (id_of m) payload output) (frame_of (id_of m) h payload) output r after
+    → Writing (write_due message output) (message_frame message h) output r after
 written {m = m} h {output = output} g e p w = rw (e, g) (rw (p, due m output) at w)
 
 -- an address that is in range has 24 bits
-pub address-fits : {m : Message} {s : static-as.Static} → m ≡ Static s → in_range m ≡ true → s.icao < 0x1000000
-unfolding staticFits
-address-fits {s = s} g e =
+pub address_fits : {m : Message} {s : static-as.Static} → m ≡ Static s → in_range m ≡ true → s.icao < 0x1000000
+unfolding static_fits
+address_fits {s = s} g e =
     ltb-true _ _ (both _ _ (both _ _ (both _ _ (both _ _ (both _ _ (both _ _ (rw g at e)).0).0).0).0).0).0

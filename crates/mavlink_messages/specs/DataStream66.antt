@@ -4,8 +4,8 @@ use Rattle.field_format.specs.Format.{unsigned, Format, low, octet}
 use Rattle.mavlink_messages.specs.declared.DataStream.{DataStream}
 
 -- offset 0: rate; 2: target system; 3: target component; 4: stream; 5: start or stop
-abbrev pub dataStreamFormat : Format DataStream
-dataStreamFormat = record {
+abbrev pub data_stream_format : Format DataStream
+data_stream_format = record {
   head = [];
   items =
       low 2 unsigned (λ d. d.req_message_rate)

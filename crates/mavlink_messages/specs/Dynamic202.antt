@@ -1,6 +1,6 @@
 -- Message 202, the dynamic data of an aircraft (document 001, "Dynamic / Ownship Message"), 42 octets. Assumes nothing.
 use Rattle.std.specs.Prelude.{[], ◌∷◌}
-use Rattle.mavlink_messages.specs.Ranges.{dynamicFits}
+use Rattle.mavlink_messages.specs.Ranges.{dynamic_fits}
 use Rattle.field_format.specs.Format.{unsigned, integer, Format, low, octet}
 use Rattle.mavlink_messages.specs.declared.Dynamic.{Dynamic}
 
@@ -8,8 +8,8 @@ use Rattle.mavlink_messages.specs.declared.Dynamic.{Dynamic}
 -- signed; 20: horizontal accuracy; 24: vertical accuracy; 26: velocity accuracy; 28: vertical speed, signed; 30:
 -- velocity north, signed; 32: velocity east, signed; 34: state; 36: squawk; 38: fix; 39: satellites; 40: emergency;
 -- 41: control
-abbrev pub dynamicFormat : Format Dynamic
-dynamicFormat = record {
+abbrev pub dynamic_format : Format Dynamic
+dynamic_format = record {
   head = [];
   items =
       low 4 unsigned (λ d. d.utc_time)
@@ -49,5 +49,5 @@ dynamicFormat = record {
     em_status = emergency;
     control = control;
   };
-  ranges = λ d. dynamicFits d.squawk d.fix_type;
+  ranges = λ d. dynamic_fits d.squawk d.fix_type;
 }

@@ -4,9 +4,9 @@ use Rattle.std.specs.Prelude.{cond, List, [], ◌∷◌, ℕ, ◌/◌, ◌^◌}
 use Rattle.crc_polynomial.specs.Polynomial.{odd}
 
 -- those of some bits that are set
-abbrev pub setOf : List ℕ → ℕ → List ℕ
-setOf [] status = []
-setOf (b ∷ bs) status = cond (odd (status / 2 ^ b)) (b ∷ setOf bs status) (setOf bs status)
+abbrev pub set_of : List ℕ → ℕ → List ℕ
+set_of [] status = []
+set_of (b ∷ bs) status = cond (odd (status / 2 ^ b)) (b ∷ set_of bs status) (set_of bs status)
 
-unfoldable pub failureBits : ℕ → List ℕ
-failureBits = setOf (1 ∷ 2 ∷ 3 ∷ 4 ∷ [])
+unfoldable pub failure_bits : ℕ → List ℕ
+failure_bits = set_of (1 ∷ 2 ∷ 3 ∷ 4 ∷ [])

@@ -1,6 +1,6 @@
 -- The failures that a status reports (document 001, "Status Message"): how many bits are set, and the lowest. Assumes nothing.
 use Rattle.std.specs.Prelude.{List, [], ◌∷◌, ℕ, length}
-use Rattle.mavlink_messages.specs.FailureBits.{failureBits}
+use Rattle.mavlink_messages.specs.FailureBits.{failure_bits}
 use Rattle.mavlink_messages.specs.declared.Lowest.{Lowest}
 use Rattle.mavlink_messages.specs.declared.Lowest.TheVariants.{Bit, None}
 use Rattle.mavlink_messages.specs.declared.Failures.{Failures}
@@ -15,19 +15,19 @@ pub record FailureAnswer : Type 0 where
   pub lowest : LowestAnswer
 
 -- the same of each case of the code's answer
-abbrev pub lowestAnswer : Lowest → LowestAnswer
-lowestAnswer (Bit b) = bit b
-lowestAnswer None = none
+abbrev pub lowest_answer : Lowest → LowestAnswer
+lowest_answer (Bit b) = bit b
+lowest_answer None = none
 
-abbrev pub failureAnswer : Failures → FailureAnswer
-failureAnswer f = record { count = f.count; lowest = lowestAnswer f.lowest }
+abbrev pub failure_answer : Failures → FailureAnswer
+failure_answer f = record { count = f.count; lowest = lowest_answer f.lowest }
 
-abbrev pub lowestOf : List ℕ → LowestAnswer
-lowestOf [] = none
-lowestOf (b ∷ bs) = bit b
+abbrev pub lowest_of : List ℕ → LowestAnswer
+lowest_of [] = none
+lowest_of (b ∷ bs) = bit b
 
-unfoldable pub failuresIn : ℕ → FailureAnswer
-failuresIn status = record { count = length (failureBits status); lowest = lowestOf (failureBits status) }
+unfoldable pub failures_in : ℕ → FailureAnswer
+failures_in status = record { count = length (failure_bits status); lowest = lowest_of (failure_bits status) }
 
-abbrev pub noFailures : FailureAnswer
-noFailures = record { count = 0; lowest = none }
+abbrev pub no_failures : FailureAnswer
+no_failures = record { count = 0; lowest = none }

@@ -1,21 +1,21 @@
 -- When the reader gives each refusal (document 01, the table's rows 20 to 25, and "MAVLink tests: no byte 20; 21; fewer than 6 bytes
 -- 20; 22; 23; fewer than length+8 bytes 20; 24; 25"): each condition says that the tests before it are passed. Assumes nothing.
 use Rattle.std.specs.Prelude.{◌≡◌, Bool, true, false, cond, List, ◌⊎◌, ℕ, ◌+◌, ◌≤◌, ◌<◌, eqb, length, get_or}
-use Rattle.field_format.specs.Format.{valueIn}
+use Rattle.field_format.specs.Format.{value_in}
 use Rattle.mavlink_frame.specs.declared.Kind.{Kind}
-use Rattle.mavlink_frame.specs.Frame.{start, KindAnswer, known, unknown, mavlinkKind}
-use Rattle.mavlink_frame.specs.Reader.{payloadAt, checkAt, checkDue}
-use Rattle.mavlink_messages.specs.Static201.{staticFormat}
-use Rattle.mavlink_messages.specs.Dynamic202.{dynamicFormat}
-use Rattle.mavlink_messages.specs.Traffic246.{trafficFormat}
+use Rattle.mavlink_frame.specs.Frame.{start, KindAnswer, known, unknown, mavlink_kind}
+use Rattle.mavlink_frame.specs.Reader.{payload_at, check_at, check_due}
+use Rattle.mavlink_messages.specs.Static201.{static_format}
+use Rattle.mavlink_messages.specs.Dynamic202.{dynamic_format}
+use Rattle.mavlink_messages.specs.Traffic246.{traffic_format}
 
 -- octets 0 to 5 are there, the first of them FE
 abbrev pub HasHeader : List ℕ → Type 0
 HasHeader s = (get_or s 0 0 ≡ start) × (6 ≤ length s)
 
 -- what the table of the kinds has for the message ID; that it has a kind, of which something holds; that it has none
-abbrev pub kindNamed : List ℕ → KindAnswer
-kindNamed s = mavlinkKind (get_or s 5 0)
+abbrev pub kind_named : List ℕ → KindAnswer
+kind_named s = mavlink_kind (get_or s 5 0)
 
 abbrev pub OfKind : (Kind → Type 0) → KindAnswer → Type 0
 OfKind Holds (known k) = Holds k
@@ -33,14 +33,14 @@ abbrev pub HasFrame : List ℕ → Kind → Type 0
 HasFrame s k = HasLength s k × (k.length + 8 ≤ length s)
 
 abbrev pub HasRightCheck : List ℕ → Kind → Type 0
-HasRightCheck s k = checkAt k.length s ≡ checkDue k.length k.extra s
+HasRightCheck s k = check_at k.length s ≡ check_due k.length k.extra s
 
 -- whether the fields of an ID's payload are in their ranges: 201, 202 and 246 have some
-abbrev pub payloadInRange : ℕ → List ℕ → Bool
-payloadInRange id p =
-    cond (eqb id 201) (staticFormat.ranges (valueIn staticFormat p))
-    (cond (eqb id 202) (dynamicFormat.ranges (valueIn dynamicFormat p))
-    (cond (eqb id 246) (trafficFormat.ranges (valueIn trafficFormat p)) true))
+abbrev pub payload_in_range : ℕ → List ℕ → Bool
+payload_in_range id p =
+    cond (eqb id 201) (static_format.ranges (value_in static_format p))
+    (cond (eqb id 202) (dynamic_format.ranges (value_in dynamic_format p))
+    (cond (eqb id 246) (traffic_format.ranges (value_in traffic_format p)) true))
 
 -- 20: no octet; or FE and fewer than 6; or the kind's length octet and fewer than length + 8
 abbrev pub CutShort : List ℕ → Kind → Type 0
@@ -50,7 +50,7 @@ abbrev pub MavlinkShort : List ℕ → Type 0
 MavlinkShort s =
     (length s ≡ 0)
     ⊎ (((1 ≤ length s) × (get_or s 0 0 ≡ start) × (length s < 6))
-    ⊎ (HasHeader s × OfKind (CutShort s) (kindNamed s)))
+    ⊎ (HasHeader s × OfKind (CutShort s) (kind_named s)))
 
 -- 21: the first octet is not FE
 abbrev pub MavlinkWrongStart : List ℕ → Type 0
@@ -58,19 +58,19 @@ MavlinkWrongStart s = (1 ≤ length s) × (get_or s 0 0 ≡ start → ⊥)
 
 -- 22: no kind has the message ID
 abbrev pub MavlinkUnknownId : List ℕ → Type 0
-MavlinkUnknownId s = HasHeader s × OfNoKind (kindNamed s)
+MavlinkUnknownId s = HasHeader s × OfNoKind (kind_named s)
 
 -- 23: the length octet is not the kind's
 abbrev pub MavlinkWrongLength : List ℕ → Type 0
-MavlinkWrongLength s = HasHeader s × OfKind (λ k. HasLength s k → ⊥) (kindNamed s)
+MavlinkWrongLength s = HasHeader s × OfKind (λ k. HasLength s k → ⊥) (kind_named s)
 
 -- 24: the check is wrong
 abbrev pub MavlinkWrongCheck : List ℕ → Type 0
-MavlinkWrongCheck s = HasHeader s × OfKind (λ k. HasFrame s k × (HasRightCheck s k → ⊥)) (kindNamed s)
+MavlinkWrongCheck s = HasHeader s × OfKind (λ k. HasFrame s k × (HasRightCheck s k → ⊥)) (kind_named s)
 
 -- 25: a field is outside its range
 abbrev pub OutsideRange : List ℕ → Kind → Type 0
-OutsideRange s k = payloadInRange k.id (payloadAt k.length s) ≡ false
+OutsideRange s k = payload_in_range k.id (payload_at k.length s) ≡ false
 
 abbrev pub MavlinkOutsideRange : List ℕ → Type 0
-MavlinkOutsideRange s = HasHeader s × OfKind (λ k. HasFrame s k × HasRightCheck s k × OutsideRange s k) (kindNamed s)
+MavlinkOutsideRange s = HasHeader s × OfKind (λ k. HasFrame s k × HasRightCheck s k × OutsideRange s k) (kind_named s)

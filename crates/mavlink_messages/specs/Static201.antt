@@ -1,13 +1,13 @@
 -- Message 201, the static data of an aircraft (document 001, "Static Message"), 19 octets. Assumes nothing.
 use Rattle.std.specs.Prelude.{[], ◌∷◌}
-use Rattle.mavlink_messages.specs.Ranges.{staticFits}
+use Rattle.mavlink_messages.specs.Ranges.{static_fits}
 use Rattle.field_format.specs.Format.{unsigned, part, Format, low, text, octet}
 use Rattle.mavlink_messages.specs.declared.Static.{Static}
 
 -- offset 0: ICAO address; 3: integrity; 4: stall speed; 6: callsign; 14: capability, where the callsign's 00 stands;
 -- 15: emitter; 16: length and width; 17: lateral offset; 18: longitudinal offset
-abbrev pub staticFormat : Format Static
-staticFormat = record {
+abbrev pub static_format : Format Static
+static_format = record {
   head = [];
   items =
       low 3 part (λ s. s.icao)
@@ -31,5 +31,5 @@ staticFormat = record {
     gps_lat_offs = lateral;
     gps_lon_offs = longitudinal;
   };
-  ranges = λ s. staticFits s.icao s.callsign s.capability s.emitter s.alw_encode s.gps_lat_offs s.gps_lon_offs;
+  ranges = λ s. static_fits s.icao s.callsign s.capability s.emitter s.alw_encode s.gps_lat_offs s.gps_lon_offs;
 }

@@ -4,8 +4,8 @@ use Rattle.field_format.specs.Format.{Format, octet}
 use Rattle.mavlink_messages.specs.declared.Status.{Status}
 
 -- offset 0: self-test status
-abbrev pub statusFormat : Format Status
-statusFormat = record {
+abbrev pub status_format : Format Status
+status_format = record {
   head = [];
   items =
       octet (λ s. s.status)

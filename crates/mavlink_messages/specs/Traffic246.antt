@@ -1,14 +1,14 @@
 -- Message 246, a report of traffic (document 001, "Traffic Report Message"), 38 octets. Assumes nothing.
 use Rattle.std.specs.Prelude.{[], ◌∷◌}
-use Rattle.mavlink_messages.specs.Ranges.{trafficFits}
+use Rattle.mavlink_messages.specs.Ranges.{traffic_fits}
 use Rattle.field_format.specs.Format.{unsigned, integer, Format, low, text, octet}
 use Rattle.mavlink_messages.specs.declared.Traffic.{Traffic}
 
 -- offset 0: ICAO address; 4: latitude, signed; 8: longitude, signed; 12: altitude, signed; 16: heading; 18:
 -- horizontal velocity; 20: vertical velocity, signed; 22: valid fields; 24: squawk; 26: altitude type; 27: callsign;
 -- 35: its ninth character; 36: emitter; 37: time since last communication
-abbrev pub trafficFormat : Format Traffic
-trafficFormat = record {
+abbrev pub traffic_format : Format Traffic
+traffic_format = record {
   head = [];
   items =
       low 4 unsigned (λ t. t.icao_address)
@@ -42,5 +42,5 @@ trafficFormat = record {
     emitter_type = emitter;
     tslc = age;
   };
-  ranges = λ t. trafficFits t.squawk;
+  ranges = λ t. traffic_fits t.squawk;
 }

@@ -1,13 +1,13 @@
 // Message 66, a request for a data stream.
 ghost use Rattle.std.specs.Prelude.{◌≡◌, length};
-ghost use Rattle.field_format.specs.Format.{body_of, valueIn};
-ghost use Rattle.mavlink_messages.specs.DataStream66.{dataStreamFormat};
+ghost use Rattle.field_format.specs.Format.{body_of, value_in};
+ghost use Rattle.mavlink_messages.specs.DataStream66.{data_stream_format};
 
 use super::DataStream;
 
 pub fn read(payload: &[u8]) -> DataStream
     requires { length payload.now ≡ 6 }
-    ensures { result ≡ valueIn dataStreamFormat payload.now }
+    ensures { result ≡ value_in data_stream_format payload.now }
 {
     DataStream {
         req_message_rate: field_layout::little_16(payload, 0),
@@ -19,7 +19,7 @@ pub fn read(payload: &[u8]) -> DataStream
 }
 
 pub fn octets(data_stream: DataStream) -> [u8; 6]
-    ensures { result ≡ body_of dataStreamFormat data_stream }
+    ensures { result ≡ body_of data_stream_format data_stream }
 {
     let rate = super::numbers::little_16(data_stream.req_message_rate);
     [

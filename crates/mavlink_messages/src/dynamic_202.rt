@@ -1,13 +1,13 @@
 // Message 202, the dynamic data of an aircraft.
 ghost use Rattle.std.specs.Prelude.{◌≡◌, length, take, drop};
-ghost use Rattle.field_format.specs.Format.{body_of, valueIn};
-ghost use Rattle.mavlink_messages.specs.Dynamic202.{dynamicFormat};
+ghost use Rattle.field_format.specs.Format.{body_of, value_in};
+ghost use Rattle.mavlink_messages.specs.Dynamic202.{dynamic_format};
 
 use super::Dynamic;
 
 pub fn read(payload: &[u8]) -> Dynamic
     requires { length payload.now ≡ 42 }
-    ensures { result ≡ valueIn dynamicFormat payload.now }
+    ensures { result ≡ value_in dynamic_format payload.now }
 {
     Dynamic {
         utc_time: field_layout::little_32(payload, 0),
@@ -31,13 +31,13 @@ pub fn read(payload: &[u8]) -> Dynamic
 }
 
 pub fn in_range(dynamic: Dynamic) -> bool
-    ensures { result ≡ dynamicFormat.ranges dynamic }
+    ensures { result ≡ dynamic_format.ranges dynamic }
 {
     super::ranges::dynamic_fits(dynamic.squawk, dynamic.fix_type)
 }
 
 pub fn octets(dynamic: Dynamic) -> [u8; 42]
-    ensures { result ≡ body_of dynamicFormat dynamic }
+    ensures { result ≡ body_of dynamic_format dynamic }
 {
     let first = first_octets(dynamic);
     let last = last_octets(dynamic);
@@ -48,7 +48,7 @@ pub fn octets(dynamic: Dynamic) -> [u8; 42]
 
 // The numbers of 32 bits, which come first.
 fn first_octets(dynamic: Dynamic) -> [u8; 24]
-    ensures { result ≡ take 24 (body_of dynamicFormat dynamic) }
+    ensures { result ≡ take 24 (body_of dynamic_format dynamic) }
 {
     let utc = super::numbers::little_32(dynamic.utc_time);
     let latitude = super::numbers::signed_32(dynamic.latitude);
@@ -86,7 +86,7 @@ fn first_octets(dynamic: Dynamic) -> [u8; 24]
 
 // The numbers of 16 bits, and the single octets.
 fn last_octets(dynamic: Dynamic) -> [u8; 18]
-    ensures { result ≡ drop 24 (body_of dynamicFormat dynamic) }
+    ensures { result ≡ drop 24 (body_of dynamic_format dynamic) }
 {
     let vertical = super::numbers::little_16(dynamic.acc_vert);
     let velocity = super::numbers::little_16(dynamic.acc_vel);

@@ -10,8 +10,8 @@ mod traffic_246;
 
 ghost use Rattle.std.specs.Prelude.{◌≡◌, true, length};
 ghost use Rattle.output_writing.specs.Writing.{Writing};
-ghost use Rattle.mavlink_messages.specs.Failures.{failureAnswer, failuresIn, noFailures};
-ghost use Rattle.mavlink_messages.specs.Messages.{in_range, failuresOf, mavlinkAnswer, judgedBy, payloadRead, readDue, ofItsKind, writeDue, messageFrame};
+ghost use Rattle.mavlink_messages.specs.Failures.{failure_answer, failures_in, no_failures};
+ghost use Rattle.mavlink_messages.specs.Messages.{in_range, failures_of, mavlink_answer, judged_by, payload_read, read_due, of_its_kind, write_due, message_frame};
 
 use field_layout::Text;
 use mavlink_frame::{Found, Header};
@@ -103,7 +103,7 @@ pub enum Message {
     Traffic(Traffic),
 }
 
-// The lowest failure bit that is set, 1 to 4, or none; `lowestAnswer` of specs/Failures.antt says the same.
+// The lowest failure bit that is set, 1 to 4, or none; `lowest_answer` of specs/Failures.antt says the same.
 #[derive(Drop)]
 pub enum Lowest {
     Bit(u32),
@@ -117,7 +117,7 @@ pub struct Failures {
     pub lowest: Lowest,
 }
 
-// What stands at the start of an input. `mavlinkAnswer` of specs/Messages.antt gives the paper's number and values of each case.
+// What stands at the start of an input. `mavlink_answer` of specs/Messages.antt gives the paper's number and values of each case.
 #[derive(Drop)]
 pub enum Read {
     // A message in a right frame: the frame's header, how many octets it has, the message, and the failures that it
@@ -143,7 +143,7 @@ fn in_range(message: Message) -> bool
 
 // The failure bits of a status, 1 to 4.
 fn failures_of(status: u8) -> Failures
-    ensures { failureAnswer result ≡ failuresIn status }
+    ensures { failure_answer result ≡ failures_in status }
 {
     let count = failure_bits::count_failures(status);
     if count == 0 {
@@ -157,7 +157,7 @@ fn failures_of(status: u8) -> Failures
 }
 
 fn no_failures() -> Failures
-    ensures { failureAnswer result ≡ noFailures }
+    ensures { failure_answer result ≡ no_failures }
 {
     Failures {
         count: 0,
@@ -167,7 +167,7 @@ fn no_failures() -> Failures
 
 // The failures that a message reports.
 fn message_failures(message: Message) -> Failures
-    ensures { failureAnswer result ≡ failuresOf message }
+    ensures { failure_answer result ≡ failures_of message }
 {
     if let Message::Status(status) = message {
         return failures_of(status.status);
@@ -178,7 +178,7 @@ fn message_failures(message: Message) -> Failures
 // ---- writing: 25 for a field outside its range, then 8. On a refusal nothing is written.
 
 pub fn write_message(message: Message, header: Header, output: &mut [u8]) -> Written
-    ensures { Writing (writeDue message output.old) (messageFrame message header) output.old result output.new }
+    ensures { Writing (write_due message output.old) (message_frame message header) output.old result output.new }
 {
     if !in_range(message) {
         return Written::Refused(refusals::MAVLINK_FIELD);
@@ -211,7 +211,7 @@ pub fn write_message(message: Message, header: Header, output: &mut [u8]) -> Wri
 
 // Reads the message in the frame at the start of input. Octets behind the frame are left.
 pub fn read_message(input: &[u8]) -> Read
-    ensures { mavlinkAnswer result ≡ readDue input.now }
+    ensures { mavlink_answer result ≡ read_due input.now }
 {
     match mavlink_frame::reader::read_frame(input) {
         Found::Frame(id, header, used) => {
@@ -225,8 +225,8 @@ pub fn read_message(input: &[u8]) -> Read
 // Reads a payload, which is of the length that its kind has. That the length is tested here once more spares a test for each
 // octet.
 fn read_payload(id: u8, header: Header, used: usize, payload: &[u8]) -> Read
-    requires { ofItsKind id (length payload.now) ≡ true }
-    ensures { mavlinkAnswer result ≡ payloadRead id header used payload.now }
+    requires { of_its_kind id (length payload.now) ≡ true }
+    ensures { mavlink_answer result ≡ payload_read id header used payload.now }
 {
     let n = payload.len();
     if (id == 66) & (n == 6) {
@@ -257,7 +257,7 @@ fn read_payload(id: u8, header: Header, used: usize, payload: &[u8]) -> Read
 
 // 25 for a message with a field outside its range. (Each kind's test stands with its reader: it then works on registers.)
 fn judge(fits: bool, header: Header, used: usize, message: Message) -> Read
-    ensures { mavlinkAnswer result ≡ judgedBy fits header used message }
+    ensures { mavlink_answer result ≡ judged_by fits header used message }
 {
     if !fits {
         return Read::Refused(refusals::MAVLINK_FIELD);

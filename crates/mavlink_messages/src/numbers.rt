@@ -1,6 +1,6 @@
 // A number's octets, least significant octet first; and octets joined.
 ghost use Rattle.std.specs.Prelude.{◌≡◌, [], ◌∷◌, ◌++◌, ◌<◌, ◌+◌, length};
-ghost use Rattle.field_layout.specs.Layout.{low, runOctets};
+ghost use Rattle.field_layout.specs.Layout.{low, run_octets};
 ghost use Rattle.field_signed.specs.Signed.{complement};
 ghost use Rattle.mavlink_messages.specs.Steps.{two, three, four};
 
@@ -14,14 +14,14 @@ pub struct Three(pub u8, pub u8, pub u8);
 pub struct Four(pub u8, pub u8, pub u8, pub u8);
 
 pub fn little_16(number: u16) -> Two
-    ensures { two result ≡ runOctets (low 2) (number ∷ []) }
+    ensures { two result ≡ run_octets (low 2) (number ∷ []) }
 {
     Two((number % 256) as u8, (number / 256) as u8)
 }
 
 pub fn little_24(number: u32) -> Three
     requires { number < 16777216 }
-    ensures { three result ≡ runOctets (low 3) (number ∷ []) }
+    ensures { three result ≡ run_octets (low 3) (number ∷ []) }
 {
     let rest = number % 65536;
     Three(
@@ -32,7 +32,7 @@ pub fn little_24(number: u32) -> Three
 }
 
 pub fn little_32(number: u32) -> Four
-    ensures { four result ≡ runOctets (low 4) (number ∷ []) }
+    ensures { four result ≡ run_octets (low 4) (number ∷ []) }
 {
     let rest = number % 16777216;
     let last = rest % 65536;
@@ -45,13 +45,13 @@ pub fn little_32(number: u32) -> Four
 }
 
 pub fn signed_16(number: i16) -> Two
-    ensures { two result ≡ runOctets (low 2) (complement 32768 number ∷ []) }
+    ensures { two result ≡ run_octets (low 2) (complement 32768 number ∷ []) }
 {
     little_16(field_signed::bits_16(number))
 }
 
 pub fn signed_32(number: i32) -> Four
-    ensures { four result ≡ runOctets (low 4) (complement 2147483648 number ∷ []) }
+    ensures { four result ≡ run_octets (low 4) (complement 2147483648 number ∷ []) }
 {
     little_32(field_signed::bits_32(number))
 }

@@ -1,6 +1,6 @@
 // The ranges of the fields of the MAVLink kinds.
 ghost use Rattle.std.specs.Prelude.{◌≡◌};
-ghost use Rattle.mavlink_messages.specs.Ranges.{staticFits, dynamicFits, trafficFits};
+ghost use Rattle.mavlink_messages.specs.Ranges.{static_fits, dynamic_fits, traffic_fits};
 
 use field_layout::Text;
 
@@ -14,7 +14,7 @@ pub fn static_fits(
     lateral: u8,
     longitudinal: u8,
 ) -> bool
-    ensures { result ≡ staticFits address callsign capability emitter size lateral longitudinal }
+    ensures { result ≡ static_fits address callsign capability emitter size lateral longitudinal }
 {
     let text = field_layout::text_octets(callsign);
     (address < 16777216)
@@ -28,14 +28,14 @@ pub fn static_fits(
 
 // Whether those of 202 are.
 pub fn dynamic_fits(squawk: u16, fix: u8) -> bool
-    ensures { result ≡ dynamicFits squawk fix }
+    ensures { result ≡ dynamic_fits squawk fix }
 {
     field_codes::is_squawk(squawk) & (fix <= 5)
 }
 
 // Whether those of 246 are.
 pub fn traffic_fits(squawk: u16) -> bool
-    ensures { result ≡ trafficFits squawk }
+    ensures { result ≡ traffic_fits squawk }
 {
     field_codes::is_squawk(squawk) | (squawk == 65535)
 }

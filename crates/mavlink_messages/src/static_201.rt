@@ -1,13 +1,13 @@
 // Message 201, the static data of an aircraft.
 ghost use Rattle.std.specs.Prelude.{◌≡◌, ◌<◌, length};
-ghost use Rattle.field_format.specs.Format.{body_of, valueIn};
-ghost use Rattle.mavlink_messages.specs.Static201.{staticFormat};
+ghost use Rattle.field_format.specs.Format.{body_of, value_in};
+ghost use Rattle.mavlink_messages.specs.Static201.{static_format};
 
 use super::Static;
 
 pub fn read(payload: &[u8]) -> Static
     requires { length payload.now ≡ 19 }
-    ensures { result ≡ valueIn staticFormat payload.now }
+    ensures { result ≡ value_in static_format payload.now }
 {
     Static {
         icao: field_layout::little_24(payload, 0),
@@ -23,7 +23,7 @@ pub fn read(payload: &[u8]) -> Static
 }
 
 pub fn in_range(static_data: Static) -> bool
-    ensures { result ≡ staticFormat.ranges static_data }
+    ensures { result ≡ static_format.ranges static_data }
 {
     super::ranges::static_fits(
         static_data.icao,
@@ -38,7 +38,7 @@ pub fn in_range(static_data: Static) -> bool
 
 pub fn octets(static_data: Static) -> [u8; 19]
     requires { static_data.icao < 16777216 }
-    ensures { result ≡ body_of staticFormat static_data }
+    ensures { result ≡ body_of static_format static_data }
 {
     let address = super::numbers::little_24(static_data.icao);
     let stall = super::numbers::little_16(static_data.stall_speed);

@@ -1,13 +1,13 @@
 // Message 246, a report of traffic.
 ghost use Rattle.std.specs.Prelude.{◌≡◌, length, take, drop};
-ghost use Rattle.field_format.specs.Format.{body_of, valueIn};
-ghost use Rattle.mavlink_messages.specs.Traffic246.{trafficFormat};
+ghost use Rattle.field_format.specs.Format.{body_of, value_in};
+ghost use Rattle.mavlink_messages.specs.Traffic246.{traffic_format};
 
 use super::Traffic;
 
 pub fn read(payload: &[u8]) -> Traffic
     requires { length payload.now ≡ 38 }
-    ensures { result ≡ valueIn trafficFormat payload.now }
+    ensures { result ≡ value_in traffic_format payload.now }
 {
     Traffic {
         icao_address: field_layout::little_32(payload, 0),
@@ -28,13 +28,13 @@ pub fn read(payload: &[u8]) -> Traffic
 }
 
 pub fn in_range(traffic: Traffic) -> bool
-    ensures { result ≡ trafficFormat.ranges traffic }
+    ensures { result ≡ traffic_format.ranges traffic }
 {
     super::ranges::traffic_fits(traffic.squawk)
 }
 
 pub fn octets(traffic: Traffic) -> [u8; 38]
-    ensures { result ≡ body_of trafficFormat traffic }
+    ensures { result ≡ body_of traffic_format traffic }
 {
     let first = first_octets(traffic);
     let last = last_octets(traffic);
@@ -45,7 +45,7 @@ pub fn octets(traffic: Traffic) -> [u8; 38]
 
 // The numbers of 32 bits, which come first.
 fn first_octets(traffic: Traffic) -> [u8; 16]
-    ensures { result ≡ take 16 (body_of trafficFormat traffic) }
+    ensures { result ≡ take 16 (body_of traffic_format traffic) }
 {
     let address = super::numbers::little_32(traffic.icao_address);
     let latitude = super::numbers::signed_32(traffic.lat);
@@ -73,7 +73,7 @@ fn first_octets(traffic: Traffic) -> [u8; 16]
 
 // The numbers of 16 bits, and the single octets.
 fn last_octets(traffic: Traffic) -> [u8; 22]
-    ensures { result ≡ drop 16 (body_of trafficFormat traffic) }
+    ensures { result ≡ drop 16 (body_of traffic_format traffic) }
 {
     let heading = super::numbers::little_16(traffic.heading);
     let speed = super::numbers::little_16(traffic.hor_velocity);

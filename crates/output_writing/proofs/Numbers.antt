@@ -4,8 +4,8 @@ use mathlib.Core.List.{List}
 use Prim.Native.Nat.{ℕ}
 use Rattle.output_writing.specs.declared.Written.{Written}
 use Rattle.output_writing.specs.declared.OstrogoszWritten.{OstrogoszWritten}
-use Rattle.output_writing.specs.Writing.{WriterAnswer, writerAnswer, outputAfter, Writing, writtenNumbers, WritingNumbers}
+use Rattle.output_writing.specs.Writing.{WriterAnswer, writer_answer, output_after, Writing, written_numbers, WritingNumbers}
 
-pub as-numbers : {due : WriterAnswer} {octets output after : List ℕ} {answer : Written} {given : OstrogoszWritten}
-    → given ≡ writtenNumbers (writerAnswer answer) → Writing due octets output answer after → WritingNumbers due octets output given after
-as-numbers e w = record { answers = e ∙ ap writtenNumbers w.answers; leaves = w.leaves ∙ ap (outputAfter _ _) w.answers }
+pub as_numbers : {due : WriterAnswer} {octets output after : List ℕ} {answer : Written} {given : OstrogoszWritten}
+    → given ≡ written_numbers (writer_answer answer) → Writing due octets output answer after → WritingNumbers due octets output given after
+as_numbers e w = record { answers = e ∙ ap written_numbers w.answers; leaves = w.leaves ∙ ap (output_after _ _) w.answers }

@@ -5,7 +5,7 @@ use Prim.Native.Nat.{ℕ, ◌+◌, ◌≤◌}
 use native.Mathlib.Omega.{arith}
 use lib.ListN.{length, length-append}
 use lib.Seq.{sets, length-sets}
-use Rattle.field_words.proofs.Sets.{sets-append}
+use Rattle.field_words.proofs.Sets.{sets_append}
 use Rattle.output_writing.specs.Puts.{Puts}
 
 -- there is room for them, they end at `end`, and once they are put the output is `final`
@@ -14,28 +14,28 @@ pub record ToPut (output : List ℕ) (at : ℕ) (octets : List ℕ) (end : ℕ) 
   pub ends : at + length octets ≡ end
   pub gives : sets output at octets ≡ final
 
-pub all-to-put : (output : List ℕ) (at : ℕ) {octets same : List ℕ} → same ≡ octets → at + length octets ≤ length output
+pub all_to_put : (output : List ℕ) (at : ℕ) {octets same : List ℕ} → same ≡ octets → at + length octets ≤ length output
     → ToPut output at same (at + length octets) (sets output at octets)
-all-to-put output at e h = record { room = h; ends = ap (λ (l : List ℕ). at + length l) e; gives = ap (sets output at) e }
+all_to_put output at e h = record { room = h; ends = ap (λ (l : List ℕ). at + length l) e; gives = ap (sets output at) e }
 
 module _ {output : List ℕ} {at end : ℕ} {final : List ℕ} (us vs : List ℕ) (t : ToPut output at (us ++ vs) end final) where
   -- there is room for the first of them
-  pub first-room : at + length us ≤ length output
-  first-room = omega (arith, t.room, simp length-append at t.ends)
+  pub first_room : at + length us ≤ length output
+  first_room = omega (arith, t.room, simp length-append at t.ends)
 
   -- the first of them are put
-  pub first-put : {next : ℕ} {after : List ℕ} → Puts output at us next after → ToPut after next vs end final
-  first-put {next} {after} p = record {
+  pub first_put : {next : ℕ} {after : List ℕ} → Puts output at us next after → ToPut after next vs end final
+  first_put {next} {after} p = record {
     room = omega (arith, t.room, ap length p.leaves ∙ length-sets output at us);
     ends = omega (arith, p.ends, simp length-append at t.ends);
     gives =
-        ap₂ (λ (l : List ℕ) (n : ℕ). sets l n vs) p.leaves p.ends ∙ sym (sets-append output at us vs) ∙ t.gives;
+        ap₂ (λ (l : List ℕ) (n : ℕ). sets l n vs) p.leaves p.ends ∙ sym (sets_append output at us vs) ∙ t.gives;
   }
 
 module _ {output octets : List ℕ} {at end : ℕ} {final : List ℕ} (t : ToPut output at octets end final) where
-  pub last-room : at + length octets ≤ length output
-  last-room = omega (arith, t.room, t.ends)
+  pub last_room : at + length octets ≤ length output
+  last_room = omega (arith, t.room, t.ends)
 
   -- all of them are put
-  pub last-put : {next : ℕ} {after : List ℕ} → Puts output at octets next after → (next ≡ end) × (after ≡ final)
-  last-put p = (p.ends ∙ t.ends, p.leaves ∙ t.gives)
+  pub last_put : {next : ℕ} {after : List ℕ} → Puts output at octets next after → (next ≡ end) × (after ≡ final)
+  last_put p = (p.ends ∙ t.ends, p.leaves ∙ t.gives)

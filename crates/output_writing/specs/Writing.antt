@@ -12,32 +12,32 @@ pub data WriterAnswer : Type 0 where
   wrote : ℕ → WriterAnswer
 
 -- the paper's number and values of each case
-abbrev pub writerAnswer : Written → WriterAnswer
-writerAnswer (Refused number) = refused number
-writerAnswer (Wrote octets) = wrote octets
+abbrev pub writer_answer : Written → WriterAnswer
+writer_answer (Refused number) = refused number
+writer_answer (Wrote octets) = wrote octets
 
 -- the last test of every writer: 8 for an output shorter than so many octets, else they are written
 abbrev pub room_for : ℕ → List ℕ → WriterAnswer
-room_for octets output = cond (ltb (length output) octets) (refused because.outputLength) (wrote octets)
+room_for octets output = cond (ltb (length output) octets) (refused because.output_length) (wrote octets)
 
 -- what the output then holds: what it held, where the call is refused; else the octets, and behind them what it held
-abbrev pub outputAfter : List ℕ → List ℕ → WriterAnswer → List ℕ
-outputAfter octets output (refused number) = output
-outputAfter octets output (wrote n) = octets ++ drop n output
+abbrev pub output_after : List ℕ → List ℕ → WriterAnswer → List ℕ
+output_after octets output (refused number) = output
+output_after octets output (wrote n) = octets ++ drop n output
 
 -- one call, whole: the answer that is due, the octets to write and the output as at entry; the answer, and the output as at
 -- return
 pub record Writing (due : WriterAnswer) (octets output : List ℕ) (answer : Written) (after : List ℕ) : Type 0 where
-  pub answers : writerAnswer answer ≡ due
-  pub leaves : after ≡ outputAfter octets output (writerAnswer answer)
+  pub answers : writer_answer answer ≡ due
+  pub leaves : after ≡ output_after octets output (writer_answer answer)
 
 -- a refusal's number and no length; or no refusal, and how many octets were written
-abbrev pub writtenNumbers : WriterAnswer → OstrogoszWritten
-writtenNumbers (refused number) = record { refusal = number; length = 0 }
-writtenNumbers (wrote octets) = record { refusal = 0; length = octets }
+abbrev pub written_numbers : WriterAnswer → OstrogoszWritten
+written_numbers (refused number) = record { refusal = number; length = 0 }
+written_numbers (wrote octets) = record { refusal = 0; length = octets }
 
 -- one call, whole: the answer that is due, the octets to write and the output as at entry; what is given back, and the output
 -- as at return
 pub record WritingNumbers (due : WriterAnswer) (octets output : List ℕ) (given : OstrogoszWritten) (after : List ℕ) : Type 0 where
-  pub answers : given ≡ writtenNumbers due
-  pub leaves : after ≡ outputAfter octets output due
+  pub answers : given ≡ written_numbers due
+  pub leaves : after ≡ output_after octets output due

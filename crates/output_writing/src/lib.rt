@@ -1,8 +1,8 @@
 // What a writer answers: of frames, of bodies and of MAVLink frames.
 ghost use Rattle.std.specs.Prelude.{◌≡◌};
-ghost use Rattle.output_writing.specs.Writing.{writerAnswer, writtenNumbers};
+ghost use Rattle.output_writing.specs.Writing.{writer_answer, written_numbers};
 
-// A writer's answer. `writerAnswer` of specs/Writing.antt gives the paper's number and values of each case.
+// A writer's answer. `writer_answer` of specs/Writing.antt gives the paper's number and values of each case.
 #[derive(Drop)]
 pub enum Written {
     // Accepted: how many octets were written.
@@ -22,7 +22,7 @@ pub struct OstrogoszWritten {
 }
 
 pub fn in_numbers(written: Written) -> OstrogoszWritten
-    ensures { result ≡ writtenNumbers (writerAnswer written) }
+    ensures { result ≡ written_numbers (writer_answer written) }
 {
     match written {
         Written::Wrote(octets) => OstrogoszWritten {

@@ -1,28 +1,28 @@
 -- The refusals' numbers, each named once for all definitions (document 01, the table). Definitions import this module as
--- `because`: `refused because.wrongCheck`. Assumes nothing.
+-- `because`: `refused because.wrong_check`. Assumes nothing.
 use Rattle.std.specs.Prelude.{ℕ}
 
 -- ---- the receiver
 
 -- 7D followed by an octet other than 5D, 5E, 7E
-abbrev pub badEscape : ℕ
-badEscape = 1
+abbrev pub bad_escape : ℕ
+bad_escape = 1
 
 -- 7D directly before the closing flag
-abbrev pub escapeBeforeFlag : ℕ
-escapeBeforeFlag = 2
+abbrev pub escape_before_flag : ℕ
+escape_before_flag = 2
 
 -- more than 438 unstuffed octets
-abbrev pub tooLong : ℕ
-tooLong = 3
+abbrev pub too_long : ℕ
+too_long = 3
 
 -- fewer than 3 unstuffed octets
-abbrev pub tooShort : ℕ
-tooShort = 4
+abbrev pub too_short : ℕ
+too_short = 4
 
 -- check wrong
-abbrev pub wrongCheck : ℕ
-wrongCheck = 5
+abbrev pub wrong_check : ℕ
+wrong_check = 5
 
 -- lent output shorter than the body; the frame is lost
 abbrev pub room : ℕ
@@ -31,22 +31,22 @@ room = 6
 -- ---- writers
 
 -- a body of 0 or more than 436 octets
-abbrev pub bodyLength : ℕ
-bodyLength = 7
+abbrev pub body_length : ℕ
+body_length = 7
 
 -- output shorter than the frame or body it writes
-abbrev pub outputLength : ℕ
-outputLength = 8
+abbrev pub output_length : ℕ
+output_length = 8
 
 -- ---- messages of the UCP line
 
 -- unknown ID, or empty body
-abbrev pub unknownId : ℕ
-unknownId = 10
+abbrev pub unknown_id : ℕ
+unknown_id = 10
 
 -- length not the kind's
-abbrev pub messageLength : ℕ
-messageLength = 11
+abbrev pub message_length : ℕ
+message_length = 11
 
 -- wrong version, signature or subtype
 abbrev pub fixed : ℕ
@@ -59,25 +59,25 @@ field = 13
 -- ---- MAVLink
 
 -- too few octets
-abbrev pub mavlinkShort : ℕ
-mavlinkShort = 20
+abbrev pub mavlink_short : ℕ
+mavlink_short = 20
 
 -- first octet not FE
-abbrev pub mavlinkStart : ℕ
-mavlinkStart = 21
+abbrev pub mavlink_start : ℕ
+mavlink_start = 21
 
 -- unknown message ID
-abbrev pub mavlinkUnknownId : ℕ
-mavlinkUnknownId = 22
+abbrev pub mavlink_unknown_id : ℕ
+mavlink_unknown_id = 22
 
 -- length octet not the kind's
-abbrev pub mavlinkLength : ℕ
-mavlinkLength = 23
+abbrev pub mavlink_length : ℕ
+mavlink_length = 23
 
 -- check wrong
-abbrev pub mavlinkWrongCheck : ℕ
-mavlinkWrongCheck = 24
+abbrev pub mavlink_wrong_check : ℕ
+mavlink_wrong_check = 24
 
 -- a field outside its range
-abbrev pub mavlinkField : ℕ
-mavlinkField = 25
+abbrev pub mavlink_field : ℕ
+mavlink_field = 25

@@ -27,8 +27,8 @@ pub wider : (w : Width) → 2 ^ hbits w ≤ 2 ^ hbits w64 → (z : ℤ) → SFit
 wider w h z f = record { sfits = omega (arith, f.sfits) }
 
 -- less 1000
-pub less-fits : (n : ℕ) → n < 2 ^ hbits w64 → SFits w64 (pos n -ℤ pos 1000)
-less-fits n h = record { sfits = go (ltb n 1000) }
+pub less_fits : (n : ℕ) → n < 2 ^ hbits w64 → SFits w64 (pos n -ℤ pos 1000)
+less_fits n h = record { sfits = go (ltb n 1000) }
   where
     go : (t : Bool) → mag (cond t (negsuc (1000 - suc n)) (pos (n - 1000))) < 2 ^ hbits w64
     go true = omega arith

@@ -16,9 +16,9 @@ pub signed : (w : Width) (z : ℤ) → mag z < 2 ^ hbits w → to_z w (of_z w z)
 signed w z h = to_z-of_z w z (record { sfits = h })
 
 -- a truth as 0 or 1
-pub truth-back : (b : Bool) → eqb (bool_byte b) 1 ≡ b
-truth-back true = refl
-truth-back false = refl
+pub truth_back : (b : Bool) → eqb (bool_byte b) 1 ≡ b
+truth_back true = refl
+truth_back false = refl
 
 -- what is put, in other terms
 pub put_as : {before : List ℕ} {at : ℕ} {us vs : List ℕ} {next : ℕ} {after : List ℕ}

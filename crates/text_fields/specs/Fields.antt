@@ -1,14 +1,14 @@
 -- How a field is shown: its label, and its value in users' units. Assumes nothing.
 use Prim.Native.String.{String}
 use Rattle.std.specs.Prelude.{Bool, cond, List, [], ◌∷◌, ◌++◌, ℕ, eqb, ℤ, pos, negsuc}
-use Rattle.ucp_meanings.specs.Meanings.{Meaning, noData, value as meantValue, altitudeMeans, rateMeans, geometricMeans, degreesE7}
+use Rattle.ucp_meanings.specs.Meanings.{Meaning, no_data, value as meant_value, altitude_means, rate_means, geometric_means, degrees_e7}
 use Rattle.field_layout.specs.declared.Text.{Text}
-use Rattle.field_layout.specs.Layout.{textOctets}
+use Rattle.field_layout.specs.Layout.{text_octets}
 use Rattle.text_output.specs.declared.Printing.TheVariants.{Escaped}
 use Rattle.text_output.specs.declared.Base.TheVariants.{Decimal, Hexadecimal}
 use Rattle.text_output.specs.declared.Scale.{Scale}
 use Rattle.text_output.specs.declared.Scale.TheVariants.{Ones, TenMillionths}
-use Rattle.text_output.specs.Text.{codes, printed, natural, padded, fixedPoint}
+use Rattle.text_output.specs.Text.{codes, printed, natural, padded, fixed_point}
 use Rattle.text_fields.specs.declared.Reading.{Reading}
 use Rattle.text_fields.specs.declared.Reading.TheVariants.{NoData, Known}
 use Rattle.text_fields.specs.declared.Unit.{Unit}
@@ -22,23 +22,23 @@ unless mark (pos n) = cond (eqb n mark) NoData (Known (pos n))
 unless mark (negsuc n) = Known (negsuc n)
 
 -- what a raw number means
-abbrev pub meantReading : Meaning → Reading
-meantReading noData = NoData
-meantReading (meantValue z) = Known z
+abbrev pub meant_reading : Meaning → Reading
+meant_reading no_data = NoData
+meant_reading (meant_value z) = Known z
 
 -- behind a number
-abbrev pub unitShown : Unit → List ℕ
-unitShown Bare = []
-unitShown Seconds = codes " seconds"
-unitShown Feet = codes " feet"
-unitShown FeetPerMinute = codes " feet per minute"
-unitShown Knots = codes " knots"
-unitShown Metres = codes " metres"
-unitShown MetresPerSecond = codes " metres per second"
+abbrev pub unit_shown : Unit → List ℕ
+unit_shown Bare = []
+unit_shown Seconds = codes " seconds"
+unit_shown Feet = codes " feet"
+unit_shown FeetPerMinute = codes " feet per minute"
+unit_shown Knots = codes " knots"
+unit_shown Metres = codes " metres"
+unit_shown MetresPerSecond = codes " metres per second"
 
-abbrev pub readingShown : Scale → Unit → Reading → List ℕ
-readingShown scale unit NoData = codes "no data"
-readingShown scale unit (Known z) = fixedPoint scale z ++ unitShown unit
+abbrev pub reading_shown : Scale → Unit → Reading → List ℕ
+reading_shown scale unit NoData = codes "no data"
+reading_shown scale unit (Known z) = fixed_point scale z ++ unit_shown unit
 
 -- ---- values
 
@@ -56,30 +56,30 @@ pub data Value : Type 0 where
 
 unfoldable pub shown : Value → List ℕ
 shown (number n) = natural n
-shown (reading scale unit r) = readingShown scale unit r
+shown (reading scale unit r) = reading_shown scale unit r
 shown (squawk n) = padded Decimal 4 n
 shown (hexadecimal digits n) = padded Hexadecimal digits n
 shown (quoted octets) = codes "\"" ++ (printed Escaped octets ++ codes "\"")
 shown (truth b) = cond b (codes "yes") (codes "no")
 shown none = codes "none"
 
-abbrev pub quotedText : Text → Value
-quotedText t = quoted (textOctets t)
+abbrev pub quoted_text : Text → Value
+quoted_text t = quoted (text_octets t)
 
 -- ---- the raw numbers of messages 10, 11 and 20
 
-abbrev pub reportAltitude : ℕ → Value
-reportAltitude n = reading Ones Feet (meantReading (altitudeMeans n))
+abbrev pub report_altitude : ℕ → Value
+report_altitude n = reading Ones Feet (meant_reading (altitude_means n))
 
 abbrev pub rate : ℤ → Value
-rate z = reading Ones FeetPerMinute (meantReading (rateMeans z))
+rate z = reading Ones FeetPerMinute (meant_reading (rate_means z))
 
-abbrev pub geometricAltitude : ℤ → Value
-geometricAltitude z = reading Ones Feet (Known (geometricMeans z))
+abbrev pub geometric_altitude : ℤ → Value
+geometric_altitude z = reading Ones Feet (Known (geometric_means z))
 
 -- in degrees
 abbrev pub angle : ℤ → Value
-angle z = reading TenMillionths Bare (Known (degreesE7 z))
+angle z = reading TenMillionths Bare (Known (degrees_e7 z))
 
 -- ---- fields
 
@@ -87,8 +87,8 @@ angle z = reading TenMillionths Bare (Known (degreesE7 z))
 abbrev pub labelled : List ℕ → List ℕ
 labelled label = codes " " ++ (label ++ codes " ")
 
-abbrev pub fieldShown : List ℕ → Value → List ℕ
-fieldShown label value = labelled label ++ shown value
+abbrev pub field_shown : List ℕ → Value → List ℕ
+field_shown label value = labelled label ++ shown value
 
 pub record Labelled : Type 0 where
   pub label : List ℕ
@@ -99,6 +99,6 @@ abbrev pub ◌is◌ : String → Value → Labelled
 label is value = record { label = codes label; value = value }
 
 -- fields one after the other
-unfoldable pub fieldsShown : List Labelled → List ℕ
-fieldsShown [] = []
-fieldsShown (p ∷ ps) = fieldShown p.label p.value ++ fieldsShown ps
+unfoldable pub fields_shown : List Labelled → List ℕ
+fields_shown [] = []
+fields_shown (p ∷ ps) = field_shown p.label p.value ++ fields_shown ps

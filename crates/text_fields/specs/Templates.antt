@@ -13,7 +13,7 @@ use Rattle.text_fields.specs.declared.Reading.{Reading}
 use Rattle.text_fields.specs.declared.Reading.TheVariants.{Known}
 use Rattle.text_fields.specs.declared.Unit.{Unit}
 use Rattle.text_fields.specs.declared.Unit.TheVariants.{Bare, Seconds, Knots, Metres, MetresPerSecond}
-use Rattle.text_fields.specs.Fields.{unless, Value, number, reading, squawk, hexadecimal, quoted, truth, none, shown, reportAltitude, rate, geometricAltitude, angle}
+use Rattle.text_fields.specs.Fields.{unless, Value, number, reading, squawk, hexadecimal, quoted, truth, none, shown, report_altitude, rate, geometric_altitude, angle}
 
 -- whether an octet is a character
 abbrev pub is : String → ℕ → Bool
@@ -33,74 +33,74 @@ unit_of x = cond (is "s" x) Seconds (cond (is "k" x) Knots (cond (is "m" x) Metr
 abbrev pub mark_of : ℕ → ℕ
 mark_of x = cond (is "b" x) 255 (cond (is "k" x) 4095 (cond (is "w" x) 65535 4294967295))
 
-abbrev pub naturalReading : ℕ → ℕ → Reading
-naturalReading mark n = cond (is "." mark) (Known (pos n)) (unless (mark_of mark) (pos n))
+abbrev pub natural_reading : ℕ → ℕ → Reading
+natural_reading mark n = cond (is "." mark) (Known (pos n)) (unless (mark_of mark) (pos n))
 
-abbrev pub shortReading : ℕ → ℤ → Reading
-shortReading mark z = cond (is "." mark) (Known z) (unless 32767 z)
+abbrev pub short_reading : ℕ → ℤ → Reading
+short_reading mark z = cond (is "." mark) (Known z) (unless 32767 z)
 
-abbrev pub longReading : ℕ → ℤ → Reading
-longReading mark z = cond (is "." mark) (Known z) (unless 2147483647 z)
+abbrev pub long_reading : ℕ → ℤ → Reading
+long_reading mark z = cond (is "." mark) (Known z) (unless 2147483647 z)
 
 -- a code of four digits; where 65535 is the mark, that is none
-abbrev pub squawkValue : ℕ → ℕ → Value
-squawkValue mark n = cond (is "w" mark && eqb n 65535) none (squawk n)
+abbrev pub squawk_value : ℕ → ℕ → Value
+squawk_value mark n = cond (is "w" mark && eqb n 65535) none (squawk n)
 
 -- ---- the value of a code: 'n' a number, 'x' hexadecimal, 'q' a squawk, 'y' yes or no, and what messages 10, 11 and 20 mean by
 -- an altitude, a rate, a geometric altitude and an angle; else a reading in a unit
 
-abbrev pub naturalValue : ℕ → ℕ → ℕ → ℕ → Value
-naturalValue what scale mark n =
+abbrev pub natural_value : ℕ → ℕ → ℕ → ℕ → Value
+natural_value what scale mark n =
     cond (is "n" what) (number n)
     (cond (is "x" what) (hexadecimal (scale % 16) n)
-    (cond (is "q" what) (squawkValue mark n)
+    (cond (is "q" what) (squawk_value mark n)
     (cond (is "y" what) (truth (eqb n 1))
-    (cond (is "a" what) (reportAltitude n)
-    (reading (scale_of scale) (unit_of what) (naturalReading mark n))))))
+    (cond (is "a" what) (report_altitude n)
+    (reading (scale_of scale) (unit_of what) (natural_reading mark n))))))
 
-abbrev pub shortValue : ℕ → ℕ → ℕ → ℤ → Value
-shortValue what scale mark z =
+abbrev pub short_value : ℕ → ℕ → ℕ → ℤ → Value
+short_value what scale mark z =
     cond (is "r" what) (rate z)
-    (cond (is "g" what) (geometricAltitude z)
-    (reading (scale_of scale) (unit_of what) (shortReading mark z)))
+    (cond (is "g" what) (geometric_altitude z)
+    (reading (scale_of scale) (unit_of what) (short_reading mark z)))
 
-abbrev pub longValue : ℕ → ℕ → ℕ → ℤ → Value
-longValue what scale mark z = cond (is "a" what) (angle z) (reading (scale_of scale) (unit_of what) (longReading mark z))
+abbrev pub long_value : ℕ → ℕ → ℕ → ℤ → Value
+long_value what scale mark z = cond (is "a" what) (angle z) (reading (scale_of scale) (unit_of what) (long_reading mark z))
 
 -- the value of the code that some octets begin with
-abbrev pub naturalCode : List ℕ → ℕ → Value
-naturalCode xs n = naturalValue (get_or xs 1 0) (get_or xs 2 0) (get_or xs 3 0) n
+abbrev pub natural_code : List ℕ → ℕ → Value
+natural_code xs n = natural_value (get_or xs 1 0) (get_or xs 2 0) (get_or xs 3 0) n
 
-abbrev pub shortCode : List ℕ → ℤ → Value
-shortCode xs z = shortValue (get_or xs 1 0) (get_or xs 2 0) (get_or xs 3 0) z
+abbrev pub short_code : List ℕ → ℤ → Value
+short_code xs z = short_value (get_or xs 1 0) (get_or xs 2 0) (get_or xs 3 0) z
 
-abbrev pub longCode : List ℕ → ℤ → Value
-longCode xs z = longValue (get_or xs 1 0) (get_or xs 2 0) (get_or xs 3 0) z
+abbrev pub long_code : List ℕ → ℤ → Value
+long_code xs z = long_value (get_or xs 1 0) (get_or xs 2 0) (get_or xs 3 0) z
 
 -- ---- templates
 
 -- '@' is for the octets, and any other octet stands for itself
-abbrev pub plainPiece : ℕ → List ℕ → List ℕ
-plainPiece x octets = cond (is "@" x) (shown (quoted octets)) (x ∷ [])
+abbrev pub plain_piece : ℕ → List ℕ → List ℕ
+plain_piece x octets = cond (is "@" x) (shown (quoted octets)) (x ∷ [])
 
 -- what the first octet of some stands for
 abbrev pub piece : List ℕ → ℕ → ℤ → ℤ → List ℕ → List ℕ
 piece xs n s l octets =
-    cond (is "%" (get_or xs 0 0)) (shown (naturalCode xs n))
-    (cond (is "&" (get_or xs 0 0)) (shown (shortCode xs s))
-    (cond (is "$" (get_or xs 0 0)) (shown (longCode xs l))
-    (plainPiece (get_or xs 0 0) octets)))
+    cond (is "%" (get_or xs 0 0)) (shown (natural_code xs n))
+    (cond (is "&" (get_or xs 0 0)) (shown (short_code xs s))
+    (cond (is "$" (get_or xs 0 0)) (shown (long_code xs l))
+    (plain_piece (get_or xs 0 0) octets)))
 
 -- how many octets behind it are of its code
-abbrev pub codeTail : ℕ → ℕ
-codeTail x = cond (is "%" x) 3 (cond (is "&" x) 3 (cond (is "$" x) 3 0))
+abbrev pub code_tail : ℕ → ℕ
+code_tail x = cond (is "%" x) 3 (cond (is "&" x) 3 (cond (is "$" x) 3 0))
 
 -- what is left of some numbers, where a code takes one
-abbrev pub afterNatural : Bool → List ℕ → List ℕ
-afterNatural b ns = cond b (drop 1 ns) ns
+abbrev pub after_natural : Bool → List ℕ → List ℕ
+after_natural b ns = cond b (drop 1 ns) ns
 
-abbrev pub afterInteger : Bool → List ℤ → List ℤ
-afterInteger b zs = cond b (drop 1 zs) zs
+abbrev pub after_integer : Bool → List ℤ → List ℤ
+after_integer b zs = cond b (drop 1 zs) zs
 
 -- a template filled in, once some of its octets are passed over: each code takes the next number of its own kind
 unfoldable pub filled : ℕ → List ℕ → List ℕ → List ℤ → List ℤ → List ℕ → List ℕ
@@ -108,4 +108,4 @@ filled skip [] ns ss ls octets = []
 filled (suc skip) (x ∷ xs) ns ss ls octets = filled skip xs ns ss ls octets
 filled zero (x ∷ xs) ns ss ls octets =
     piece (x ∷ xs) (get_or ns 0 0) (get_or ss 0 (pos 0)) (get_or ls 0 (pos 0)) octets
-    ++ filled (codeTail x) xs (afterNatural (is "%" x) ns) (afterInteger (is "&" x) ss) (afterInteger (is "$" x) ls) octets
+    ++ filled (code_tail x) xs (after_natural (is "%" x) ns) (after_integer (is "&" x) ss) (after_integer (is "$" x) ls) octets

@@ -3,10 +3,10 @@ mod readings;
 
 ghost use Rattle.std.specs.Prelude.{◌≡◌, ◌+◌, min, length, get_or, pos};
 ghost use Rattle.text_fields.specs.declared.Reading.TheVariants.{Known};
-ghost use Rattle.field_layout.specs.Layout.{textOctets};
+ghost use Rattle.field_layout.specs.Layout.{text_octets};
 ghost use Rattle.text_output.specs.Clips.{Clips};
-ghost use Rattle.text_fields.specs.Fields.{unitShown, readingShown, quoted, truth, shown};
-ghost use Rattle.text_fields.specs.Templates.{scale_of, unit_of, squawkValue, naturalValue, shortValue, longValue, naturalCode, shortCode, longCode, plainPiece, filled};
+ghost use Rattle.text_fields.specs.Fields.{unit_shown, reading_shown, quoted, truth, shown};
+ghost use Rattle.text_fields.specs.Templates.{scale_of, unit_of, squawk_value, natural_value, short_value, long_value, natural_code, short_code, long_code, plain_piece, filled};
 
 use field_layout::Text;
 use readings::{long_reading, natural_reading, short_reading};
@@ -34,7 +34,7 @@ pub enum Unit {
 // ---- values
 
 fn put_unit(text: &mut TextRoom, at: usize, unit: Unit) -> usize
-    ensures { Clips text.old at (unitShown unit) result text.new }
+    ensures { Clips text.old at (unit_shown unit) result text.new }
 {
     match unit {
         Unit::Bare => put_nothing(text, at),
@@ -48,14 +48,14 @@ fn put_unit(text: &mut TextRoom, at: usize, unit: Unit) -> usize
 }
 
 fn put_known(text: &mut TextRoom, at: usize, scale: Scale, unit: Unit, n: i64) -> usize
-    ensures { Clips text.old at (readingShown scale unit (Known n)) result text.new }
+    ensures { Clips text.old at (reading_shown scale unit (Known n)) result text.new }
 {
     let at = text_output::put_fixed(text, at, scale, n);
     put_unit(text, at, unit)
 }
 
 fn put_reading(text: &mut TextRoom, at: usize, scale: Scale, unit: Unit, reading: Reading) -> usize
-    ensures { Clips text.old at (readingShown scale unit reading) result text.new }
+    ensures { Clips text.old at (reading_shown scale unit reading) result text.new }
 {
     match reading {
         Reading::NoData => put_word(text, at, b"no data"),
@@ -81,7 +81,7 @@ fn put_truth(text: &mut TextRoom, at: usize, value: bool) -> usize
 }
 
 fn put_squawk(text: &mut TextRoom, at: usize, mark: u8, n: u32) -> usize
-    ensures { Clips text.old at (shown (squawkValue mark n)) result text.new }
+    ensures { Clips text.old at (shown (squawk_value mark n)) result text.new }
 {
     if (mark == b'w') & (n == 65535) {
         return put_word(text, at, b"none");
@@ -125,7 +125,7 @@ fn unit_of(code: u8) -> Unit
 }
 
 fn put_natural_value(text: &mut TextRoom, at: usize, what: u8, scale: u8, mark: u8, n: u32) -> usize
-    ensures { Clips text.old at (shown (naturalValue what scale mark n)) result text.new }
+    ensures { Clips text.old at (shown (natural_value what scale mark n)) result text.new }
 {
     if what == b'n' {
         return text_output::put_natural(text, at, n as u64);
@@ -147,7 +147,7 @@ fn put_natural_value(text: &mut TextRoom, at: usize, what: u8, scale: u8, mark: 
 }
 
 fn put_short_value(text: &mut TextRoom, at: usize, what: u8, scale: u8, mark: u8, n: i16) -> usize
-    ensures { Clips text.old at (shown (shortValue what scale mark n)) result text.new }
+    ensures { Clips text.old at (shown (short_value what scale mark n)) result text.new }
 {
     if what == b'r' {
         return put_reading(
@@ -166,7 +166,7 @@ fn put_short_value(text: &mut TextRoom, at: usize, what: u8, scale: u8, mark: u8
 }
 
 fn put_long_value(text: &mut TextRoom, at: usize, what: u8, scale: u8, mark: u8, n: i32) -> usize
-    ensures { Clips text.old at (shown (longValue what scale mark n)) result text.new }
+    ensures { Clips text.old at (shown (long_value what scale mark n)) result text.new }
 {
     if what == b'a' {
         return put_reading(
@@ -220,7 +220,7 @@ fn long_at(numbers: &[i32], i: usize) -> i32
 }
 
 fn put_natural_code(text: &mut TextRoom, at: usize, code: &[u8], n: u32) -> usize
-    ensures { Clips text.old at (shown (naturalCode code.now n)) result text.new }
+    ensures { Clips text.old at (shown (natural_code code.now n)) result text.new }
 {
     let what = octet_at(code, 1);
     let scale = octet_at(code, 2);
@@ -229,7 +229,7 @@ fn put_natural_code(text: &mut TextRoom, at: usize, code: &[u8], n: u32) -> usiz
 }
 
 fn put_short_code(text: &mut TextRoom, at: usize, code: &[u8], n: i16) -> usize
-    ensures { Clips text.old at (shown (shortCode code.now n)) result text.new }
+    ensures { Clips text.old at (shown (short_code code.now n)) result text.new }
 {
     let what = octet_at(code, 1);
     let scale = octet_at(code, 2);
@@ -238,7 +238,7 @@ fn put_short_code(text: &mut TextRoom, at: usize, code: &[u8], n: i16) -> usize
 }
 
 fn put_long_code(text: &mut TextRoom, at: usize, code: &[u8], n: i32) -> usize
-    ensures { Clips text.old at (shown (longCode code.now n)) result text.new }
+    ensures { Clips text.old at (shown (long_code code.now n)) result text.new }
 {
     let what = octet_at(code, 1);
     let scale = octet_at(code, 2);
@@ -247,7 +247,7 @@ fn put_long_code(text: &mut TextRoom, at: usize, code: &[u8], n: i32) -> usize
 }
 
 fn put_plain(text: &mut TextRoom, at: usize, octet: u8, octets: &[u8]) -> usize
-    ensures { Clips text.old at (plainPiece octet octets.now) result text.new }
+    ensures { Clips text.old at (plain_piece octet octets.now) result text.new }
 {
     if octet == b'@' {
         return put_quoted(text, at, octets);
@@ -321,7 +321,7 @@ pub fn put_named(
     longs: &[i32],
     name: Text,
 ) -> usize
-    ensures { Clips text.old at (filled 0 template.now naturals.now shorts.now longs.now (textOctets name)) result text.new }
+    ensures { Clips text.old at (filled 0 template.now naturals.now shorts.now longs.now (text_octets name)) result text.new }
 {
     let octets = [
         name.c0, name.c1, name.c2, name.c3, name.c4, name.c5, name.c6, name.c7,

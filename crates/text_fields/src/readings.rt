@@ -1,9 +1,9 @@
 // What a number reads: by its mark for no data, or by what messages 10, 11 and 20 mean by it.
 ghost use Rattle.std.specs.Prelude.{◌≡◌, pos};
 ghost use Rattle.text_fields.specs.declared.Reading.TheVariants.{Known};
-ghost use Rattle.ucp_meanings.specs.Meanings.{rateAnswer, altitudeMeans, rateMeans, geometricMeans, degreesE7};
-ghost use Rattle.text_fields.specs.Fields.{unless, meantReading};
-ghost use Rattle.text_fields.specs.Templates.{mark_of, naturalReading, shortReading, longReading};
+ghost use Rattle.ucp_meanings.specs.Meanings.{rate_answer, altitude_means, rate_means, geometric_means, degrees_e7};
+ghost use Rattle.text_fields.specs.Fields.{unless, meant_reading};
+ghost use Rattle.text_fields.specs.Templates.{mark_of, natural_reading, short_reading, long_reading};
 
 use crate::Reading;
 use ucp_meanings::Rate;
@@ -66,7 +66,7 @@ fn mark_of(code: u8) -> u32
 }
 
 pub fn natural_reading(mark: u8, n: u32) -> Reading
-    ensures { result ≡ naturalReading mark n }
+    ensures { result ≡ natural_reading mark n }
 {
     if mark == b'.' {
         return Reading::Known(n as i64);
@@ -75,7 +75,7 @@ pub fn natural_reading(mark: u8, n: u32) -> Reading
 }
 
 pub fn short_reading(mark: u8, n: i16) -> Reading
-    ensures { result ≡ shortReading mark n }
+    ensures { result ≡ short_reading mark n }
 {
     if mark == b'.' {
         return signed_16(n);
@@ -84,7 +84,7 @@ pub fn short_reading(mark: u8, n: i16) -> Reading
 }
 
 pub fn long_reading(mark: u8, n: i32) -> Reading
-    ensures { result ≡ longReading mark n }
+    ensures { result ≡ long_reading mark n }
 {
     if mark == b'.' {
         return signed_32(n);
@@ -95,7 +95,7 @@ pub fn long_reading(mark: u8, n: i32) -> Reading
 // ---- by what messages 10, 11 and 20 mean
 
 fn of_rate(means: Rate) -> Reading
-    ensures { result ≡ meantReading (rateAnswer means) }
+    ensures { result ≡ meant_reading (rate_answer means) }
 {
     match means {
         Rate::NoData => Reading::NoData,
@@ -104,7 +104,7 @@ fn of_rate(means: Rate) -> Reading
 }
 
 pub fn altitude(n: u32) -> Reading
-    ensures { result ≡ meantReading (altitudeMeans n) }
+    ensures { result ≡ meant_reading (altitude_means n) }
 {
     if n == 0xFFF {
         return Reading::NoData;
@@ -114,19 +114,19 @@ pub fn altitude(n: u32) -> Reading
 }
 
 pub fn rate(n: i16) -> Reading
-    ensures { result ≡ meantReading (rateMeans n) }
+    ensures { result ≡ meant_reading (rate_means n) }
 {
     of_rate(ucp_meanings::rate_in_feet_per_minute(n))
 }
 
 pub fn geometric(n: i16) -> Reading
-    ensures { result ≡ Known (geometricMeans n) }
+    ensures { result ≡ Known (geometric_means n) }
 {
     signed_32(ucp_meanings::geometric_altitude_in_feet(n))
 }
 
 pub fn angle(n: i32) -> Reading
-    ensures { result ≡ Known (degreesE7 n) }
+    ensures { result ≡ Known (degrees_e7 n) }
 {
     Reading::Known(ucp_meanings::degrees_e7(n))
 }

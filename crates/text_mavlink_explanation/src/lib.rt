@@ -1,9 +1,9 @@
 // MAVLink frames explained: for the frame at the start of an input a line of text, with its message's fields by name and in
 // users' units.
-ghost use Rattle.mavlink_messages.specs.Failures.{failureAnswer};
-ghost use Rattle.mavlink_messages.specs.Messages.{means, refused as refusedRead};
+ghost use Rattle.mavlink_messages.specs.Failures.{failure_answer};
+ghost use Rattle.mavlink_messages.specs.Messages.{means, refused as refused_read};
 ghost use Rattle.text_output.specs.Clips.{Clips};
-ghost use Rattle.text_mavlink_explanation.specs.Explanation.{frameLine, framesLine};
+ghost use Rattle.text_mavlink_explanation.specs.Explanation.{frame_line, frames_line};
 ghost use Rattle.text_mavlink_explanation.specs.Calls.{WholeLine, ExplainsFrame};
 
 use mavlink_frame::Header;
@@ -26,7 +26,7 @@ fn put_frame(
     message: Message,
     failures: Failures,
 ) -> usize
-    ensures { Clips text.old 0 (frameLine (means header used message (failureAnswer failures))) result text.new }
+    ensures { Clips text.old 0 (frame_line (means header used message (failure_answer failures))) result text.new }
 {
     let at = text_output::put_word(text, 0, b"ok ");
     let at = text_output::put_natural(text, at, used as u64);
@@ -35,7 +35,7 @@ fn put_frame(
 }
 
 fn put_refused(text: &mut TextRoom, number: u8) -> usize
-    ensures { Clips text.old 0 (frameLine (refusedRead number)) result text.new }
+    ensures { Clips text.old 0 (frame_line (refused_read number)) result text.new }
 {
     let at = text_refusals::put_refusal(text, 0, number);
     text_output::put_octet(text, at, b'\n')
@@ -67,7 +67,7 @@ pub fn explain_frame(input: &[u8], text: &mut TextRoom) -> Explained
 }
 
 fn put_closing_line(text: &mut TextRoom, frames: u64, bytes: u64) -> usize
-    ensures { Clips text.old 0 (framesLine frames bytes) result text.new }
+    ensures { Clips text.old 0 (frames_line frames bytes) result text.new }
 {
     let at = text_output::put_word(text, 0, b"frames ");
     let at = text_output::put_natural(text, at, frames);
@@ -78,7 +78,7 @@ fn put_closing_line(text: &mut TextRoom, frames: u64, bytes: u64) -> usize
 
 // The last line.
 pub fn put_closing(text: &mut TextRoom, frames: u64, bytes: u64) -> usize
-    ensures { WholeLine text.old (framesLine frames bytes) result text.new }
+    ensures { WholeLine text.old (frames_line frames bytes) result text.new }
 {
     put_closing_line(text, frames, bytes)
 }

@@ -10,19 +10,19 @@ use Rattle.mavlink_messages.specs.declared.Dynamic.{Dynamic}
 abbrev pub degrees : ℤ → Value
 degrees z = reading TenMillionths Bare (unless 2147483647 z)
 
-abbrev pub dynamicAltitude : ℤ → Value
-dynamicAltitude z = reading Thousandths Metres (unless 2147483647 z)
+abbrev pub dynamic_altitude : ℤ → Value
+dynamic_altitude z = reading Thousandths Metres (unless 2147483647 z)
 
 abbrev pub speed : ℤ → Value
 speed z = reading Hundredths MetresPerSecond (unless 32767 z)
 
-abbrev pub dynamicFields : Dynamic → List Labelled
-dynamicFields d =
+abbrev pub dynamic_fields : Dynamic → List Labelled
+dynamic_fields d =
     "utc time" is reading Ones Seconds (unless 4294967295 (pos d.utc_time))
     ∷ "latitude" is degrees d.latitude
     ∷ "longitude" is degrees d.longitude
-    ∷ "pressure altitude" is dynamicAltitude d.alt_pres
-    ∷ "gnss altitude" is dynamicAltitude d.alt_gnss
+    ∷ "pressure altitude" is dynamic_altitude d.alt_pres
+    ∷ "gnss altitude" is dynamic_altitude d.alt_gnss
     ∷ "horizontal accuracy" is reading Thousandths Metres (unless 4294967295 (pos d.acc_horiz))
     ∷ "vertical accuracy" is reading Hundredths Metres (unless 65535 (pos d.acc_vert))
     ∷ "velocity accuracy" is reading Thousandths MetresPerSecond (unless 65535 (pos d.acc_vel))

@@ -1,6 +1,6 @@
 -- The fields of message 246 as they are shown, in the order of its layout and in the units of document 001. Assumes nothing.
 use Rattle.std.specs.Prelude.{cond, List, [], ◌∷◌, ◌++◌, ℕ, eqb, pos}
-use Rattle.field_layout.specs.Layout.{textOctets}
+use Rattle.field_layout.specs.Layout.{text_octets}
 use Rattle.text_output.specs.declared.Scale.TheVariants.{Ones, Hundredths, Thousandths, TenMillionths}
 use Rattle.text_fields.specs.declared.Reading.TheVariants.{Known}
 use Rattle.text_fields.specs.declared.Unit.TheVariants.{Bare, Seconds, Metres, MetresPerSecond}
@@ -8,11 +8,11 @@ use Rattle.text_fields.specs.Fields.{Value, number, reading, squawk, hexadecimal
 use Rattle.mavlink_messages.specs.declared.Traffic.{Traffic}
 
 -- 65535 is no code
-abbrev pub squawkOrNone : ℕ → Value
-squawkOrNone n = cond (eqb n 65535) none (squawk n)
+abbrev pub squawk_or_none : ℕ → Value
+squawk_or_none n = cond (eqb n 65535) none (squawk n)
 
-abbrev pub trafficFields : Traffic → List Labelled
-trafficFields t =
+abbrev pub traffic_fields : Traffic → List Labelled
+traffic_fields t =
     "address" is hexadecimal 8 t.icao_address
     ∷ "latitude" is reading TenMillionths Bare (Known t.lat)
     ∷ "longitude" is reading TenMillionths Bare (Known t.lon)
@@ -21,9 +21,9 @@ trafficFields t =
     ∷ "horizontal velocity" is reading Hundredths MetresPerSecond (Known (pos t.hor_velocity))
     ∷ "vertical velocity" is reading Hundredths MetresPerSecond (Known t.ver_velocity)
     ∷ "valid" is hexadecimal 4 t.valid_flags
-    ∷ "squawk" is squawkOrNone t.squawk
+    ∷ "squawk" is squawk_or_none t.squawk
     ∷ "altitude type" is number t.altitude_type
-    ∷ "callsign" is quoted (textOctets t.callsign ++ t.callsign_ninth ∷ [])
+    ∷ "callsign" is quoted (text_octets t.callsign ++ t.callsign_ninth ∷ [])
     ∷ "emitter" is number t.emitter_type
     ∷ "age" is reading Ones Seconds (Known (pos t.tslc))
     ∷ []

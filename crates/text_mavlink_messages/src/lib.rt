@@ -1,11 +1,11 @@
 // The MAVLink kinds, each by its template: its name, its frame's header and its fields in users' units.
 ghost use Rattle.std.specs.Prelude.{◌++◌};
 ghost use Rattle.text_output.specs.Clips.{Clips};
-ghost use Rattle.text_fields.specs.Fields.{fieldsShown};
-ghost use Rattle.mavlink_messages.specs.Failures.{failureAnswer};
-ghost use Rattle.text_mavlink_messages.specs.Dynamic202.{dynamicFields};
-ghost use Rattle.text_mavlink_messages.specs.Traffic246.{trafficFields};
-ghost use Rattle.text_mavlink_messages.specs.Messages.{headerFields, dataStreamFields, staticFields, statusFields, mavlinkShown};
+ghost use Rattle.text_fields.specs.Fields.{fields_shown};
+ghost use Rattle.mavlink_messages.specs.Failures.{failure_answer};
+ghost use Rattle.text_mavlink_messages.specs.Dynamic202.{dynamic_fields};
+ghost use Rattle.text_mavlink_messages.specs.Traffic246.{traffic_fields};
+ghost use Rattle.text_mavlink_messages.specs.Messages.{header_fields, data_stream_fields, static_fields, status_fields, mavlink_shown};
 
 use mavlink_frame::Header;
 use mavlink_messages::{DataStream, Dynamic, Failures, Lowest, Message, Static, Status, Traffic};
@@ -13,7 +13,7 @@ use text_fields::{put_fields, put_named};
 use text_output::{TextRoom, put_word};
 
 fn put_heading(text: &mut TextRoom, at: usize, name: &[u8], header: Header) -> usize
-    ensures { Clips text.old at (name.now ++ fieldsShown (headerFields header)) result text.new }
+    ensures { Clips text.old at (name.now ++ fields_shown (header_fields header)) result text.new }
 {
     let naturals = [
         header.sequence as u32,
@@ -33,7 +33,7 @@ fn put_heading(text: &mut TextRoom, at: usize, name: &[u8], header: Header) -> u
 }
 
 fn put_data_stream(text: &mut TextRoom, at: usize, message: DataStream) -> usize
-    ensures { Clips text.old at (fieldsShown (dataStreamFields message)) result text.new }
+    ensures { Clips text.old at (fields_shown (data_stream_fields message)) result text.new }
 {
     let naturals = [
         message.req_message_rate as u32,
@@ -54,7 +54,7 @@ fn put_data_stream(text: &mut TextRoom, at: usize, message: DataStream) -> usize
 }
 
 fn put_static(text: &mut TextRoom, at: usize, message: Static) -> usize
-    ensures { Clips text.old at (fieldsShown (staticFields message)) result text.new }
+    ensures { Clips text.old at (fields_shown (static_fields message)) result text.new }
 {
     let naturals = [
         message.icao,
@@ -80,7 +80,7 @@ fn put_static(text: &mut TextRoom, at: usize, message: Static) -> usize
 }
 
 fn put_dynamic(text: &mut TextRoom, at: usize, message: Dynamic) -> usize
-    ensures { Clips text.old at (fieldsShown (dynamicFields message)) result text.new }
+    ensures { Clips text.old at (fields_shown (dynamic_fields message)) result text.new }
 {
     let naturals = [
         message.utc_time,
@@ -116,7 +116,7 @@ fn put_dynamic(text: &mut TextRoom, at: usize, message: Dynamic) -> usize
 }
 
 fn put_status(text: &mut TextRoom, at: usize, message: Status, failures: Failures) -> usize
-    ensures { Clips text.old at (fieldsShown (statusFields message (failureAnswer failures))) result text.new }
+    ensures { Clips text.old at (fields_shown (status_fields message (failure_answer failures))) result text.new }
 {
     let lowest = failures.lowest;
     match lowest {
@@ -148,7 +148,7 @@ fn put_status(text: &mut TextRoom, at: usize, message: Status, failures: Failure
 }
 
 fn put_traffic(text: &mut TextRoom, at: usize, message: Traffic) -> usize
-    ensures { Clips text.old at (fieldsShown (trafficFields message)) result text.new }
+    ensures { Clips text.old at (fields_shown (traffic_fields message)) result text.new }
 {
     let naturals = [
         message.icao_address,
@@ -195,7 +195,7 @@ pub fn put_message(
     message: Message,
     failures: Failures,
 ) -> usize
-    ensures { Clips text.old at (mavlinkShown header message (failureAnswer failures)) result text.new }
+    ensures { Clips text.old at (mavlink_shown header message (failure_answer failures)) result text.new }
 {
     match message {
         Message::DataStream(data_stream) => {

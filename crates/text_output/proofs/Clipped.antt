@@ -8,22 +8,22 @@ use lib.Dec.{leb}
 use lib.ListN.{length, take, drop, length-append}
 use lib.Seq.{sets, sets-eq, length-sets, set_out, paste, take_all}
 use borrow.Author.Tests.{leb-true, leb-false}
-use Rattle.field_words.proofs.Sets.{sets-append}
-use Rattle.text_output.specs.Clips.{textRoom, Clips}
+use Rattle.field_words.proofs.Sets.{sets_append}
+use Rattle.text_output.specs.Clips.{text_room, Clips}
 
 -- octets past the end change nothing
-sets-past : (l : List ℕ) (i : ℕ) (vs : List ℕ) → length l ≤ i → sets l i vs ≡ l
-sets-past l i [] h = refl
-sets-past l i (v ∷ vs) h = rw (set_out l i v h) (sets-past l (suc i) vs (omega arith))
+sets_past : (l : List ℕ) (i : ℕ) (vs : List ℕ) → length l ≤ i → sets l i vs ≡ l
+sets_past l i [] h = refl
+sets_past l i (v ∷ vs) h = rw (set_out l i v h) (sets_past l (suc i) vs (omega arith))
 
 -- a place past the end is as good as the end
-sets-clipped : (l : List ℕ) (i : ℕ) (vs : List ℕ) → sets l (min i (length l)) vs ≡ sets l i vs
-sets-clipped l i vs = go (leb (length l) i) refl
+sets_clipped : (l : List ℕ) (i : ℕ) (vs : List ℕ) → sets l (min i (length l)) vs ≡ sets l i vs
+sets_clipped l i vs = go (leb (length l) i) refl
   where
     go : (b : Bool) → leb (length l) i ≡ b → sets l (min i (length l)) vs ≡ sets l i vs
     go true e =
         let h : length l ≤ i = leb-true (length l) i e in
-        sets-past l (min i (length l)) vs (omega arith) ∙ sym (sets-past l i vs h)
+        sets_past l (min i (length l)) vs (omega arith) ∙ sym (sets_past l i vs h)
     go false e =
         let h = leb-false (length l) i e in
         let same : min i (length l) ≡ i = omega arith in
@@ -35,8 +35,8 @@ pasted l at vs h =
     ap (λ (xs : List ℕ). take at l ++ xs ++ drop (at + length vs) l) (take_all (length vs) vs (omega arith)) ∙ sym (sets-eq vs l at h)
 
 module _ {before : List ℕ} {at : ℕ} {us : List ℕ} {next : ℕ} {after : List ℕ} (p : Clips before at us next after) where
-  pub clips-long : length after ≡ length before
-  clips-long = ap length p.leaves ∙ length-sets before at us
+  pub clips_long : length after ≡ length before
+  clips_long = ap length p.leaves ∙ length-sets before at us
 
   -- a piece behind another
   pub then : {vs : List ℕ} {end : ℕ} {last : List ℕ} → Clips after next vs end last → Clips before at (us ++ vs) end last
@@ -47,15 +47,15 @@ module _ {before : List ℕ} {at : ℕ} {us : List ℕ} {next : ℕ} {after : Li
         leaves =
             q.leaves
             ∙ ap (λ (n : ℕ). sets after n vs) (p.ends ∙ ap (λ (n : ℕ). min (at + length us) n) (sym q.room))
-            ∙ sets-clipped after (at + length us) vs
+            ∙ sets_clipped after (at + length us) vs
             ∙ ap (λ (l : List ℕ). sets l (at + length us) vs) p.leaves
-            ∙ sym (sets-append before at us vs);
+            ∙ sym (sets_append before at us vs);
       }
 
   -- the last piece of some
-  pub last-piece : Clips before at (us ++ []) next after
-  last-piece = rw (append-nil us) p
+  pub last_piece : Clips before at (us ++ []) next after
+  last_piece = rw (append-nil us) p
 
   -- where all of it fits all of it is put
-  pub all-fits : at + length us ≤ textRoom → next ≡ at + length us
-  all-fits h = omega (arith, p.ends)
+  pub all_fits : at + length us ≤ text_room → next ≡ at + length us
+  all_fits h = omega (arith, p.ends)

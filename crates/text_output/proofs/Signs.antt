@@ -8,18 +8,18 @@ use lib.IntN.{ℤ, pos, nat_abs}
 use lib.Signed.{mag, lt_z}
 use mir.Syntax.{w64}
 use mir.Val.{SFits, to_z, of_z}
-use Rattle.field_signed.proofs.Negative.{below-zero, from_zero}
+use Rattle.field_signed.proofs.Negative.{below_zero, from_zero}
 use Rattle.text_output.specs.Text.{codes, minus}
 
 module _ (z : ℤ) (f : SFits w64 z) where
-  pub size-negative : lt_z (to_z w64 (of_z w64 z)) (pos 0) ≡ true → nat_abs z ≡ mag z + 1
-  size-negative h = let e = below-zero z f h in rw e (omega arith)
+  pub size_negative : lt_z (to_z w64 (of_z w64 z)) (pos 0) ≡ true → nat_abs z ≡ mag z + 1
+  size_negative h = let e = below_zero z f h in rw e (omega arith)
 
-  pub size-positive : lt_z (to_z w64 (of_z w64 z)) (pos 0) ≡ false → nat_abs z ≡ mag z
-  size-positive h = ap nat_abs (from_zero z f h)
+  pub size_positive : lt_z (to_z w64 (of_z w64 z)) (pos 0) ≡ false → nat_abs z ≡ mag z
+  size_positive h = ap nat_abs (from_zero z f h)
 
-  pub minus-negative : lt_z (to_z w64 (of_z w64 z)) (pos 0) ≡ true → minus z ≡ codes "-"
-  minus-negative h = ap minus (below-zero z f h)
+  pub minus_negative : lt_z (to_z w64 (of_z w64 z)) (pos 0) ≡ true → minus z ≡ codes "-"
+  minus_negative h = ap minus (below_zero z f h)
 
-  pub minus-positive : lt_z (to_z w64 (of_z w64 z)) (pos 0) ≡ false → minus z ≡ []
-  minus-positive h = ap minus (from_zero z f h)
+  pub minus_positive : lt_z (to_z w64 (of_z w64 z)) (pos 0) ≡ false → minus z ≡ []
+  minus_positive h = ap minus (from_zero z f h)

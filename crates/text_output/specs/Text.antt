@@ -17,11 +17,11 @@ codes (c then cs) = code c ∷ codes cs
 -- ---- octets
 
 -- the code of a hexadecimal digit: '0' is 48, 'a' is 97
-unfoldable pub hexDigit : ℕ → ℕ
-hexDigit d = cond (ltb d 10) (48 + d) (97 + (d - 10))
+unfoldable pub hex_digit : ℕ → ℕ
+hex_digit d = cond (ltb d 10) (48 + d) (97 + (d - 10))
 
-abbrev pub hexPair : ℕ → List ℕ
-hexPair x = hexDigit (x / 16) ∷ hexDigit (x % 16) ∷ []
+abbrev pub hex_pair : ℕ → List ℕ
+hex_pair x = hex_digit (x / 16) ∷ hex_digit (x % 16) ∷ []
 
 -- 20 to 7E, and neither a quote nor a backslash
 unfoldable pub is_plain : ℕ → Bool
@@ -29,16 +29,16 @@ is_plain x = leb 0x20 x && leb x 0x7E && not (eqb x 0x22) && not (eqb x 0x5C)
 
 -- as it is, or \xNN
 unfoldable pub backslashed : ℕ → List ℕ
-backslashed x = cond (is_plain x) (x ∷ []) (codes "\\x" ++ hexPair x)
+backslashed x = cond (is_plain x) (x ∷ []) (codes "\\x" ++ hex_pair x)
 
-abbrev pub printedOctet : Printing → ℕ → List ℕ
-printedOctet Plain x = x ∷ []
-printedOctet Escaped x = backslashed x
-printedOctet Hex x = codes " " ++ hexPair x
+abbrev pub printed_octet : Printing → ℕ → List ℕ
+printed_octet Plain x = x ∷ []
+printed_octet Escaped x = backslashed x
+printed_octet Hex x = codes " " ++ hex_pair x
 
 unfoldable pub printed : Printing → List ℕ → List ℕ
 printed s [] = []
-printed s (x ∷ xs) = printedOctet s x ++ printed s xs
+printed s (x ∷ xs) = printed_octet s x ++ printed s xs
 
 -- ---- numbers
 
@@ -47,8 +47,8 @@ printed s (x ∷ xs) = printedOctet s x ++ printed s xs
 unfoldable pub numeral : Bool → ℕ → ℕ → ℕ → List ℕ
 numeral padded base zero n = []
 numeral padded base (suc most) n =
-    let more = numeral padded base most (n / base) ++ (hexDigit (n % base) ∷ []) in
-    cond (not padded && ltb n base) (hexDigit n ∷ []) more
+    let more = numeral padded base most (n / base) ++ (hex_digit (n % base) ∷ []) in
+    cond (not padded && ltb n base) (hex_digit n ∷ []) more
 
 -- in decimal; 20 digits hold 64 bits
 abbrev pub natural : ℕ → List ℕ
@@ -79,6 +79,6 @@ abbrev pub fraction : ℕ → ℕ → List ℕ
 fraction zero n = []
 fraction (suc more) n = codes "." ++ numeral true 10 (suc more) n
 
-unfoldable pub fixedPoint : Scale → ℤ → List ℕ
-fixedPoint s z =
+unfoldable pub fixed_point : Scale → ℤ → List ℕ
+fixed_point s z =
     minus z ++ (natural (nat_abs z / 10 ^ places s) ++ fraction (places s) (nat_abs z % 10 ^ places s))

@@ -1,9 +1,9 @@
 // Text put into a lent text of 1536 octets. What would stand past its end is left out, so that no function here asks for room:
 // `Clips` says so, and where all fits it says that all is there.
 ghost use Rattle.std.specs.Prelude.{◌≡◌, [], ◌∷◌, ◌+◌, ◌/◌, ◌%◌, ◌<◌, ◌≤◌, ◌^◌, length, drop, nat_abs};
-ghost use Rattle.field_words.specs.Words.{octetsUp};
-ghost use Rattle.text_output.specs.Clips.{textRoom, Clips};
-ghost use Rattle.text_output.specs.Text.{hexDigit, hexPair, is_plain, backslashed, printedOctet, printed, numeral, natural, radix, padded, minus, places, fraction, fixedPoint};
+ghost use Rattle.field_words.specs.Words.{octets_up};
+ghost use Rattle.text_output.specs.Clips.{text_room, Clips};
+ghost use Rattle.text_output.specs.Text.{hex_digit, hex_pair, is_plain, backslashed, printed_octet, printed, numeral, natural, radix, padded, minus, places, fraction, fixed_point};
 
 // The room of a text, which is lent.
 pub const TEXT_ROOM: usize = 1536;
@@ -36,7 +36,7 @@ pub enum Scale {
 
 // As a slice, since its length is known here.
 fn set_octet(text: &mut [u8], at: usize, octet: u8) -> usize
-    requires { length text.old ≡ textRoom }
+    requires { length text.old ≡ text_room }
     ensures { Clips text.old at (octet ∷ []) result text.new }
 {
     let end = text.len();
@@ -48,7 +48,7 @@ fn set_octet(text: &mut [u8], at: usize, octet: u8) -> usize
 }
 
 fn set_nothing(text: &mut [u8], at: usize) -> usize
-    requires { length text.old ≡ textRoom }
+    requires { length text.old ≡ text_room }
     ensures { Clips text.old at [] result text.new }
 {
     let end = text.len();
@@ -75,13 +75,13 @@ pub fn put_nothing(text: &mut TextRoom, at: usize) -> usize
 
 fn digit(d: u64) -> u8
     requires { d < 16 }
-    ensures { result ≡ hexDigit d }
+    ensures { result ≡ hex_digit d }
 {
     (d + 48 + (d + 6) / 16 * 39) as u8
 }
 
 fn put_pair(text: &mut TextRoom, at: usize, octet: u8) -> usize
-    ensures { Clips text.old at (hexPair octet) result text.new }
+    ensures { Clips text.old at (hex_pair octet) result text.new }
 {
     let n = octet as u64;
     let at = put_octet(text, at, digit(n / 16));
@@ -106,14 +106,14 @@ fn put_escaped(text: &mut TextRoom, at: usize, octet: u8) -> usize
 }
 
 fn put_hex(text: &mut TextRoom, at: usize, octet: u8) -> usize
-    ensures { Clips text.old at (printedOctet Printing.Hex octet) result text.new }
+    ensures { Clips text.old at (printed_octet Printing.Hex octet) result text.new }
 {
     let at = put_octet(text, at, b' ');
     put_pair(text, at, octet)
 }
 
 fn put_printed_octet(text: &mut TextRoom, at: usize, printing: Printing, octet: u8) -> usize
-    ensures { Clips text.old at (printedOctet printing octet) result text.new }
+    ensures { Clips text.old at (printed_octet printing octet) result text.new }
 {
     match printing {
         Printing::Plain => put_octet(text, at, octet),
@@ -142,7 +142,7 @@ pub fn put_printed(
 }
 
 fn set_word(text: &mut [u8], at: usize, word: &[u8]) -> usize
-    requires { (length text.old ≡ textRoom) × (at + length word.now ≤ textRoom) }
+    requires { (length text.old ≡ text_room) × (at + length word.now ≤ text_room) }
     ensures { Clips text.old at word.now result text.new }
 {
     field_words::copies::copy(word, text, at);
@@ -191,7 +191,7 @@ fn remainder(n: u64, base: u64) -> u64
 }
 
 fn set_two(text: &mut [u8], at: usize, first: u8, second: u8) -> usize
-    requires { length text.old ≡ textRoom }
+    requires { length text.old ≡ text_room }
     ensures { Clips text.old at (first ∷ second ∷ []) result text.new }
 {
     if at < text.len() - 1 {
@@ -299,14 +299,14 @@ fn whole_of(scale: Scale) -> u64
 }
 
 fn decimal(n: u64) -> u64
-    ensures { (result ≡ hexDigit (n % 10)) × (result < 256) }
+    ensures { (result ≡ hex_digit (n % 10)) × (result < 256) }
 {
     n % 10 + 48
 }
 
 // The point and seven digits, as one number.
 fn seven_places(n: u64) -> u64
-    ensures { octetsUp 8 result ≡ fraction 7 n }
+    ensures { octets_up 8 result ≡ fraction 7 n }
 {
     let from_1 = n / 10;
     let from_2 = from_1 / 10;
@@ -323,8 +323,8 @@ fn seven_places(n: u64) -> u64
 }
 
 fn set_eight(text: &mut [u8], at: usize, word: u64) -> usize
-    requires { (length text.old ≡ textRoom) × (at + 8 ≤ textRoom) }
-    ensures { Clips text.old at (octetsUp 8 word) result text.new }
+    requires { (length text.old ≡ text_room) × (at + 8 ≤ text_room) }
+    ensures { Clips text.old at (octets_up 8 word) result text.new }
 {
     field_words::put_64(text, at, word);
     at + 8
@@ -348,7 +348,7 @@ fn put_fraction(text: &mut TextRoom, at: usize, places: u8, n: u64) -> usize
 
 // So many small units, in wholes.
 pub fn put_fixed(text: &mut TextRoom, at: usize, scale: Scale, n: i64) -> usize
-    ensures { Clips text.old at (fixedPoint scale n) result text.new }
+    ensures { Clips text.old at (fixed_point scale n) result text.new }
 {
     let small = size(n);
     let whole = whole_of(scale);

@@ -15,22 +15,22 @@ number says words = record { number = number; words = codes words }
 -- the numbers below 20 are the UCP line's, the others MAVLink's
 abbrev pub rows : List Wording
 rows =
-    because.badEscape says " bad escape"
-    ∷ because.escapeBeforeFlag says " escape before the flag"
-    ∷ because.tooLong says " too long"
-    ∷ because.tooShort says " too short"
-    ∷ because.wrongCheck says " check wrong"
+    because.bad_escape says " bad escape"
+    ∷ because.escape_before_flag says " escape before the flag"
+    ∷ because.too_long says " too long"
+    ∷ because.too_short says " too short"
+    ∷ because.wrong_check says " check wrong"
     ∷ because.room says " no room for the body"
-    ∷ because.unknownId says " unknown message"
-    ∷ because.messageLength says " wrong length"
+    ∷ because.unknown_id says " unknown message"
+    ∷ because.message_length says " wrong length"
     ∷ because.fixed says " wrong version, signature or subtype"
     ∷ because.field says " field outside its range"
-    ∷ because.mavlinkShort says " too few bytes"
-    ∷ because.mavlinkStart says " first byte not fe"
-    ∷ because.mavlinkUnknownId says " unknown message"
-    ∷ because.mavlinkLength says " wrong length"
-    ∷ because.mavlinkWrongCheck says " check wrong"
-    ∷ because.mavlinkField says " field outside its range"
+    ∷ because.mavlink_short says " too few bytes"
+    ∷ because.mavlink_start says " first byte not fe"
+    ∷ because.mavlink_unknown_id says " unknown message"
+    ∷ because.mavlink_length says " wrong length"
+    ∷ because.mavlink_wrong_check says " check wrong"
+    ∷ because.mavlink_field says " field outside its range"
     ∷ []
 
 -- where no row has the number

@@ -5,27 +5,27 @@ use Prim.Native.Nat.{ℕ, ◌≤◌}
 use native.Mathlib.Omega.{arith}
 use lib.ListN.{length, length-append}
 use Rattle.ucp_frame.specs.Stretch.{Verdict, silent, refused, delivered}
-use Rattle.ucp_messages.specs.Messages.{ReaderAnswer, refused as unread, means, messageDue}
-use Rattle.text_output.specs.Clips.{textRoom}
-use Rattle.text_output.proofs.Numerals.{numeral-most}
-use Rattle.text_output.proofs.Printed.{hex-length}
-use Rattle.text_refusals.proofs.Longest.{refusal-most}
-use Rattle.text_ucp_messages.proofs.Longest.{message-most}
-use Rattle.text_ucp_explanation.specs.Explanation.{readLine, explanation}
+use Rattle.ucp_messages.specs.Messages.{ReaderAnswer, refused as unread, means, message_due}
+use Rattle.text_output.specs.Clips.{text_room}
+use Rattle.text_output.proofs.Numerals.{numeral_most}
+use Rattle.text_output.proofs.Printed.{hex_length}
+use Rattle.text_refusals.proofs.Longest.{refusal_most}
+use Rattle.text_ucp_messages.proofs.Longest.{message_most}
+use Rattle.text_ucp_explanation.specs.Explanation.{read_line, explanation}
 
-read-most : (a : ReaderAnswer) (body : List ℕ) → length body ≤ 436 → length (readLine a body) ≤ textRoom
-unfolding readLine
-read-most (means message) body few =
-    simp length-append (omega (arith, numeral-most false 10 20 (length body), message-most message body few))
-read-most (unread n) body few =
-    simp length-append (omega (arith, refusal-most n, numeral-most false 10 20 (length body), hex-length body))
+read_most : (a : ReaderAnswer) (body : List ℕ) → length body ≤ 436 → length (read_line a body) ≤ text_room
+unfolding read_line
+read_most (means message) body few =
+    simp length-append (omega (arith, numeral_most false 10 20 (length body), message_most message body few))
+read_most (unread n) body few =
+    simp length-append (omega (arith, refusal_most n, numeral_most false 10 20 (length body), hex_length body))
 
 abbrev pub BodyFits : Verdict → Type 0
 BodyFits silent = Unit {0}
 BodyFits (refused n) = Unit {0}
 BodyFits (delivered body) = length body ≤ 436
 
-pub line-most : (v : Verdict) → BodyFits v → length (explanation v) ≤ textRoom
-line-most silent few = omega arith
-line-most (refused n) few = simp length-append (omega (arith, refusal-most n))
-line-most (delivered body) few = read-most (messageDue body) body few
+pub line_most : (v : Verdict) → BodyFits v → length (explanation v) ≤ text_room
+line_most silent few = omega arith
+line_most (refused n) few = simp length-append (omega (arith, refusal_most n))
+line_most (delivered body) few = read_most (message_due body) body few

@@ -10,46 +10,46 @@ use Rattle.ucp_receiver.specs.declared.Record.{Record}
 use Rattle.ucp_receiver.specs.declared.Taken.{Taken}
 use Rattle.ucp_receiver.specs.declared.Answer.{Answer}
 use Rattle.ucp_receiver.specs.declared.Answer.TheVariants.{Nothing, Delivered, Refused}
-use Rattle.ucp_receiver.specs.Answers.{verdictOf}
-use Rattle.ucp_receiver.specs.Answers.{ReceiverAnswer, nothing, refusal, body, receiverAnswer, answerFor, outputAtFlag}
+use Rattle.ucp_receiver.specs.Answers.{verdict_of}
+use Rattle.ucp_receiver.specs.Answers.{ReceiverAnswer, nothing, refusal, body, receiver_answer, answer_for, output_at_flag}
 use Rattle.ucp_receiver.specs.Octet.{state_of}
-use Rattle.ucp_receiver.specs.Slice.{Takes, SliceRun, sliceRun}
-use Rattle.text_ucp_listing.specs.Listing.{bodyRoom}
+use Rattle.ucp_receiver.specs.Slice.{Takes, SliceRun, slice_run}
+use Rattle.text_ucp_listing.specs.Listing.{body_room}
 use Rattle.text_ucp_explanation.proofs.Longest.{BodyFits}
 
-abbrev verdictAnswered : ReceiverAnswer → List ℕ → Verdict
-verdictAnswered nothing room = silent
-verdictAnswered (refusal number) room = refused number
-verdictAnswered (body octets) room = delivered (take octets room)
+abbrev verdict_answered : ReceiverAnswer → List ℕ → Verdict
+verdict_answered nothing room = silent
+verdict_answered (refusal number) room = refused number
+verdict_answered (body octets) room = delivered (take octets room)
 
-of-answer : (a : Answer) (room : List ℕ) → verdictOf a room ≡ verdictAnswered (receiverAnswer a) room
-of-answer Nothing room = refl
-of-answer (Refused number) room = refl
-of-answer (Delivered octets) room = refl
+of_answer : (a : Answer) (room : List ℕ) → verdict_of a room ≡ verdict_answered (receiver_answer a) room
+of_answer Nothing room = refl
+of_answer (Refused number) room = refl
+of_answer (Delivered octets) room = refl
 
-answer_back : (v : Verdict) (before : List ℕ) {after : List ℕ} → after ≡ outputAtFlag v before → verdictAnswered (answerFor v) after ≡ v
+answer_back : (v : Verdict) (before : List ℕ) {after : List ℕ} → after ≡ output_at_flag v before → verdict_answered (answer_for v) after ≡ v
 answer_back silent before f = refl
 answer_back (refused number) before f = refl
 answer_back (delivered octets) before f = ap delivered (rw f (take-append_seam octets (drop (length octets) before)))
 
-put-fits : (v : Verdict) (before : List ℕ) {after : List ℕ} → after ≡ outputAtFlag v before → length after ≡ bodyRoom → BodyFits v
-put-fits silent before f long = tt
-put-fits (refused number) before f long = tt
-put-fits (delivered octets) before f long = omega (arith, simp length-append at (ap length f))
+put_fits : (v : Verdict) (before : List ℕ) {after : List ℕ} → after ≡ output_at_flag v before → length after ≡ body_room → BodyFits v
+put_fits silent before f long = tt
+put_fits (refused number) before f long = tt
+put_fits (delivered octets) before f long = omega (arith, simp length-append at (ap length f))
 
-module _ {receiver : Record} {store line room : List ℕ} {given : Taken} {storeAfter roomAfter : List ℕ}
-    (takes : Takes receiver store line room given storeAfter roomAfter) (long : length room ≡ bodyRoom) where
-  ran : sliceRun (state_of receiver.rest store) receiver.counts line (length room) ≡ sliceRun (state_of receiver.rest store) receiver.counts line bodyRoom
+module _ {receiver : Record} {store line room : List ℕ} {given : Taken} {store_after room_after : List ℕ}
+    (takes : Takes receiver store line room given store_after room_after) (long : length room ≡ body_room) where
+  ran : slice_run (state_of receiver.rest store) receiver.counts line (length room) ≡ slice_run (state_of receiver.rest store) receiver.counts line body_room
   ran = rw long
 
-  put : roomAfter ≡ outputAtFlag (sliceRun (state_of receiver.rest store) receiver.counts line bodyRoom).verdict room
-  put = takes.puts ∙ ap (λ (r : SliceRun). outputAtFlag r.verdict room) ran
+  put : room_after ≡ output_at_flag (slice_run (state_of receiver.rest store) receiver.counts line body_room).verdict room
+  put = takes.puts ∙ ap (λ (r : SliceRun). output_at_flag r.verdict room) ran
 
-  pub verdict-answer : verdictOf given.answer roomAfter ≡ (sliceRun (state_of receiver.rest store) receiver.counts line bodyRoom).verdict
-  verdict-answer =
-      of-answer given.answer roomAfter
-      ∙ ap (λ (t : ReceiverAnswer). verdictAnswered t roomAfter) (takes.answers ∙ ap (λ (r : SliceRun). answerFor r.verdict) ran)
-      ∙ answer_back (sliceRun (state_of receiver.rest store) receiver.counts line bodyRoom).verdict room put
+  pub verdict_answer : verdict_of given.answer room_after ≡ (slice_run (state_of receiver.rest store) receiver.counts line body_room).verdict
+  verdict_answer =
+      of_answer given.answer room_after
+      ∙ ap (λ (t : ReceiverAnswer). verdict_answered t room_after) (takes.answers ∙ ap (λ (r : SliceRun). answer_for r.verdict) ran)
+      ∙ answer_back (slice_run (state_of receiver.rest store) receiver.counts line body_room).verdict room put
 
-  pub verdict-fits : length roomAfter ≡ length room → BodyFits (sliceRun (state_of receiver.rest store) receiver.counts line bodyRoom).verdict
-  verdict-fits kept = put-fits (sliceRun (state_of receiver.rest store) receiver.counts line bodyRoom).verdict room put (kept ∙ long)
+  pub verdict_fits : length room_after ≡ length room → BodyFits (slice_run (state_of receiver.rest store) receiver.counts line body_room).verdict
+  verdict_fits kept = put_fits (slice_run (state_of receiver.rest store) receiver.counts line body_room).verdict room put (kept ∙ long)

@@ -1,12 +1,12 @@
 // A line explained: for each answer of the receiver a line of text, with a message's fields by name and in users' units.
 ghost use Rattle.std.specs.Prelude.{◌≡◌, length};
-ghost use Rattle.ucp_receiver.specs.Answers.{verdictOf};
-ghost use Rattle.text_ucp_listing.specs.Listing.{bodyRoom};
+ghost use Rattle.ucp_receiver.specs.Answers.{verdict_of};
+ghost use Rattle.text_ucp_listing.specs.Listing.{body_room};
 ghost use Rattle.text_ucp_listing.specs.Steps.{BodyWithin};
 ghost use Rattle.ucp_frame.specs.Stretch.{refused};
-ghost use Rattle.ucp_messages.specs.Messages.{messageDue, means, refused as unread};
+ghost use Rattle.ucp_messages.specs.Messages.{message_due, means, refused as unread};
 ghost use Rattle.text_output.specs.Clips.{Clips};
-ghost use Rattle.text_ucp_explanation.specs.Explanation.{readLine, explanation};
+ghost use Rattle.text_ucp_explanation.specs.Explanation.{read_line, explanation};
 ghost use Rattle.text_ucp_explanation.specs.Calls.{ExplainsAnswer};
 
 use text_output::{Printing, TextRoom};
@@ -22,7 +22,7 @@ fn put_refused(text: &mut TextRoom, number: u8) -> usize
 }
 
 fn put_unread(text: &mut TextRoom, number: u8, body: &[u8]) -> usize
-    ensures { Clips text.old 0 (readLine (unread number) body.now) result text.new }
+    ensures { Clips text.old 0 (read_line (unread number) body.now) result text.new }
 {
     let at = text_refusals::put_refusal(text, 0, number);
     let at = text_output::put_word(text, at, b" body ");
@@ -32,7 +32,7 @@ fn put_unread(text: &mut TextRoom, number: u8, body: &[u8]) -> usize
 }
 
 fn put_read(text: &mut TextRoom, message: Message, body: &[u8]) -> usize
-    ensures { Clips text.old 0 (readLine (means message) body.now) result text.new }
+    ensures { Clips text.old 0 (read_line (means message) body.now) result text.new }
 {
     let at = text_output::put_word(text, 0, b"ok ");
     let at = text_output::put_natural(text, at, body.len() as u64);
@@ -41,7 +41,7 @@ fn put_read(text: &mut TextRoom, message: Message, body: &[u8]) -> usize
 }
 
 fn put_body(text: &mut TextRoom, body: &[u8]) -> usize
-    ensures { Clips text.old 0 (readLine (messageDue body.now) body.now) result text.new }
+    ensures { Clips text.old 0 (read_line (message_due body.now) body.now) result text.new }
 {
     let read = ucp_messages::read_message(body);
     match read {
@@ -52,8 +52,8 @@ fn put_body(text: &mut TextRoom, body: &[u8]) -> usize
 
 // The line of an answer, where there is one. A body stands at the start of room.
 fn put_answer(text: &mut TextRoom, answer: Answer, room: &[u8]) -> usize
-    requires { (length room.now ≡ bodyRoom) × BodyWithin answer bodyRoom }
-    ensures { Clips text.old 0 (explanation (verdictOf answer room.now)) result text.new }
+    requires { (length room.now ≡ body_room) × BodyWithin answer body_room }
+    ensures { Clips text.old 0 (explanation (verdict_of answer room.now)) result text.new }
 {
     match answer {
         Answer::Nothing => text_output::put_nothing(text, 0),

@@ -10,8 +10,8 @@ use lib.ListN.{length, set, length-append}
 use lib.Seq.{sets}
 use borrow.Author.Tests.{lt-ltb, le-ltb}
 use Rattle.output_writing.specs.Puts.{Puts}
-use Rattle.output_writing.proofs.ToPut.{ToPut, all-to-put}
-use Rattle.text_output.specs.Text.{hexDigit, numeral}
+use Rattle.output_writing.proofs.ToPut.{ToPut, all_to_put}
+use Rattle.text_output.specs.Text.{hex_digit, numeral}
 use Rattle.text_output.proofs.Numerals as numerals
 use Rattle.text_ucp_listing.specs.Listing.{decimal}
 
@@ -19,8 +19,8 @@ use Rattle.text_ucp_listing.specs.Listing.{decimal}
 abbrev pub digit : ℕ → ℕ
 digit d = 48 + d
 
-decimal_digit : (d : ℕ) → d < 10 → hexDigit d ≡ digit d
-unfolding hexDigit
+decimal_digit : (d : ℕ) → d < 10 → hex_digit d ≡ digit d
+unfolding hex_digit
 decimal_digit d h = rw (lt-ltb d 10 h)
 
 -- one digit more than hold it does not matter
@@ -34,23 +34,23 @@ enough (suc k) n h = go (enough k (n / 10)) (ltb n 10) refl
     go fewer true e = rw e
     go fewer false e =
         let p : n < 10 ^ suc k * 10 = rw pow-suc at h in
-        rw e (ap (λ (ds : List ℕ). ds ++ (hexDigit (n % 10) ∷ [])) (fewer (omega arith)))
+        rw e (ap (λ (ds : List ℕ). ds ++ (hex_digit (n % 10) ∷ [])) (fewer (omega arith)))
 
-pub one-digit : (n : ℕ) → n < 10 → decimal n ≡ digit n ∷ []
-one-digit n h =
-    numerals.one-digit false 10 20 n (λ none. omega arith) (lt-ltb n 10 h) ∙ ap (λ (d : ℕ). d ∷ []) (decimal_digit n h)
+pub one_digit : (n : ℕ) → n < 10 → decimal n ≡ digit n ∷ []
+one_digit n h =
+    numerals.one_digit false 10 20 n (λ none. omega arith) (lt-ltb n 10 h) ∙ ap (λ (d : ℕ). d ∷ []) (decimal_digit n h)
 
-pub last-digit : (n : ℕ) → n < 2 ^ 64 → 10 ≤ n → decimal n ≡ decimal (n / 10) ++ (digit (n % 10) ∷ [])
-last-digit n f h =
-    numerals.more-digits false 10 20 n (λ none. omega arith) (le-ltb n 10 h)
+pub last_digit : (n : ℕ) → n < 2 ^ 64 → 10 ≤ n → decimal n ≡ decimal (n / 10) ++ (digit (n % 10) ∷ [])
+last_digit n f h =
+    numerals.more_digits false 10 20 n (λ none. omega arith) (le-ltb n 10 h)
     ∙ ap₂ (λ (ds : List ℕ) (d : ℕ). ds ++ (d ∷ [])) (enough 18 (n / 10) (omega arith)) (decimal_digit (n % 10) (omega arith))
 
 -- a number below 10^k has at most k digits
-digits-most : (k most n : ℕ) → n < 10 ^ suc k → length (numeral false 10 most n) ≤ suc k
+digits_most : (k most n : ℕ) → n < 10 ^ suc k → length (numeral false 10 most n) ≤ suc k
 unfolding numeral
-digits-most k zero n h = omega arith
-digits-most zero (suc most) n h = rw (lt-ltb n 10 h) (omega arith)
-digits-most (suc k) (suc most) n h = go (digits-most k most (n / 10)) (ltb n 10) refl
+digits_most k zero n h = omega arith
+digits_most zero (suc most) n h = rw (lt-ltb n 10 h) (omega arith)
+digits_most (suc k) (suc most) n h = go (digits_most k most (n / 10)) (ltb n 10) refl
   where
     go : (n / 10 < 10 ^ suc k → length (numeral false 10 most (n / 10)) ≤ suc k) → (b : Bool) → ltb n 10 ≡ b
         → length (numeral false 10 (suc most) n) ≤ suc (suc k)
@@ -59,18 +59,18 @@ digits-most (suc k) (suc most) n h = go (digits-most k most (n / 10)) (ltb n 10)
         let p : n < 10 ^ suc k * 10 = rw pow-suc at h in
         rw (e, length-append) (omega (arith, fewer (omega arith)))
 
-pub decimal-length : (k n : ℕ) → n < 10 ^ suc k → length (decimal n) ≤ suc k
-decimal-length k n h = digits-most k 20 n h
+pub decimal_length : (k n : ℕ) → n < 10 ^ suc k → length (decimal n) ≤ suc k
+decimal_length k n h = digits_most k 20 n h
 
 -- ---- a number put at a place of a text
 
 module _ (text : List ℕ) (at n : ℕ) (fits : n < 2 ^ 64) (room : at + length (decimal n) ≤ length text) where
   pub digit_room : n < 10 → at < length text
-  digit_room h = omega (arith, ap length (one-digit n h))
+  digit_room h = omega (arith, ap length (one_digit n h))
 
-  pub digit-put : n < 10 → Puts text at (decimal n) (at + 1) (set text at (digit n))
-  digit-put h = rw (one-digit n h) (record { ends = refl; leaves = refl })
+  pub digit_put : n < 10 → Puts text at (decimal n) (at + 1) (set text at (digit n))
+  digit_put h = rw (one_digit n h) (record { ends = refl; leaves = refl })
 
-  pub digits-left : 10 ≤ n
+  pub digits_left : 10 ≤ n
       → ToPut text at (decimal (n / 10) ++ (digit (n % 10) ∷ [])) (at + length (decimal n)) (sets text at (decimal n))
-  digits-left h = all-to-put text at (sym (last-digit n fits h)) room
+  digits_left h = all_to_put text at (sym (last_digit n fits h)) room

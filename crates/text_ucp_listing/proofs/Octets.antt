@@ -4,14 +4,14 @@ use mathlib.Core.List.{List, [], ◌++◌}
 use Prim.Native.Nat.{ℕ, ◌+◌, ◌<◌, ◌≤◌}
 use lib.ListN.{length, get_or, drop, drop_of_length-le}
 use Rattle.text_output.specs.Text.{printed}
-use Rattle.text_output.proofs.Printed.{drop-next}
-use Rattle.text_ucp_listing.specs.Listing.{hexOctet, hexOctets}
+use Rattle.text_output.proofs.Printed.{drop_next}
+use Rattle.text_ucp_listing.specs.Listing.{hex_octet, hex_octets}
 
 -- the octet at i, and then the others
-pub octet-next : (body : List ℕ) (i : ℕ) → i < length body → hexOctets (drop i body) ≡ hexOctet (get_or body i 0) ++ hexOctets (drop (i + 1) body)
+pub octet_next : (body : List ℕ) (i : ℕ) → i < length body → hex_octets (drop i body) ≡ hex_octet (get_or body i 0) ++ hex_octets (drop (i + 1) body)
 unfolding printed
-octet-next body i h = rw (drop-next body i)
+octet_next body i h = rw (drop_next body i)
 
-pub no-octet : (body : List ℕ) (i : ℕ) → length body ≤ i → hexOctets (drop i body) ≡ []
+pub no_octet : (body : List ℕ) (i : ℕ) → length body ≤ i → hex_octets (drop i body) ≡ []
 unfolding printed
-no-octet body i h = rw (drop_of_length-le body h)
+no_octet body i h = rw (drop_of_length-le body h)

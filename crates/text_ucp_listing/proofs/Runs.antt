@@ -10,20 +10,20 @@ use lib.Seq.{take-append_seam, drop-drop}
 use borrow.Author.Tests.{le-ltb, lt-ltb}
 use Rattle.ucp_frame.specs.Stretch.{Verdict, silent, refused, delivered}
 use Rattle.output_writing.specs.Puts.{Puts}
-use Rattle.output_writing.proofs.ToPut.{all-to-put, first-put, last-put}
+use Rattle.output_writing.proofs.ToPut.{all_to_put, first_put, last_put}
 use Rattle.ucp_receiver.specs.declared.Record.{Record}
 use Rattle.ucp_receiver.specs.declared.Counts.{Counts}
 use Rattle.ucp_receiver.specs.declared.Answer.{Answer}
 use Rattle.ucp_receiver.specs.declared.Answer.TheVariants.{Nothing, Delivered, Refused}
 use Rattle.ucp_receiver.specs.declared.Taken.{Taken}
-use Rattle.ucp_receiver.specs.Answers.{outputAtFlag, ReceiverAnswer, receiverAnswer, answerFor}
-use Rattle.ucp_receiver.specs.Octet.{State, stateAfter, verdictDue, countsAfter, state_of}
-use Rattle.ucp_receiver.specs.Slice.{SliceRun, sliceRun, later, end_at, Takes}
+use Rattle.ucp_receiver.specs.Answers.{output_at_flag, ReceiverAnswer, receiver_answer, answer_for}
+use Rattle.ucp_receiver.specs.Octet.{State, state_after, verdict_due, counts_after, state_of}
+use Rattle.ucp_receiver.specs.Slice.{SliceRun, slice_run, later, end_at, Takes}
 use Rattle.text_ucp_listing.specs.declared.Listed.{Listed}
-use Rattle.text_ucp_listing.specs.Listing.{answerLine, okLine, bodyRoom, longestLine}
-use Rattle.text_ucp_listing.specs.Lists.{Lines, behind, noLines, lines, Lists}
-use Rattle.text_ucp_listing.specs.Steps.{lineOfAnswer, BodyWithin, PutsLine}
-use Rattle.text_ucp_listing.proofs.Whole.{same-long}
+use Rattle.text_ucp_listing.specs.Listing.{answer_line, ok_line, body_room, longest_line}
+use Rattle.text_ucp_listing.specs.Lists.{Lines, behind, no_lines, lines, Lists}
+use Rattle.text_ucp_listing.specs.Steps.{line_of_answer, BodyWithin, PutsLine}
+use Rattle.text_ucp_listing.proofs.Whole.{same_long}
 
 -- ---- how many octets a run takes
 
@@ -31,25 +31,25 @@ use Rattle.text_ucp_listing.proofs.Whole.{same-long}
 abbrev ended : State → Counts → Verdict → SliceRun
 ended s c due = record { state = s; counts = c; taken = 1; verdict = due }
 
-run-within : (s : State) (c : Counts) (xs : List ℕ) (room : ℕ) → (sliceRun s c xs room).taken ≤ length xs
-unfolding sliceRun
-run-within s c [] room = omega arith
-run-within s c (x ∷ xs) room =
-    go (verdictDue s x room) (sliceRun (stateAfter s x) (countsAfter c s x room) xs room)
-    (run-within (stateAfter s x) (countsAfter c s x room) xs room)
+run_within : (s : State) (c : Counts) (xs : List ℕ) (room : ℕ) → (slice_run s c xs room).taken ≤ length xs
+unfolding slice_run
+run_within s c [] room = omega arith
+run_within s c (x ∷ xs) room =
+    go (verdict_due s x room) (slice_run (state_after s x) (counts_after c s x room) xs room)
+    (run_within (state_after s x) (counts_after c s x room) xs room)
   where
     go : (due : Verdict) (r : SliceRun) → r.taken ≤ length xs
-        → (end_at due (ended (stateAfter s x) (countsAfter c s x room) due) (later r)).taken ≤ suc (length xs)
+        → (end_at due (ended (state_after s x) (counts_after c s x room) due) (later r)).taken ≤ suc (length xs)
     go silent r h = omega arith
     go (refused number) r h = omega arith
     go (delivered octets) r h = omega arith
 
-run-moves : (s : State) (c : Counts) (xs : List ℕ) (room : ℕ) → 0 < length xs → 0 < (sliceRun s c xs room).taken
-unfolding sliceRun
-run-moves s c [] room h = absurd (omega arith)
-run-moves s c (x ∷ xs) room h = go (verdictDue s x room) (sliceRun (stateAfter s x) (countsAfter c s x room) xs room)
+run_moves : (s : State) (c : Counts) (xs : List ℕ) (room : ℕ) → 0 < length xs → 0 < (slice_run s c xs room).taken
+unfolding slice_run
+run_moves s c [] room h = absurd (omega arith)
+run_moves s c (x ∷ xs) room h = go (verdict_due s x room) (slice_run (state_after s x) (counts_after c s x room) xs room)
   where
-    go : (due : Verdict) (r : SliceRun) → 0 < (end_at due (ended (stateAfter s x) (countsAfter c s x room) due) (later r)).taken
+    go : (due : Verdict) (r : SliceRun) → 0 < (end_at due (ended (state_after s x) (counts_after c s x room) due) (later r)).taken
     go silent r = omega arith
     go (refused number) r = omega arith
     go (delivered octets) r = omega arith
@@ -63,46 +63,46 @@ after n text l = record { state = l.state; counts = l.counts; room = l.room; tak
 -- the lines of a slice from where a run ended on, behind the run's line
 abbrev followed : List ℕ → List ℕ → ℕ → SliceRun → Lines
 followed room xs free r =
-    after r.taken (answerLine r.verdict)
-    (lines r.state r.counts (outputAtFlag r.verdict room) (drop r.taken xs) (free - length (answerLine r.verdict)))
+    after r.taken (answer_line r.verdict)
+    (lines r.state r.counts (output_at_flag r.verdict room) (drop r.taken xs) (free - length (answer_line r.verdict)))
 
-followed-later : (room : List ℕ) (x : ℕ) (xs : List ℕ) (free : ℕ) (r : SliceRun)
+followed_later : (room : List ℕ) (x : ℕ) (xs : List ℕ) (free : ℕ) (r : SliceRun)
     → behind [] (followed room xs free r) ≡ followed room (x ∷ xs) free (later r)
-followed-later room x xs free r =
-    let rest : List ℕ → Lines = λ ys. lines r.state r.counts (outputAtFlag r.verdict room) ys (free - length (answerLine r.verdict)) in
+followed_later room x xs free r =
+    let rest : List ℕ → Lines = λ ys. lines r.state r.counts (output_at_flag r.verdict room) ys (free - length (answer_line r.verdict)) in
     let l : Lines = rest (drop r.taken xs) in
     let e : l.taken + r.taken + 1 ≡ l.taken + (r.taken + 1) = omega arith in
-    ap (λ (n : ℕ). record { state = l.state; counts = l.counts; room = l.room; taken = n; text = answerLine r.verdict ++ l.text }) e
-    ∙ ap (λ (n : ℕ). after (r.taken + 1) (answerLine r.verdict) (rest (drop n (x ∷ xs)))) (sym (add-one r.taken))
+    ap (λ (n : ℕ). record { state = l.state; counts = l.counts; room = l.room; taken = n; text = answer_line r.verdict ++ l.text }) e
+    ∙ ap (λ (n : ℕ). after (r.taken + 1) (answer_line r.verdict) (rest (drop n (x ∷ xs)))) (sym (add-one r.taken))
 
-lines-run : (s : State) (c : Counts) (room xs : List ℕ) (free : ℕ) → longestLine ≤ free
-    → lines s c room xs free ≡ followed room xs free (sliceRun s c xs bodyRoom)
-unfolding sliceRun lines
-lines-run s c room [] free h = refl
-lines-run s c room (x ∷ xs) free h =
-    let s' = stateAfter s x in
-    let c' = countsAfter c s x bodyRoom in
-    rw (le-ltb free longestLine h)
-    (go (verdictDue s x bodyRoom) (sliceRun s' c' xs bodyRoom) (lines-run s' c' room xs free h))
+lines_run : (s : State) (c : Counts) (room xs : List ℕ) (free : ℕ) → longest_line ≤ free
+    → lines s c room xs free ≡ followed room xs free (slice_run s c xs body_room)
+unfolding slice_run lines
+lines_run s c room [] free h = refl
+lines_run s c room (x ∷ xs) free h =
+    let s' = state_after s x in
+    let c' = counts_after c s x body_room in
+    rw (le-ltb free longest_line h)
+    (go (verdict_due s x body_room) (slice_run s' c' xs body_room) (lines_run s' c' room xs free h))
   where
-    go : (due : Verdict) (r : SliceRun) → lines (stateAfter s x) (countsAfter c s x bodyRoom) room xs free ≡ followed room xs free r
-        → behind (answerLine due) (lines (stateAfter s x) (countsAfter c s x bodyRoom) (outputAtFlag due room) xs (free - length (answerLine due)))
-        ≡ followed room (x ∷ xs) free (end_at due (ended (stateAfter s x) (countsAfter c s x bodyRoom) due) (later r))
+    go : (due : Verdict) (r : SliceRun) → lines (state_after s x) (counts_after c s x body_room) room xs free ≡ followed room xs free r
+        → behind (answer_line due) (lines (state_after s x) (counts_after c s x body_room) (output_at_flag due room) xs (free - length (answer_line due)))
+        ≡ followed room (x ∷ xs) free (end_at due (ended (state_after s x) (counts_after c s x body_room) due) (later r))
     go silent r e =
-        ap (λ (k : ℕ). behind [] (lines (stateAfter s x) (countsAfter c s x bodyRoom) room xs k)) (sub-zero free)
+        ap (λ (k : ℕ). behind [] (lines (state_after s x) (counts_after c s x body_room) room xs k)) (sub-zero free)
         ∙ ap (behind []) e
-        ∙ followed-later room x xs free r
+        ∙ followed_later room x xs free r
     go (refused number) r e = refl
     go (delivered octets) r e = refl
 
 -- ---- the lines so far
 
 -- octets put behind others
-puts-both : {before : List ℕ} {start : ℕ} {us : List ℕ} {at : ℕ} {text vs : List ℕ} {next : ℕ} {last : List ℕ}
+puts_both : {before : List ℕ} {start : ℕ} {us : List ℕ} {at : ℕ} {text vs : List ℕ} {next : ℕ} {last : List ℕ}
     → Puts before start us at text → Puts text at vs next last → next ≤ length before → Puts before start (us ++ vs) next last
-puts-both {before} {start} {us} {vs = vs} p q h =
+puts_both {before} {start} {us} {vs = vs} p q h =
     let room : start + length (us ++ vs) ≤ length before = simp length-append (omega (arith, p.ends, q.ends)) in
-    let both = last-put (first-put us vs (all-to-put before start refl room) p) q in
+    let both = last_put (first_put us vs (all_to_put before start refl room) p) q in
     record { ends = both.0; leaves = both.1 }
 
 -- some octets were taken and their lines put, and the lines of the others make up the whole
@@ -129,27 +129,27 @@ none_so_far s c room line first =
 
 -- ---- what a call of the receiver adds
 
-pub takes-within : {receiver : Record} {store line room : List ℕ} {given : Taken} {storeAfter roomAfter : List ℕ}
-    → Takes receiver store line room given storeAfter roomAfter → (given.taken ≤ length line) × (0 < length line → 0 < given.taken)
-takes-within {receiver} {store} {line} {room} takes = (
-  omega (arith, takes.taken, run-within (state_of receiver.rest store) receiver.counts line (length room)),
-  λ h. omega (arith, takes.taken, run-moves (state_of receiver.rest store) receiver.counts line (length room) h),
+pub takes_within : {receiver : Record} {store line room : List ℕ} {given : Taken} {store_after room_after : List ℕ}
+    → Takes receiver store line room given store_after room_after → (given.taken ≤ length line) × (0 < length line → 0 < given.taken)
+takes_within {receiver} {store} {line} {room} takes = (
+  omega (arith, takes.taken, run_within (state_of receiver.rest store) receiver.counts line (length room)),
+  λ h. omega (arith, takes.taken, run_moves (state_of receiver.rest store) receiver.counts line (length room) h),
 )
 
-module _ (receiver : Record) (store line room : List ℕ) (given : Taken) (storeAfter roomAfter : List ℕ)
-    (takes : Takes receiver store line room given storeAfter roomAfter) (long : length room ≡ bodyRoom) (kept : length roomAfter ≡ length room) where
+module _ (receiver : Record) (store line room : List ℕ) (given : Taken) (store_after room_after : List ℕ)
+    (takes : Takes receiver store line room given store_after room_after) (long : length room ≡ body_room) (kept : length room_after ≡ length room) where
   abbrev here : SliceRun
-  here = sliceRun (state_of receiver.rest store) receiver.counts line bodyRoom
+  here = slice_run (state_of receiver.rest store) receiver.counts line body_room
 
-  ran : sliceRun (state_of receiver.rest store) receiver.counts line (length room) ≡ here
+  ran : slice_run (state_of receiver.rest store) receiver.counts line (length room) ≡ here
   ran = rw long
 
-  pub body-fits : BodyWithin given.answer bodyRoom
-  body-fits =
-      go given.answer here.verdict (takes.answers ∙ ap (λ (r : SliceRun). answerFor r.verdict) ran)
-      (takes.puts ∙ ap (λ (r : SliceRun). outputAtFlag r.verdict room) ran)
+  pub body_fits : BodyWithin given.answer body_room
+  body_fits =
+      go given.answer here.verdict (takes.answers ∙ ap (λ (r : SliceRun). answer_for r.verdict) ran)
+      (takes.puts ∙ ap (λ (r : SliceRun). output_at_flag r.verdict room) ran)
     where
-      go : (a : Answer) (v : Verdict) → receiverAnswer a ≡ answerFor v → roomAfter ≡ outputAtFlag v room → BodyWithin a bodyRoom
+      go : (a : Answer) (v : Verdict) → receiver_answer a ≡ answer_for v → room_after ≡ output_at_flag v room → BodyWithin a body_room
       go Nothing v e f = tt
       go (Refused number) v e f = tt
       go (Delivered octets) silent e f = let z : ◌≡◌ {A = ℕ} 0 1 = cc in absurd (omega arith)
@@ -158,73 +158,73 @@ module _ (receiver : Record) (store line room : List ℕ) (given : Taken) (store
           let n : octets ≡ length body = cc in
           omega (arith, simp length-append at (ap length f))
 
-  pub answer-line : lineOfAnswer (receiverAnswer given.answer) roomAfter ≡ answerLine here.verdict
-  answer-line =
-      ap (λ (t : ReceiverAnswer). lineOfAnswer t roomAfter) (takes.answers ∙ ap (λ (r : SliceRun). answerFor r.verdict) ran)
-      ∙ go here.verdict (takes.puts ∙ ap (λ (r : SliceRun). outputAtFlag r.verdict room) ran)
+  pub answer_line : line_of_answer (receiver_answer given.answer) room_after ≡ answer_line here.verdict
+  answer_line =
+      ap (λ (t : ReceiverAnswer). line_of_answer t room_after) (takes.answers ∙ ap (λ (r : SliceRun). answer_for r.verdict) ran)
+      ∙ go here.verdict (takes.puts ∙ ap (λ (r : SliceRun). output_at_flag r.verdict room) ran)
     where
-      go : (v : Verdict) → roomAfter ≡ outputAtFlag v room → lineOfAnswer (answerFor v) roomAfter ≡ answerLine v
+      go : (v : Verdict) → room_after ≡ output_at_flag v room → line_of_answer (answer_for v) room_after ≡ answer_line v
       go silent f = refl
       go (refused number) f = refl
-      go (delivered body) f = ap okLine (rw f (take-append_seam body (drop (length body) room)))
+      go (delivered body) f = ap ok_line (rw f (take-append_seam body (drop (length body) room)))
 
-after-after : (m n : ℕ) (us vs : List ℕ) (l : Lines) → after m us (after n vs l) ≡ after (m + n) (us ++ vs) l
-after-after m n us vs l =
+after_after : (m n : ℕ) (us vs : List ℕ) (l : Lines) → after m us (after n vs l) ≡ after (m + n) (us ++ vs) l
+after_after m n us vs l =
     let e : l.taken + n + m ≡ l.taken + (m + n) = omega arith in
     let f : us ++ (vs ++ l.text) ≡ us ++ vs ++ l.text = sym (append_assoc us vs l.text) in
     λ i. record { state = l.state; counts = l.counts; room = l.room; taken = e i; text = f i }
 
 -- the receiver took octets, and the line of its answer was put
-pub more-so-far : {whole : Lines} {line first : List ℕ} (receiver : Record) (store room : List ℕ) {text : List ℕ} (taken at : ℕ)
-    (given : Taken) (storeAfter roomAfter : List ℕ) {next : ℕ} {last : List ℕ}
+pub more_so_far : {whole : Lines} {line first : List ℕ} (receiver : Record) (store room : List ℕ) {text : List ℕ} (taken at : ℕ)
+    (given : Taken) (store_after room_after : List ℕ) {next : ℕ} {last : List ℕ}
     → SoFar whole line first (state_of receiver.rest store) receiver.counts room text taken at
-    → longestLine ≤ length first - at
-    → Takes receiver store (drop taken line) room given storeAfter roomAfter → length room ≡ bodyRoom → length roomAfter ≡ length room
-    → PutsLine text at (lineOfAnswer (receiverAnswer given.answer) roomAfter) next last
-    → SoFar whole line first (state_of given.receiver.rest storeAfter) given.receiver.counts roomAfter last (taken + given.taken) next
-more-so-far {whole} {line} {first} receiver store room taken at given storeAfter roomAfter {next} so free takes long kept put =
+    → longest_line ≤ length first - at
+    → Takes receiver store (drop taken line) room given store_after room_after → length room ≡ body_room → length room_after ≡ length room
+    → PutsLine text at (line_of_answer (receiver_answer given.answer) room_after) next last
+    → SoFar whole line first (state_of given.receiver.rest store_after) given.receiver.counts room_after last (taken + given.taken) next
+more_so_far {whole} {line} {first} receiver store room taken at given store_after room_after {next} so free takes long kept put =
     let xs = drop taken line in
-    let r = sliceRun (state_of receiver.rest store) receiver.counts xs bodyRoom in
-    let same = ran receiver store xs room given storeAfter roomAfter takes long kept in
+    let r = slice_run (state_of receiver.rest store) receiver.counts xs body_room in
+    let same = ran receiver store xs room given store_after room_after takes long kept in
     let took : r.taken ≡ given.taken = sym (takes.taken ∙ ap (λ (q : SliceRun). q.taken) same) in
-    let puts : Puts _ at (answerLine r.verdict) next _ =
-    rw (answer-line receiver store xs room given storeAfter roomAfter takes long kept) at put.puts in
-    let ends : next ≤ length first = omega (arith, put.within, same-long so.puts) in
-    let s : r.state ≡ state_of given.receiver.rest storeAfter = sym (takes.state ∙ ap (λ (q : SliceRun). q.state) same) in
+    let puts : Puts _ at (answer_line r.verdict) next _ =
+    rw (answer_line receiver store xs room given store_after room_after takes long kept) at put.puts in
+    let ends : next ≤ length first = omega (arith, put.within, same_long so.puts) in
+    let s : r.state ≡ state_of given.receiver.rest store_after = sym (takes.state ∙ ap (λ (q : SliceRun). q.state) same) in
     let c : r.counts ≡ given.receiver.counts = sym (takes.account ∙ ap (λ (q : SliceRun). q.counts) same) in
-    let o : outputAtFlag r.verdict room ≡ roomAfter = sym (takes.puts ∙ ap (λ (q : SliceRun). outputAtFlag q.verdict room) same) in
+    let o : output_at_flag r.verdict room ≡ room_after = sym (takes.puts ∙ ap (λ (q : SliceRun). output_at_flag q.verdict room) same) in
     let d : drop r.taken xs ≡ drop (taken + given.taken) line = drop-drop r.taken taken line ∙ ap (λ (n : ℕ). drop (taken + n) line) took in
-    let f : length first - at - length (answerLine r.verdict) ≡ length first - next = omega (arith, puts.ends) in
+    let f : length first - at - length (answer_line r.verdict) ≡ length first - next = omega (arith, puts.ends) in
     record {
-      within = omega (arith, took, run-within (state_of receiver.rest store) receiver.counts xs bodyRoom, length-drop taken line, so.within);
+      within = omega (arith, took, run_within (state_of receiver.rest store) receiver.counts xs body_room, length-drop taken line, so.within);
       ends = ends;
-      done = so.done ++ answerLine r.verdict;
-      puts = puts-both so.puts puts ends;
+      done = so.done ++ answer_line r.verdict;
+      puts = puts_both so.puts puts ends;
       makes =
           so.makes
-          ∙ ap (after taken so.done) (lines-run (state_of receiver.rest store) receiver.counts room xs (length first - at) free)
-          ∙ after-after taken r.taken so.done (answerLine r.verdict) _
-          ∙ (λ i. after (taken + took i) (so.done ++ answerLine r.verdict) (lines (s i) (c i) (o i) (d i) (f i)));
+          ∙ ap (after taken so.done) (lines_run (state_of receiver.rest store) receiver.counts room xs (length first - at) free)
+          ∙ after_after taken r.taken so.done (answer_line r.verdict) _
+          ∙ (λ i. after (taken + took i) (so.done ++ answer_line r.verdict) (lines (s i) (c i) (o i) (d i) (f i)));
     }
 
 -- ---- the end
 
-pub slice-ends : (s : State) (c : Counts) (room line : List ℕ) (taken free : ℕ) → length line ≤ taken
-    → lines s c room (drop taken line) free ≡ noLines s c room
+pub slice_ends : (s : State) (c : Counts) (room line : List ℕ) (taken free : ℕ) → length line ≤ taken
+    → lines s c room (drop taken line) free ≡ no_lines s c room
 unfolding lines
-slice-ends s c room line taken free h = rw (drop_of_length-le line h)
+slice_ends s c room line taken free h = rw (drop_of_length-le line h)
 
-pub text-full : (s : State) (c : Counts) (room xs : List ℕ) (free : ℕ) → free < longestLine → lines s c room xs free ≡ noLines s c room
+pub text_full : (s : State) (c : Counts) (room xs : List ℕ) (free : ℕ) → free < longest_line → lines s c room xs free ≡ no_lines s c room
 unfolding lines
-text-full s c room [] free h = refl
-text-full s c room (x ∷ xs) free h = rw (lt-ltb free longestLine h)
+text_full s c room [] free h = refl
+text_full s c room (x ∷ xs) free h = rw (lt-ltb free longest_line h)
 
-pub all-so-far : (receiver : Record) (store room line first : List ℕ) (given : Listed) (storeAfter roomAfter : List ℕ) {text : List ℕ}
-    → SoFar (lines (state_of receiver.rest store) receiver.counts room line (length first)) line first (state_of given.receiver.rest storeAfter) given.receiver.counts roomAfter text given.taken given.written
-    → lines (state_of given.receiver.rest storeAfter) given.receiver.counts roomAfter (drop given.taken line) (length first - given.written)
-    ≡ noLines (state_of given.receiver.rest storeAfter) given.receiver.counts roomAfter
-    → Lists receiver store room line first given storeAfter roomAfter text
-all-so-far receiver store room line first given storeAfter roomAfter so none =
+pub all_so_far : (receiver : Record) (store room line first : List ℕ) (given : Listed) (store_after room_after : List ℕ) {text : List ℕ}
+    → SoFar (lines (state_of receiver.rest store) receiver.counts room line (length first)) line first (state_of given.receiver.rest store_after) given.receiver.counts room_after text given.taken given.written
+    → lines (state_of given.receiver.rest store_after) given.receiver.counts room_after (drop given.taken line) (length first - given.written)
+    ≡ no_lines (state_of given.receiver.rest store_after) given.receiver.counts room_after
+    → Lists receiver store room line first given store_after room_after text
+all_so_far receiver store room line first given store_after room_after so none =
     let e = sym (so.makes ∙ ap (after given.taken so.done) none) in
     let all : so.done ≡ (lines (state_of receiver.rest store) receiver.counts room line (length first)).text =
     sym (append-nil so.done) ∙ ap (λ (l : Lines). l.text) e in

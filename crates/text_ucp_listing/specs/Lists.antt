@@ -3,21 +3,21 @@ use Rattle.std.specs.Prelude.{◌≡◌, Bool, true, false, cond, List, [], ◌�
 use Rattle.output_writing.specs.Puts.{Puts}
 use Rattle.ucp_receiver.specs.declared.Record.{Record}
 use Rattle.ucp_receiver.specs.declared.Counts.{Counts}
-use Rattle.ucp_receiver.specs.Answers.{outputAtFlag}
-use Rattle.ucp_receiver.specs.Octet.{State, state_of, stateAfter, verdictDue, countsAfter}
+use Rattle.ucp_receiver.specs.Answers.{output_at_flag}
+use Rattle.ucp_receiver.specs.Octet.{State, state_of, state_after, verdict_due, counts_after}
 use Rattle.text_ucp_listing.specs.Steps.{PutsLine}
 use Rattle.text_ucp_listing.specs.declared.Listed.{Listed}
-use Rattle.text_ucp_listing.specs.Listing.{answerLine, bodyRoom, longestLine, closingLine, longestClosing}
+use Rattle.text_ucp_listing.specs.Listing.{answer_line, body_room, longest_line, closing_line, longest_closing}
 
 -- ---- the closing line
 
 -- where there is room for the longest closing line the line is put; else nothing changes, and the same place comes back
 abbrev pub PutsClosingIf : Bool → List ℕ → ℕ → Counts → ℕ → List ℕ → Type 0
-PutsClosingIf true before at counts next after = PutsLine before at (closingLine counts) next after
+PutsClosingIf true before at counts next after = PutsLine before at (closing_line counts) next after
 PutsClosingIf false before at counts next after = (next ≡ at) × (after ≡ before)
 
 abbrev pub PutsClosing : List ℕ → ℕ → Counts → ℕ → List ℕ → Type 0
-PutsClosing before at counts next after = PutsClosingIf (leb (at + longestClosing) (length before)) before at counts next after
+PutsClosing before at counts next after = PutsClosingIf (leb (at + longest_closing) (length before)) before at counts next after
 
 -- ---- the lines of a slice of the line
 
@@ -34,26 +34,26 @@ abbrev pub behind : List ℕ → Lines → Lines
 behind line l =
     record { state = l.state; counts = l.counts; room = l.room; taken = l.taken + 1; text = line ++ l.text }
 
-abbrev pub noLines : State → Counts → List ℕ → Lines
-noLines s c room = record { state = s; counts = c; room = room; taken = 0; text = [] }
+abbrev pub no_lines : State → Counts → List ℕ → Lines
+no_lines s c room = record { state = s; counts = c; room = room; taken = 0; text = [] }
 
 -- octet by octet, up to the slice's end, or to where the longest line does not fit the text that is free
 unfoldable pub lines : State → Counts → List ℕ → List ℕ → ℕ → Lines
-lines s c room [] free = noLines s c room
+lines s c room [] free = no_lines s c room
 lines s c room (x ∷ xs) free =
-    let due = verdictDue s x bodyRoom in
-    let rest = lines (stateAfter s x) (countsAfter c s x bodyRoom) (outputAtFlag due room) xs (free - length (answerLine due)) in
-    let more = behind (answerLine due) rest in
-    cond (ltb free longestLine) (noLines s c room) more
+    let due = verdict_due s x body_room in
+    let rest = lines (state_after s x) (counts_after c s x body_room) (output_at_flag due room) xs (free - length (answer_line due)) in
+    let more = behind (answer_line due) rest in
+    cond (ltb free longest_line) (no_lines s c room) more
 
 -- one call, whole: the record, the room, the slice and the text as at entry; what is given back, and what was lent as at return
 pub record Lists (receiver : Record) (store room line text : List ℕ)
-    (given : Listed) (storeAfter roomAfter textAfter : List ℕ) : Type 0 where
-  pub state : state_of given.receiver.rest storeAfter ≡ (lines (state_of receiver.rest store) receiver.counts room line (length text)).state
+    (given : Listed) (store_after room_after text_after : List ℕ) : Type 0 where
+  pub state : state_of given.receiver.rest store_after ≡ (lines (state_of receiver.rest store) receiver.counts room line (length text)).state
   pub account : given.receiver.counts ≡ (lines (state_of receiver.rest store) receiver.counts room line (length text)).counts
-  pub holds : roomAfter ≡ (lines (state_of receiver.rest store) receiver.counts room line (length text)).room
+  pub holds : room_after ≡ (lines (state_of receiver.rest store) receiver.counts room line (length text)).room
   pub taken : given.taken ≡ (lines (state_of receiver.rest store) receiver.counts room line (length text)).taken
-  pub puts : Puts text 0 (lines (state_of receiver.rest store) receiver.counts room line (length text)).text given.written textAfter
+  pub puts : Puts text 0 (lines (state_of receiver.rest store) receiver.counts room line (length text)).text given.written text_after
   pub within : given.written ≤ length text
 
 -- ---- whole slices
@@ -63,11 +63,11 @@ pub record RecordBehind : Type 0 where
   pub state : State
   pub counts : Counts
 
-unfoldable pub behindAll : State → Counts → List ℕ → RecordBehind
-behindAll s c [] = record { state = s; counts = c }
-behindAll s c (x ∷ xs) = behindAll (stateAfter s x) (countsAfter c s x bodyRoom) xs
+unfoldable pub behind_all : State → Counts → List ℕ → RecordBehind
+behind_all s c [] = record { state = s; counts = c }
+behind_all s c (x ∷ xs) = behind_all (state_after s x) (counts_after c s x body_room) xs
 
 -- the line of every answer that the octets of a slice bring
-unfoldable pub everyLine : State → Counts → List ℕ → List ℕ
-everyLine s c [] = []
-everyLine s c (x ∷ xs) = answerLine (verdictDue s x bodyRoom) ++ everyLine (stateAfter s x) (countsAfter c s x bodyRoom) xs
+unfoldable pub every_line : State → Counts → List ℕ → List ℕ
+every_line s c [] = []
+every_line s c (x ∷ xs) = answer_line (verdict_due s x body_room) ++ every_line (state_after s x) (counts_after c s x body_room) xs

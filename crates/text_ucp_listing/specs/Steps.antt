@@ -4,13 +4,13 @@ use Rattle.output_writing.specs.Puts.{Puts}
 use Rattle.ucp_receiver.specs.declared.Answer.{Answer}
 use Rattle.ucp_receiver.specs.declared.Answer.TheVariants.{Nothing, Delivered, Refused}
 use Rattle.ucp_receiver.specs.Answers.{ReceiverAnswer, nothing, refusal, body}
-use Rattle.text_ucp_listing.specs.Listing.{okLine, noLine}
+use Rattle.text_ucp_listing.specs.Listing.{ok_line, no_line}
 
 -- the line of an answer as the receiver gives it, a body by its length and where it stands
-abbrev pub lineOfAnswer : ReceiverAnswer → List ℕ → List ℕ
-lineOfAnswer nothing room = []
-lineOfAnswer (refusal number) room = noLine number
-lineOfAnswer (body octets) room = okLine (take octets room)
+abbrev pub line_of_answer : ReceiverAnswer → List ℕ → List ℕ
+line_of_answer nothing room = []
+line_of_answer (refusal number) room = no_line number
+line_of_answer (body octets) room = ok_line (take octets room)
 
 -- a body that an answer gives is within the room
 abbrev pub BodyWithin : Answer → ℕ → Type 0

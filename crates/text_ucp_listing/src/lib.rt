@@ -1,11 +1,11 @@
 // The text of a listing: a line for each answer of the receiver, and a last line with its counts.
 ghost use Rattle.std.specs.Prelude.{◌≡◌, [], ◌∷◌, ◌+◌, ◌<◌, ◌≤◌, length};
 ghost use Rattle.output_writing.specs.Puts.{Puts};
-ghost use Rattle.ucp_receiver.specs.Answers.{receiverAnswer};
-ghost use Rattle.text_output.specs.Text.{hexDigit};
-ghost use Rattle.text_ucp_listing.specs.Listing.{bodyRoom, longestLine, decimal, hexOctets, newline, okLine, noLine, counted, bytesReceived, closingLine};
+ghost use Rattle.ucp_receiver.specs.Answers.{receiver_answer};
+ghost use Rattle.text_output.specs.Text.{hex_digit};
+ghost use Rattle.text_ucp_listing.specs.Listing.{body_room, longest_line, decimal, hex_octets, newline, ok_line, no_line, counted, bytes_received, closing_line};
 ghost use Rattle.text_ucp_listing.specs.Lists.{Lists, PutsClosing};
-ghost use Rattle.text_ucp_listing.specs.Steps.{BodyWithin, PutsLine, lineOfAnswer};
+ghost use Rattle.text_ucp_listing.specs.Steps.{BodyWithin, PutsLine, line_of_answer};
 
 use ucp_frame::BodyRoom;
 use ucp_receiver::{Answer, Counts, Record, Store};
@@ -15,7 +15,7 @@ use ucp_receiver::{Answer, Counts, Record, Store};
 // By arithmetic: an index into a constant table copies the table each time, and a test of d < 10 is guessed wrong often.
 fn hex_digit(d: u8) -> u8
     requires { d < 16 }
-    ensures { result ≡ hexDigit d }
+    ensures { result ≡ hex_digit d }
 {
     d + 48 + (d + 6) / 16 * 39
 }
@@ -32,8 +32,8 @@ fn put_three(text: &mut [u8], at: usize, first: u8, second: u8, third: u8) -> us
 
 // Each octet of a body in hexadecimal, with a space before it.
 fn put_octets(text: &mut [u8], at: usize, body: &[u8]) -> usize
-    requires { at + length (hexOctets body.now) ≤ length text.old }
-    ensures { Puts text.old at (hexOctets body.now) result text.new }
+    requires { at + length (hex_octets body.now) ≤ length text.old }
+    ensures { Puts text.old at (hex_octets body.now) result text.new }
 {
     let mut at = at;
     let mut i = 0;
@@ -69,8 +69,8 @@ fn put_newline(text: &mut [u8], at: usize) -> usize
 }
 
 fn put_ok(text: &mut [u8], at: usize, body: &[u8]) -> usize
-    requires { at + length (okLine body.now) ≤ length text.old }
-    ensures { Puts text.old at (okLine body.now) result text.new }
+    requires { at + length (ok_line body.now) ≤ length text.old }
+    ensures { Puts text.old at (ok_line body.now) result text.new }
 {
     let at = put_three(text, at, b'o', b'k', b' ');
     let at = put_decimal(text, at, body.len());
@@ -79,8 +79,8 @@ fn put_ok(text: &mut [u8], at: usize, body: &[u8]) -> usize
 }
 
 fn put_no(text: &mut [u8], at: usize, number: u8) -> usize
-    requires { at + length (noLine number) ≤ length text.old }
-    ensures { Puts text.old at (noLine number) result text.new }
+    requires { at + length (no_line number) ≤ length text.old }
+    ensures { Puts text.old at (no_line number) result text.new }
 {
     let at = put_three(text, at, b'n', b'o', b' ');
     let at = put_decimal(text, at, number as usize);
@@ -89,8 +89,8 @@ fn put_no(text: &mut [u8], at: usize, number: u8) -> usize
 
 // The line of an answer, where there is one. A body stands at the start of room.
 fn put_answer(text: &mut [u8], at: usize, answer: Answer, room: &[u8]) -> usize
-    requires { (at + longestLine ≤ length text.old) × (length room.now ≡ bodyRoom) × BodyWithin answer bodyRoom }
-    ensures { PutsLine text.old at (lineOfAnswer (receiverAnswer answer) room.now) result text.new }
+    requires { (at + longest_line ≤ length text.old) × (length room.now ≡ body_room) × BodyWithin answer body_room }
+    ensures { PutsLine text.old at (line_of_answer (receiver_answer answer) room.now) result text.new }
 {
     match answer {
         Answer::Nothing => at,
@@ -162,7 +162,7 @@ fn put_count(text: &mut [u8], at: usize, word: &[u8], n: u32) -> usize
 
 // The octets received, modulo 2^32.
 fn received(counts: Counts) -> u32
-    ensures { result ≡ bytesReceived counts }
+    ensures { result ≡ bytes_received counts }
 {
     let sum = wide(counts.flags)
         + wide(counts.delivered)
@@ -179,8 +179,8 @@ fn wide(count: u32) -> u64
 }
 
 fn put_counts(text: &mut [u8], at: usize, counts: Counts) -> usize
-    requires { at + length (closingLine counts) ≤ length text.old }
-    ensures { Puts text.old at (closingLine counts) result text.new }
+    requires { at + length (closing_line counts) ≤ length text.old }
+    ensures { Puts text.old at (closing_line counts) result text.new }
 {
     let at = put_count(text, at, b"bytes ", received(counts));
     let at = put_count(text, at, b" flags ", counts.flags);

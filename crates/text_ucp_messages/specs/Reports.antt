@@ -2,7 +2,7 @@
 use Rattle.std.specs.Prelude.{List, [], ◌∷◌, ℕ, ◌*◌, pos}
 use Rattle.text_output.specs.declared.Scale.TheVariants.{Ones}
 use Rattle.text_fields.specs.declared.Unit.TheVariants.{Knots}
-use Rattle.text_fields.specs.Fields.{unless, Value, number, reading, hexadecimal, quotedText, reportAltitude, rate, geometricAltitude, angle, Labelled, ◌is◌}
+use Rattle.text_fields.specs.Fields.{unless, Value, number, reading, hexadecimal, quoted_text, report_altitude, rate, geometric_altitude, angle, Labelled, ◌is◌}
 use Rattle.ucp_messages.specs.declared.Report.{Report}
 use Rattle.ucp_messages.specs.declared.GeometricAltitude.{GeometricAltitude}
 
@@ -18,14 +18,14 @@ knots n = reading Ones Knots (unless 4095 (pos n))
 
 -- ---- the fields of each kind
 
-abbrev pub reportFields : Report → List Labelled
-reportFields r =
+abbrev pub report_fields : Report → List Labelled
+report_fields r =
     "alert" is number r.alert
     ∷ "address type" is number r.address_type
     ∷ "address" is hexadecimal 6 r.address
     ∷ "latitude" is angle r.latitude
     ∷ "longitude" is angle r.longitude
-    ∷ "altitude" is reportAltitude r.altitude
+    ∷ "altitude" is report_altitude r.altitude
     ∷ "miscellaneous" is number r.miscellaneous
     ∷ "nic" is number r.nic
     ∷ "nacp" is number r.nacp
@@ -33,11 +33,11 @@ reportFields r =
     ∷ "vertical rate" is rate r.vertical_rate
     ∷ "track" is track r.track
     ∷ "emitter" is number r.emitter
-    ∷ "callsign" is quotedText r.callsign
+    ∷ "callsign" is quoted_text r.callsign
     ∷ "emergency" is number r.emergency
     ∷ "spare" is number r.spare
     ∷ []
 
-abbrev pub geometricFields : GeometricAltitude → List Labelled
-geometricFields g =
-    "altitude" is geometricAltitude g.altitude ∷ "metrics" is hexadecimal 4 g.metrics ∷ []
+abbrev pub geometric_fields : GeometricAltitude → List Labelled
+geometric_fields g =
+    "altitude" is geometric_altitude g.altitude ∷ "metrics" is hexadecimal 4 g.metrics ∷ []

@@ -2,9 +2,9 @@
 ghost use Rattle.std.specs.Prelude.{[], ◌++◌};
 ghost use Rattle.ucp_messages.specs.declared.Message.TheVariants.{Heartbeat as HeartbeatMessage, Uplink as UplinkMessage, GeometricAltitude as GeometricMessage, Request as RequestMessage, Control as ControlMessage, Initialization as InitializationMessage};
 ghost use Rattle.text_output.specs.Clips.{Clips};
-ghost use Rattle.text_fields.specs.Fields.{fieldsShown};
-ghost use Rattle.text_ucp_messages.specs.Reports.{reportFields};
-ghost use Rattle.text_ucp_messages.specs.Messages.{messageShown};
+ghost use Rattle.text_fields.specs.Fields.{fields_shown};
+ghost use Rattle.text_ucp_messages.specs.Reports.{report_fields};
+ghost use Rattle.text_ucp_messages.specs.Messages.{message_shown};
 
 use text_fields::{put_fields, put_named};
 use text_output::{Printing, TextRoom, put_word};
@@ -13,7 +13,7 @@ use ucp_messages::{
 };
 
 fn put_heartbeat(text: &mut TextRoom, at: usize, message: Heartbeat) -> usize
-    ensures { Clips text.old at (messageShown (HeartbeatMessage message) []) result text.new }
+    ensures { Clips text.old at (message_shown (HeartbeatMessage message) []) result text.new }
 {
     let naturals = [
         message.status_1 as u32,
@@ -33,7 +33,7 @@ fn put_heartbeat(text: &mut TextRoom, at: usize, message: Heartbeat) -> usize
 }
 
 fn put_uplink(text: &mut TextRoom, at: usize, body: &[u8]) -> usize
-    ensures { Clips text.old at (messageShown UplinkMessage body.now) result text.new }
+    ensures { Clips text.old at (message_shown UplinkMessage body.now) result text.new }
 {
     let at = put_word(text, at, b" uplink payload");
     text_output::put_printed(text, at, Printing::Hex, body, 1)
@@ -41,7 +41,7 @@ fn put_uplink(text: &mut TextRoom, at: usize, body: &[u8]) -> usize
 
 // Ownship and traffic are told apart by the name. A track's step is 65536 of an angle's.
 fn put_report(text: &mut TextRoom, at: usize, name: &[u8], message: Report) -> usize
-    ensures { Clips text.old at (name.now ++ fieldsShown (reportFields message)) result text.new }
+    ensures { Clips text.old at (name.now ++ fields_shown (report_fields message)) result text.new }
 {
     let naturals = [
         message.alert as u32,
@@ -75,7 +75,7 @@ fn put_report(text: &mut TextRoom, at: usize, name: &[u8], message: Report) -> u
 }
 
 fn put_geometric(text: &mut TextRoom, at: usize, message: GeometricAltitude) -> usize
-    ensures { Clips text.old at (messageShown (GeometricMessage message) []) result text.new }
+    ensures { Clips text.old at (message_shown (GeometricMessage message) []) result text.new }
 {
     let naturals = [message.metrics as u32];
     let shorts = [message.altitude];
@@ -91,7 +91,7 @@ fn put_geometric(text: &mut TextRoom, at: usize, message: GeometricAltitude) -> 
 }
 
 fn put_request(text: &mut TextRoom, at: usize, message: Request) -> usize
-    ensures { Clips text.old at (messageShown (RequestMessage message) []) result text.new }
+    ensures { Clips text.old at (message_shown (RequestMessage message) []) result text.new }
 {
     let naturals = [message.requested_id as u32];
     put_fields(
@@ -106,7 +106,7 @@ fn put_request(text: &mut TextRoom, at: usize, message: Request) -> usize
 }
 
 fn put_control(text: &mut TextRoom, at: usize, message: Control) -> usize
-    ensures { Clips text.old at (messageShown (ControlMessage message) []) result text.new }
+    ensures { Clips text.old at (message_shown (ControlMessage message) []) result text.new }
 {
     let naturals = [
         message.es_enabled as u32,
@@ -134,7 +134,7 @@ fn put_control(text: &mut TextRoom, at: usize, message: Control) -> usize
 }
 
 fn put_initialization(text: &mut TextRoom, at: usize, message: Initialization) -> usize
-    ensures { Clips text.old at (messageShown (InitializationMessage message) []) result text.new }
+    ensures { Clips text.old at (message_shown (InitializationMessage message) []) result text.new }
 {
     let naturals = [
         message.version as u32,
@@ -160,7 +160,7 @@ fn put_initialization(text: &mut TextRoom, at: usize, message: Initialization) -
 
 // A message by its kind's name and its fields. An uplink's payload stands in its body.
 pub fn put_message(text: &mut TextRoom, at: usize, message: Message, body: &[u8]) -> usize
-    ensures { Clips text.old at (messageShown message body.now) result text.new }
+    ensures { Clips text.old at (message_shown message body.now) result text.new }
 {
     match message {
         Message::Heartbeat(heartbeat) => put_heartbeat(text, at, heartbeat),

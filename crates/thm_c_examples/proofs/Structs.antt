@@ -4,18 +4,18 @@ use Rattle.field_signed.specs.Signed.{signed}
 use Rattle.c_lent.specs.Structs.{stored, held}
 use Rattle.thm_c_examples.specs.Structs.{StructExamples}
 
-pub struct-examples : StructExamples
+pub struct_examples : StructExamples
 unfolding signed stored held
-struct-examples =
+struct_examples =
     record {
       heartbeat = record { reads = refl; stores = refl };
       report = record { reads = refl; stores = refl };
       geometric = record { reads = refl; stores = refl };
       request = record { reads = refl; stores = refl };
-      es-c-ident = record { reads = refl; stores = refl };
-      s-c-baro = record { reads = refl; stores = refl };
-      a-ident-baro = record { reads = refl; stores = refl };
-      any-octet-but-0 = refl;
+      es_c_ident = record { reads = refl; stores = refl };
+      s_c_baro = record { reads = refl; stores = refl };
+      a_ident_baro = record { reads = refl; stores = refl };
+      any_octet_but_0 = refl;
       initialization = record { reads = refl; stores = refl };
       header = record { reads = refl; stores = refl };
       stream = record { reads = refl; stores = refl };

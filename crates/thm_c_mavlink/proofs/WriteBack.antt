@@ -11,77 +11,77 @@ use Rattle.crc_polynomial.specs.Polynomial.{Octets}
 use Rattle.output_writing.specs.declared.OstrogoszWritten.{OstrogoszWritten}
 use Rattle.output_writing.specs.declared.Written.{Written}
 use Rattle.output_writing.specs.declared.Written.TheVariants.{Wrote, Refused}
-use Rattle.output_writing.specs.Writing.{WriterAnswer, refused, wrote, writerAnswer, outputAfter, Writing, writtenNumbers}
+use Rattle.output_writing.specs.Writing.{WriterAnswer, refused, wrote, writer_answer, output_after, Writing, written_numbers}
 use Rattle.mavlink_frame.specs.declared.Header.{Header}
 use Rattle.mavlink_frame.specs.Reader.{header_at, found}
 use Rattle.mavlink_messages.specs.declared.Message.{Message}
 use Rattle.mavlink_messages.specs.declared.Message.TheVariants.{DataStream, Static, Dynamic, Status, Traffic}
 use Rattle.mavlink_messages.specs.Failures.{FailureAnswer}
-use Rattle.mavlink_messages.specs.Messages as read_as
-use Rattle.mavlink_messages.specs.Messages.{MavlinkAnswer, id_of, in_range, readDue, writeDue, messageFrame}
+use Rattle.mavlink_messages.specs.Messages as read_messages
+use Rattle.mavlink_messages.specs.Messages.{MavlinkAnswer, id_of, in_range, read_due, write_due, message_frame}
 use Rattle.mavlink_messages.specs.Refusals.{HasHeader}
-use Rattle.mavlink_messages.proofs.Written.{address-fits}
+use Rattle.mavlink_messages.proofs.Written.{address_fits}
 use Rattle.c_lent.specs.Structs.{Struct, stored, held, TypedIn}
-use Rattle.c_lent.proofs.Structs.{held-stored}
-use Rattle.c_mavlink.specs.Structs.{headerStruct, dataStreamStruct, staticStruct, dynamicStruct, statusStruct, trafficStruct, messageStored}
-use Rattle.c_mavlink.specs.Readers.{isOther, foundAs, readNumber, headerLeft, messageLeft, ReadsMavlink, readAs}
-use Rattle.c_mavlink.specs.Ids.{refusalBeforeCheck, idNumbers, mavlinkIdDue}
+use Rattle.c_lent.proofs.Structs.{held_stored}
+use Rattle.c_mavlink.specs.Structs.{header_struct, data_stream_struct, static_struct, dynamic_struct, status_struct, traffic_struct, message_stored}
+use Rattle.c_mavlink.specs.Readers.{is_other, found_as, read_number, header_left, message_left, ReadsMavlink, read_as}
+use Rattle.c_mavlink.specs.Ids.{refusal_before_check, id_numbers, mavlink_id_due}
 use Rattle.c_mavlink.specs.Writers.{WritesMavlinkForC}
-use Rattle.c_mavlink.proofs.Agree.{header-held-stored}
-use Rattle.c_mavlink.proofs.OneKind.{one-kind}
+use Rattle.c_mavlink.proofs.Agree.{header_held_stored}
+use Rattle.c_mavlink.proofs.OneKind.{one_kind}
 use Rattle.thm_mavlink_messages.specs.RoundTrips.{MavlinkTyped}
-use Rattle.thm_mavlink_messages.proofs.Tabled.{tabled-mavlink}
-use Rattle.thm_mavlink_messages.proofs.RoundTrips.{accepted-writes-back, read-typed-in-range, header_read}
+use Rattle.thm_mavlink_messages.proofs.Tabled.{tabled_mavlink}
+use Rattle.thm_mavlink_messages.proofs.RoundTrips.{accepted_writes_back, read_typed_in_range, header_read}
 use Rattle.thm_c_mavlink.specs.RoundTrips.{MavlinkStructWritesBack, LentMavlinkWritesBack}
-use Rattle.thm_c_mavlink.proofs.ReadBack.{SameKind, data-stream-same, static-same, dynamic-same, status-same, traffic-same}
+use Rattle.thm_c_mavlink.proofs.ReadBack.{SameKind, data_stream_same, static_same, dynamic_same, status_same, traffic_same}
 
 -- ---- a call that answers 0 read a message
-id-so : (s : List ℕ) (n i u : ℕ) → idNumbers n s ≡ record { refusal = 0; id = i; used = u } → get_or s 5 0 ≡ i
-id-so s zero i u e = ap (λ o. o.id) e
-id-so s (suc n) i u e = let z : suc n ≡ 0 = ap (λ o. o.refusal) e in absurd (omega (arith, z))
+id_so : (s : List ℕ) (n i u : ℕ) → id_numbers n s ≡ record { refusal = 0; id = i; used = u } → get_or s 5 0 ≡ i
+id_so s zero i u e = ap (λ o. o.id) e
+id_so s (suc n) i u e = let z : suc n ≡ 0 = ap (λ o. o.refusal) e in absurd (omega (arith, z))
 
 record Meant (id : ℕ) (s : List ℕ) : Type 0 where
   header : Header
   used : ℕ
   message : Message
   failures : FailureAnswer
-  whole : readDue s ≡ read_as.means header used message failures
-  same : readAs id s ≡ read_as.means header used message failures
+  whole : read_due s ≡ read_messages.means header used message failures
+  same : read_as id s ≡ read_messages.means header used message failures
   own : id_of message ≡ id
 
-module _ (id : ℕ) (s : List ℕ) (o : Octets s) (none : readNumber (readAs id s) ≡ 0) where
-  not-22 : readAs id s ≡ read_as.refused 22 → ⊥
-  not-22 e = let z : ◌≡◌ {A = ℕ} 22 0 = sym (ap readNumber e) ∙ none in omega (arith, z)
+module _ (id : ℕ) (s : List ℕ) (o : Octets s) (none : read_number (read_as id s) ≡ 0) where
+  not_22 : read_as id s ≡ read_messages.refused 22 → ⊥
+  not_22 e = let z : ◌≡◌ {A = ℕ} 22 0 = sym (ap read_number e) ∙ none in omega (arith, z)
 
-  by_answer : readAs id s ≡ readDue s → (a : MavlinkAnswer) → readDue s ≡ a → Meant id s
-  by_answer e (read_as.refused n) d =
-      let z : n ≡ 0 = sym (ap readNumber (e ∙ d)) ∙ none in
-      absurd (omega (arith, z, tabled-mavlink s n d))
-  by_answer e (read_as.means h used m f) d =
-      let first : get_or s 5 0 ≡ id_of m = id-so s (refusalBeforeCheck (found s)) (id_of m) used (one-kind.named s h used m f d).1 in
+  by_answer : read_as id s ≡ read_due s → (a : MavlinkAnswer) → read_due s ≡ a → Meant id s
+  by_answer e (read_messages.refused n) d =
+      let z : n ≡ 0 = sym (ap read_number (e ∙ d)) ∙ none in
+      absurd (omega (arith, z, tabled_mavlink s n d))
+  by_answer e (read_messages.means h used m f) d =
+      let first : get_or s 5 0 ≡ id_of m = id_so s (refusal_before_check (found s)) (id_of m) used (one_kind.named s h used m f d).1 in
       record { header = h; used = used; message = m; failures = f; whole = d; same = e ∙ d; own = sym first ∙ its_own (eqb (get_or s 5 0) id) refl }
     where
       its_own : (t : Bool) → eqb (get_or s 5 0) id ≡ t → get_or s 5 0 ≡ id
       its_own true q = eqb-true _ _ q
-      its_own false q = absurd (not-22 (one-kind.other id s (header_read s h used m f o d).1 (eqb-false _ _ q)))
+      its_own false q = absurd (not_22 (one_kind.other id s (header_read s h used m f o d).1 (eqb-false _ _ q)))
 
   meant : Meant id s
-  unfolding foundAs
-  meant = go (isOther id s) refl
+  unfolding found_as
+  meant = go (is_other id s) refl
     where
-      go : (t : Bool) → isOther id s ≡ t → Meant id s
-      go true e = absurd (not-22 (rw e))
-      go false e = by_answer (rw e) (readDue s) refl
+      go : (t : Bool) → is_other id s ≡ t → Meant id s
+      go true e = absurd (not_22 (rw e))
+      go false e = by_answer (rw e) (read_due s) refl
 
 -- ---- a writer's answer as the writer of every kind gives it
-asWritten : WriterAnswer → Written
-asWritten (refused number) = Refused number
-asWritten (wrote octets) = Wrote octets
+as_written : WriterAnswer → Written
+as_written (refused number) = Refused number
+as_written (wrote octets) = Wrote octets
 
-as_written : (a : WriterAnswer) → writerAnswer (asWritten a) ≡ a
-unfolding asWritten
-as_written (refused number) = refl
-as_written (wrote octets) = refl
+as_written_lem : (a : WriterAnswer) → writer_answer (as_written a) ≡ a
+unfolding as_written
+as_written_lem (refused number) = refl
+as_written_lem (wrote octets) = refl
 
 -- ---- a kind and its struct
 record Is {A : Type 0} (kind : A → Message) (m : Message) : Type 0 where
@@ -91,40 +91,40 @@ record Is {A : Type 0} (kind : A → Message) (m : Message) : Type 0 where
 record BackKind {A : Type 0} (id : ℕ) (s : Struct A) (kind : A → Message) : Type 0 where
   forth : SameKind id s kind
   -- a message with the ID is one of the kind
-  of-id : (m : Message) → id_of m ≡ id → Is kind m
+  of_id : (m : Message) → id_of m ≡ id → Is kind m
   -- what has room in a payload has room in the struct
   roomy : (a : A) → MavlinkTyped (kind a) → in_range (kind a) ≡ true → TypedIn s a
 
-struct-writes-back : {A : Type 0} (id : ℕ) (s : Struct A) (kind : A → Message) → BackKind id s kind → MavlinkStructWritesBack id s kind
-struct-writes-back {A} id s kind ok input headerBefore messageBefore header message output after w o reading room call =
+struct_writes_back : {A : Type 0} (id : ℕ) (s : Struct A) (kind : A → Message) → BackKind id s kind → MavlinkStructWritesBack id s kind
+struct_writes_back {A} id s kind ok input header_before message_before header message output after w o reading room call =
     let k = meant id input o (sym reading.answers) in
     let h : Header = k.header in
-    let i = ok.of-id k.message k.own in
+    let i = ok.of_id k.message k.own in
     let a : A = i.value in
-    let right = read-typed-in-range input h k.used k.message k.failures o k.whole in
+    let right = read_typed_in_range input h k.used k.message k.failures o k.whole in
     let typed : TypedIn s a = ok.roomy a (subst MavlinkTyped i.is right.0) (ap in_range (sym i.is) ∙ right.1) in
     let message-is : held s message ≡ a =
-    ap (held s) (reading.leaves-message ∙ ap (messageLeft messageBefore) k.same ∙ ap messageStored i.is ∙ ok.forth.stores a)
-    ∙ held-stored s ok.forth.struct a typed in
+    ap (held s) (reading.leaves_message ∙ ap (message_left message_before) k.same ∙ ap message_stored i.is ∙ ok.forth.stores a)
+    ∙ held_stored s ok.forth.struct a typed in
     let sender : h ≡ header_at input = (header_read input h k.used k.message k.failures o k.whole).0 in
-    let header-typed : TypedIn headerStruct h = subst (TypedIn headerStruct) (sym sender) ((o 2, (o 3, (o 4, tt))), refl) in
-    let header_is : held headerStruct header ≡ h =
-    ap (held headerStruct) (reading.leaves-header ∙ ap (headerLeft headerBefore) k.same) ∙ header-held-stored h header-typed in
+    let header-typed : TypedIn header_struct h = subst (TypedIn header_struct) (sym sender) ((o 2, (o 3, (o 4, tt))), refl) in
+    let header_is : held header_struct header ≡ h =
+    ap (held header_struct) (reading.leaves_header ∙ ap (header_left header_before) k.same) ∙ header_held_stored h header-typed in
     let again : WritesMavlinkForC k.message h output w after =
     subst (λ (m : Message). WritesMavlinkForC m h output w after) (ap kind message-is ∙ sym i.is)
     (subst (λ (j : Header). WritesMavlinkForC (kind (held s message)) j output w after) header_is call) in
-    let due : WriterAnswer = writeDue k.message output in
-    let used-is : (mavlinkIdDue input).used ≡ k.used =
-    ap (λ n. n.used) (one-kind.named input h k.used k.message k.failures k.whole).1 in
-    let b = accepted-writes-back input h k.used k.message k.failures o k.whole output after (asWritten due)
-    (subst (λ (n : ℕ). n ≤ length output) used-is room)
-    (record { answers = as_written due; leaves = again.leaves ∙ ap (outputAfter (messageFrame k.message h) output) (sym (as_written due)) }) in
-    let due-is : due ≡ wrote k.used = sym (as_written due) ∙ ap writerAnswer b.0 in
-    rw used-is (again.answers ∙ ap writtenNumbers due-is, b.1)
+    let due : WriterAnswer = write_due k.message output in
+    let used_is : (mavlink_id_due input).used ≡ k.used =
+    ap (λ n. n.used) (one_kind.named input h k.used k.message k.failures k.whole).1 in
+    let b = accepted_writes_back input h k.used k.message k.failures o k.whole output after (as_written due)
+    (subst (λ (n : ℕ). n ≤ length output) used_is room)
+    (record { answers = as_written_lem due; leaves = again.leaves ∙ ap (output_after (message_frame k.message h) output) (sym (as_written_lem due)) }) in
+    let due-is : due ≡ wrote k.used = sym (as_written_lem due) ∙ ap writer_answer b.0 in
+    rw used_is (again.answers ∙ ap written_numbers due-is, b.1)
 
 -- ---- the kinds
-data-stream-back : BackKind 66 dataStreamStruct DataStream
-data-stream-back = record { forth = data-stream-same; of-id = one; roomy = λ a t r. (t, refl) }
+data_stream_back : BackKind 66 data_stream_struct DataStream
+data_stream_back = record { forth = data_stream_same; of_id = one; roomy = λ a t r. (t, refl) }
   where
     one : (m : Message) → id_of m ≡ 66 → Is DataStream m
     one (DataStream d) e = record { value = d; is = refl }
@@ -133,13 +133,13 @@ data-stream-back = record { forth = data-stream-same; of-id = one; roomy = λ a 
     one (Status s) e = absurd (omega (arith, e))
     one (Traffic t) e = absurd (omega (arith, e))
 
-static-back : BackKind 201 staticStruct Static
-static-back = record {
-  forth = static-same;
-  of-id = one;
+static_back : BackKind 201 static_struct Static
+static_back = record {
+  forth = static_same;
+  of_id = one;
   roomy = λ a t r.
       let u = t.1.1.1.1 in
-      let address : a.icao < 0x1000000 = address-fits {m = Static a} {s = a} refl r in
+      let address : a.icao < 0x1000000 = address_fits {m = Static a} {s = a} refl r in
       ((omega arith, (t.1.1.0, (t.1.1.1.0, (u.0, (u.1.0, (u.1.1.0, (u.1.1.1.0, (u.1.1.1.1.0, (t.1.0, tt))))))))), refl);
 }
   where
@@ -150,8 +150,8 @@ static-back = record {
     one (Status s) e = absurd (omega (arith, e))
     one (Traffic t) e = absurd (omega (arith, e))
 
-dynamic_back : BackKind 202 dynamicStruct Dynamic
-dynamic_back = record { forth = dynamic-same; of-id = one; roomy = λ a t r. (t, refl) }
+dynamic_back : BackKind 202 dynamic_struct Dynamic
+dynamic_back = record { forth = dynamic_same; of_id = one; roomy = λ a t r. (t, refl) }
   where
     one : (m : Message) → id_of m ≡ 202 → Is Dynamic m
     one (DataStream d) e = absurd (omega (arith, e))
@@ -160,8 +160,8 @@ dynamic_back = record { forth = dynamic-same; of-id = one; roomy = λ a t r. (t,
     one (Status s) e = absurd (omega (arith, e))
     one (Traffic t) e = absurd (omega (arith, e))
 
-status-back : BackKind 203 statusStruct Status
-status-back = record { forth = status-same; of-id = one; roomy = λ a t r. (t, refl) }
+status_back : BackKind 203 status_struct Status
+status_back = record { forth = status_same; of_id = one; roomy = λ a t r. (t, refl) }
   where
     one : (m : Message) → id_of m ≡ 203 → Is Status m
     one (DataStream d) e = absurd (omega (arith, e))
@@ -170,8 +170,8 @@ status-back = record { forth = status-same; of-id = one; roomy = λ a t r. (t, r
     one (Status s) e = record { value = s; is = refl }
     one (Traffic t) e = absurd (omega (arith, e))
 
-traffic-back : BackKind 246 trafficStruct Traffic
-traffic-back = record { forth = traffic-same; of-id = one; roomy = λ a t r. (t, refl) }
+traffic_back : BackKind 246 traffic_struct Traffic
+traffic_back = record { forth = traffic_same; of_id = one; roomy = λ a t r. (t, refl) }
   where
     one : (m : Message) → id_of m ≡ 246 → Is Traffic m
     one (DataStream d) e = absurd (omega (arith, e))
@@ -180,11 +180,11 @@ traffic-back = record { forth = traffic-same; of-id = one; roomy = λ a t r. (t,
     one (Status s) e = absurd (omega (arith, e))
     one (Traffic t) e = record { value = t; is = refl }
 
-pub lent-mavlink-writes-back : LentMavlinkWritesBack
-lent-mavlink-writes-back = record {
-  dataStream = struct-writes-back 66 dataStreamStruct DataStream data-stream-back;
-  static = struct-writes-back 201 staticStruct Static static-back;
-  dynamic = struct-writes-back 202 dynamicStruct Dynamic dynamic_back;
-  status = struct-writes-back 203 statusStruct Status status-back;
-  traffic = struct-writes-back 246 trafficStruct Traffic traffic-back;
+pub lent_mavlink_writes_back : LentMavlinkWritesBack
+lent_mavlink_writes_back = record {
+  data_stream = struct_writes_back 66 data_stream_struct DataStream data_stream_back;
+  static = struct_writes_back 201 static_struct Static static_back;
+  dynamic = struct_writes_back 202 dynamic_struct Dynamic dynamic_back;
+  status = struct_writes_back 203 status_struct Status status_back;
+  traffic = struct_writes_back 246 traffic_struct Traffic traffic_back;
 }

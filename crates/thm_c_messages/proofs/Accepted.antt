@@ -10,14 +10,14 @@ use lib.ListN.{length, get_or, take, drop}
 use lib.Seq.{take-append_seam}
 use Rattle.field_format.proofs.Conjunction.{both}
 use Rattle.output_writing.specs.declared.OstrogoszWritten.{OstrogoszWritten}
-use Rattle.output_writing.specs.Writing.{WriterAnswer, refused, wrote, outputAfter, writtenNumbers, WritingNumbers}
-use Rattle.ucp_answers.specs.Writes.{bodyDue}
+use Rattle.output_writing.specs.Writing.{WriterAnswer, refused, wrote, output_after, written_numbers, WritingNumbers}
+use Rattle.ucp_answers.specs.Writes.{body_due}
 use Rattle.ucp_frame.specs.Frame.{frame}
-use Rattle.ucp_writer.specs.Sends.{sendDue}
-use Rattle.c_lent.specs.Reads.{hasId, refusalAs, FillsStruct}
+use Rattle.ucp_writer.specs.Sends.{send_due}
+use Rattle.c_lent.specs.Reads.{has_id, refusal_as, FillsStruct}
 use Rattle.thm_ucp_receiver.specs.Promises.{BodyLength}
 use Rattle.thm_c_messages.specs.Refusals.{SendRefusals}
-use Rattle.thm_c_messages.proofs.Refusals.{send-refusals}
+use Rattle.thm_c_messages.proofs.Refusals.{send_refusals}
 
 -- ---- a writer's call
 -- no refusal: the fields fit, and the body is there
@@ -26,12 +26,12 @@ pub record Left (fits : Bool) (body : List ℕ) (w : OstrogoszWritten) (after : 
   pub whole : take w.length after ≡ body
 
 pub accepted : {fits : Bool} {body output : List ℕ} {w : OstrogoszWritten} {after : List ℕ}
-    → WritingNumbers (bodyDue fits body output) body output w after → w.refusal ≡ 0 → Left fits body w after
-unfolding bodyDue
+    → WritingNumbers (body_due fits body output) body output w after → w.refusal ≡ 0 → Left fits body w after
+unfolding body_due
 accepted {fits} {body} {output} {w} {after} call none = go fits (ltb (length output) (length body)) call.answers call.leaves
   where
-    go : (f t : Bool) → w ≡ writtenNumbers (cond f (cond t (refused 8) (wrote (length body))) (refused 13))
-        → after ≡ outputAfter body output (cond f (cond t (refused 8) (wrote (length body))) (refused 13)) → Left f body w after
+    go : (f t : Bool) → w ≡ written_numbers (cond f (cond t (refused 8) (wrote (length body))) (refused 13))
+        → after ≡ output_after body output (cond f (cond t (refused 8) (wrote (length body))) (refused 13)) → Left f body w after
     go true true e l = absurd (omega (arith, none, ap (λ (o : OstrogoszWritten). o.refusal) e))
     go true false e l =
         record { fit = refl; whole = ap₂ take (ap (λ (o : OstrogoszWritten). o.length) e) l ∙ take-append_seam body (drop (length body) output) }
@@ -39,12 +39,12 @@ accepted {fits} {body} {output} {w} {after} call none = go fits (ltb (length out
 
 -- a body that fits, and has room, is written
 pub writes : {fits : Bool} {body output : List ℕ} {w : OstrogoszWritten} {after : List ℕ} (same : List ℕ) → fits ≡ true → body ≡ same
-    → length same ≤ length output → WritingNumbers (bodyDue fits body output) body output w after
+    → length same ≤ length output → WritingNumbers (body_due fits body output) body output w after
     → (w ≡ record { refusal = 0; length = length same }) × (after ≡ same ++ drop (length same) output)
-unfolding bodyDue
+unfolding body_due
 writes {fits} {body} {output} {w} {after} same f e room call =
-    let due : bodyDue fits body output ≡ wrote (length same) = rw (f, e, le-ltb (length output) (length same) room) in
-    (call.answers ∙ ap writtenNumbers due, call.leaves ∙ ap₂ (λ (b : List ℕ) (a : WriterAnswer). outputAfter b output a) e due)
+    let due : body_due fits body output ≡ wrote (length same) = rw (f, e, le-ltb (length output) (length same) room) in
+    (call.answers ∙ ap written_numbers due, call.leaves ∙ ap₂ (λ (b : List ℕ) (a : WriterAnswer). output_after b output a) e due)
 
 -- ---- a send
 -- no refusal: the fields fit, and the body's frame is there
@@ -54,8 +54,8 @@ pub record Sent (fits : Bool) (body : List ℕ) (w : OstrogoszWritten) (after : 
   pub whole : frame body ≡ take w.length after
 
 pub sent : (fits : Bool) (body buffer : List ℕ) {w : OstrogoszWritten} {after : List ℕ}
-    → WritingNumbers (sendDue fits body buffer) (frame body) buffer w after → w.refusal ≡ 0 → Sent fits body w after
-sent fits body buffer {w} {after} call none = go fits (send-refusals fits body buffer w after call)
+    → WritingNumbers (send_due fits body buffer) (frame body) buffer w after → w.refusal ≡ 0 → Sent fits body w after
+sent fits body buffer {w} {after} call none = go fits (send_refusals fits body buffer w after call)
   where
     go : (f : Bool) → SendRefusals f body buffer w after → Sent f body w after
     go false so = absurd (omega (arith, none, so.refuses13.1 refl))
@@ -75,14 +75,14 @@ pub fills : {due : ℕ} {octets before left : List ℕ} {r : ℕ} → FillsStruc
 fills call none = (call.answers ∙ none, call.leaves ∙ rw none)
 
 -- a body of the kind, and what it is refused with
-pub of-kind : (id : ℕ) (body : List ℕ) (refusal : ℕ) → 0 < length body → get_or body 0 0 ≡ id → refusal ≡ 0 → refusalAs id body refusal ≡ 0
-unfolding refusalAs
-of-kind id body refusal some is none = rw (lt-ltb 0 (length body) some, eq-eqb _ _ is, none)
+pub of_kind : (id : ℕ) (body : List ℕ) (refusal : ℕ) → 0 < length body → get_or body 0 0 ≡ id → refusal ≡ 0 → refusal_as id body refusal ≡ 0
+unfolding refusal_as
+of_kind id body refusal some is none = rw (lt-ltb 0 (length body) some, eq-eqb _ _ is, none)
 
-pub kind-of : (id : ℕ) (body : List ℕ) (refusal : ℕ) → 0 ≡ refusalAs id body refusal → (get_or body 0 0 ≡ id) × (refusal ≡ 0)
-unfolding refusalAs
-kind-of id body refusal = go (hasId id body) refl
+pub kind_of : (id : ℕ) (body : List ℕ) (refusal : ℕ) → 0 ≡ refusal_as id body refusal → (get_or body 0 0 ≡ id) × (refusal ≡ 0)
+unfolding refusal_as
+kind_of id body refusal = go (has_id id body) refl
   where
-    go : (own : Bool) → hasId id body ≡ own → 0 ≡ cond own refusal 10 → (get_or body 0 0 ≡ id) × (refusal ≡ 0)
+    go : (own : Bool) → has_id id body ≡ own → 0 ≡ cond own refusal 10 → (get_or body 0 0 ≡ id) × (refusal ≡ 0)
     go true h e = (eqb-true _ _ (both (ltb 0 (length body)) (eqb (get_or body 0 0) id) h).1, sym e)
     go false h e = absurd (omega arith)

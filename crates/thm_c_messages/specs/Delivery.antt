@@ -4,10 +4,10 @@ use Rattle.std.specs.Prelude.{◌≡◌, List, ◌∷◌, ◌++◌, ℕ, ◌≤�
 use Rattle.crc_polynomial.specs.Polynomial.{Octets}
 use Rattle.field_format.specs.Format.{Format, body_of}
 use Rattle.output_writing.specs.declared.OstrogoszWritten.{OstrogoszWritten}
-use Rattle.ucp_frame.specs.Frame.{longestBody}
+use Rattle.ucp_frame.specs.Frame.{longest_body}
 use Rattle.ucp_frame.specs.Stretch.{delivered}
-use Rattle.ucp_messages.specs.Uplink7.{uplinkBody}
-use Rattle.c_lent.specs.Structs.{Struct, structSize, held}
+use Rattle.ucp_messages.specs.Uplink7.{uplink_body}
+use Rattle.c_lent.specs.Structs.{Struct, struct_size, held}
 use Rattle.c_lent.specs.Reads.{ReadsInto}
 use Rattle.c_lent.specs.Sends.{SendsStruct}
 use Rattle.c_ucp_uplink.specs.Uplink.{ReadsUplink, SendsUplink}
@@ -21,8 +21,8 @@ use Rattle.thm_c_messages.specs.EachKind.{OfEachKind}
 abbrev pub DeliversOnLine : List ℕ → List ℕ → (List ℕ → Type 0) → Type 0
 DeliversOnLine octets body Use =
     (before later : List Observed) (o : Observed) → Line (before ++ o ∷ later)
-    → EndsIn octets (up_to before o) → longestBody ≤ length o.output
-    → AnswersAs (delivered body) o × Use (take (length body) o.outputThen)
+    → EndsIn octets (up_to before o) → longest_body ≤ length o.output
+    → AnswersAs (delivered body) o × Use (take (length body) o.output_then)
 
 -- what it is that these octets, on a line, bring this body, and that the octets put out meet something: `DeliversOnLine`, or
 -- `DeliversLinked`
@@ -32,7 +32,7 @@ Delivering = List ℕ → List ℕ → (List ℕ → Type 0) → Type 0
 -- what an accepted send wrote is delivered, and a reader that is given the body put out leaves a struct that holds what was sent
 abbrev pub StructSentIsDelivered : Delivering → {A : Type 0} → Format A → Struct A → Type 0
 StructSentIsDelivered Delivers f s =
-    (message buffer after : List ℕ) (w : OstrogoszWritten) → Octets message → length message ≡ structSize s
+    (message buffer after : List ℕ) (w : OstrogoszWritten) → Octets message → length message ≡ struct_size s
     → SendsStruct f (held s message) buffer w after → w.refusal ≡ 0
     → Delivers (take w.length after) (body_of f (held s message))
     (λ (body : List ℕ). (lent left : List ℕ) (r : ℕ) → ReadsInto f s body lent r left → ReadsSame s message r left)
@@ -41,7 +41,7 @@ StructSentIsDelivered Delivers f s =
 abbrev pub UplinkSentIsDelivered : Delivering → Type 0
 UplinkSentIsDelivered Delivers =
     (payload buffer after : List ℕ) (w : OstrogoszWritten) → SendsUplink payload buffer w after → w.refusal ≡ 0
-    → Delivers (take w.length after) (uplinkBody payload)
+    → Delivers (take w.length after) (uplink_body payload)
     (λ (body : List ℕ). (lent left : List ℕ) (r : ℕ) → ReadsUplink body lent r left → (r ≡ 0) × (left ≡ payload))
 
 -- every kind of the UCP line

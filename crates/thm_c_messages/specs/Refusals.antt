@@ -8,15 +8,15 @@ use Rattle.field_format.specs.Format.{Format, fits, body_of}
 use Rattle.output_writing.specs.declared.OstrogoszWritten.{OstrogoszWritten}
 use Rattle.ucp_messages.specs.declared.Kind.{Kind}
 use Rattle.ucp_messages.specs.declared.Kind.TheVariants as kind
-use Rattle.ucp_messages.specs.Refusals.{UnknownId, HasKindLength, HasFixedOctets, fieldsInRange}
-use Rattle.ucp_messages.specs.Uplink7.{uplinkFits, uplinkBody}
+use Rattle.ucp_messages.specs.Refusals.{UnknownId, HasKindLength, HasFixedOctets, fields_in_range}
+use Rattle.ucp_messages.specs.Uplink7.{uplink_fits, uplink_body}
 use Rattle.c_lent.specs.Structs.{Struct}
 use Rattle.c_lent.specs.Reads.{ReadsInto}
 use Rattle.c_lent.specs.Writes.{WritesStructBody}
 use Rattle.c_lent.specs.Sends.{SendsStruct}
 use Rattle.c_ucp_uplink.specs.Uplink.{ReadsUplink, WritesUplink, SendsUplink}
 use Rattle.c_ucp_ids.specs.declared.OstrogoszId.{OstrogoszId}
-use Rattle.c_ucp_ids.specs.Ids.{idDue}
+use Rattle.c_ucp_ids.specs.Ids.{id_due}
 use Rattle.thm_c_ucp.specs.Writer.{FrameRefusals}
 use Rattle.thm_c_messages.specs.EachKind.{OfEachKind}
 
@@ -30,14 +30,14 @@ OfItsId id body = (1 ≤ length body) × (get_or body 0 0 ≡ id)
 
 -- the number that the reader of one kind answers to a body; 0 where it reads a message
 pub record ReaderRefusals (id : ℕ) (k : Kind) (body : List ℕ) (answer : ℕ) : Type 0 where
-  pub refuses10 : (answer ≡ because.unknownId) ↔ OfAnotherId id body
-  pub refuses11 : (answer ≡ because.messageLength) ↔ (OfItsId id body × (HasKindLength k body → ⊥))
+  pub refuses10 : (answer ≡ because.unknown_id) ↔ OfAnotherId id body
+  pub refuses11 : (answer ≡ because.message_length) ↔ (OfItsId id body × (HasKindLength k body → ⊥))
   pub refuses12 : (answer ≡ because.fixed) ↔ (OfItsId id body × HasKindLength k body × (HasFixedOctets k body → ⊥))
   pub refuses13 :
       (answer ≡ because.field)
-      ↔ (OfItsId id body × HasKindLength k body × HasFixedOctets k body × (fieldsInRange k body ≡ false))
+      ↔ (OfItsId id body × HasKindLength k body × HasFixedOctets k body × (fields_in_range k body ≡ false))
   pub accepts :
-      (answer ≡ 0) ↔ (OfItsId id body × HasKindLength k body × HasFixedOctets k body × (fieldsInRange k body ≡ true))
+      (answer ≡ 0) ↔ (OfItsId id body × HasKindLength k body × HasFixedOctets k body × (fields_in_range k body ≡ true))
   pub no_other : (answer ≡ 0) ⊎ ((10 ≤ answer) × (answer ≤ 13))
 
 -- of every call of a reader: the body, what is lent as at entry, the answer, and what is lent as at return; a refusal leaves it
@@ -48,10 +48,10 @@ ReaderRefuses id k Call =
 
 -- ---- writing: first the number for a field outside its range or too wide for its bits, then 8. So many octets are to be written
 pub record WriterRefusals (number : ℕ) (fit : Bool) (size : ℕ) (octets output : List ℕ) (given : OstrogoszWritten) (after : List ℕ) : Type 0 where
-  pub refuses-field : (given.refusal ≡ number) ↔ (fit ≡ false)
-  pub refuses8 : (given.refusal ≡ because.outputLength) ↔ ((fit ≡ true) × (length output < size))
+  pub refuses_field : (given.refusal ≡ number) ↔ (fit ≡ false)
+  pub refuses8 : (given.refusal ≡ because.output_length) ↔ ((fit ≡ true) × (length output < size))
   pub accepts : (given.refusal ≡ 0) ↔ ((fit ≡ true) × (size ≤ length output))
-  pub no_other : (given.refusal ≡ 0) ⊎ ((given.refusal ≡ because.outputLength) ⊎ (given.refusal ≡ number))
+  pub no_other : (given.refusal ≡ 0) ⊎ ((given.refusal ≡ because.output_length) ⊎ (given.refusal ≡ number))
   pub writes : given.refusal ≡ 0 → (given.length ≡ size) × (after ≡ octets ++ drop size output)
   pub leaves : (given.refusal ≡ 0 → ⊥) → (given.length ≡ 0) × (after ≡ output)
 
@@ -81,8 +81,8 @@ StructRefuses id k f s =
 abbrev pub UplinkRefuses : Type 0
 UplinkRefuses =
     ReaderRefuses 7 kind.Uplink ReadsUplink
-    × WriterRefuses uplinkFits uplinkBody WritesUplink
-    × SendRefuses uplinkFits uplinkBody SendsUplink
+    × WriterRefuses uplink_fits uplink_body WritesUplink
+    × SendRefuses uplink_fits uplink_body SendsUplink
 
 -- every kind of the UCP line
 abbrev pub LentRefusals : Type 0
@@ -91,9 +91,9 @@ LentRefusals = OfEachKind (λ A id k f s. StructRefuses id k f s) UplinkRefuses
 -- ---- the call that gives a body's ID: 10 for no octet or an ID of no kind, no other refusal, and beside it no ID
 abbrev pub IdRefuses : Type 0
 IdRefuses =
-    (body : List ℕ) (given : OstrogoszId) → given ≡ idDue body
-    → ((given.refusal ≡ because.unknownId) ↔ UnknownId body)
+    (body : List ℕ) (given : OstrogoszId) → given ≡ id_due body
+    → ((given.refusal ≡ because.unknown_id) ↔ UnknownId body)
     × ((given.refusal ≡ 0) ↔ (UnknownId body → ⊥))
-    × ((given.refusal ≡ 0) ⊎ (given.refusal ≡ because.unknownId))
+    × ((given.refusal ≡ 0) ⊎ (given.refusal ≡ because.unknown_id))
     × (given.refusal ≡ 0 → given.id ≡ get_or body 0 0)
     × ((given.refusal ≡ 0 → ⊥) → given.id ≡ 0)

@@ -4,7 +4,7 @@ use Rattle.std.specs.Prelude.{◌≡◌, List, ◌++◌, ℕ, ◌≤◌, length,
 use Rattle.crc_polynomial.specs.Polynomial.{Octets}
 use Rattle.field_format.specs.Format.{Format}
 use Rattle.output_writing.specs.declared.OstrogoszWritten.{OstrogoszWritten}
-use Rattle.c_lent.specs.Structs.{Struct, structSize, stored, held}
+use Rattle.c_lent.specs.Structs.{Struct, struct_size, stored, held}
 use Rattle.c_lent.specs.Reads.{ReadsInto}
 use Rattle.c_lent.specs.Writes.{WritesStructBody}
 use Rattle.c_ucp_uplink.specs.Uplink.{ReadsUplink, WritesUplink}
@@ -18,7 +18,7 @@ ReadsSame s message r left = (r ≡ 0) × (held s left ≡ held s message) × (l
 -- need not be.)
 abbrev pub StructReadsBack : {A : Type 0} → Format A → Struct A → Type 0
 StructReadsBack f s =
-    (message output after before left : List ℕ) (w : OstrogoszWritten) (r : ℕ) → Octets message → length message ≡ structSize s
+    (message output after before left : List ℕ) (w : OstrogoszWritten) (r : ℕ) → Octets message → length message ≡ struct_size s
     → WritesStructBody f (held s message) output w after → w.refusal ≡ 0
     → ReadsInto f s (take w.length after) before r left
     → ReadsSame s message r left

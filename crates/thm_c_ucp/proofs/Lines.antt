@@ -3,93 +3,93 @@ use mathlib.Core.Path.{◌≡◌, refl, ap, ◌∙◌}
 use mathlib.Core.List.{List, [], ◌∷◌, map}
 use Prim.Native.Nat.{ℕ}
 use lib.ListN.{length}
-use Rattle.ucp_receiver.specs.Answers.{outputAtFlag}
-use Rattle.ucp_receiver.specs.Octet.{State, freshRecord, noOctets}
+use Rattle.ucp_receiver.specs.Answers.{output_at_flag}
+use Rattle.ucp_receiver.specs.Octet.{State, fresh_record, no_octets}
 use Rattle.ucp_receiver.specs.declared.Counts.{Counts}
-use Rattle.ucp_receiver.specs.Slice.{SliceRun, sliceRun, Takes}
-use Rattle.c_ucp_receiver.specs.Numbers.{restIn, countsIn, recordIn, recordNumbers, answerKind, answerValue}
+use Rattle.ucp_receiver.specs.Slice.{SliceRun, slice_run, Takes}
+use Rattle.c_ucp_receiver.specs.Numbers.{rest_in, counts_in, record_in, record_numbers, answer_kind, answer_value}
 use Rattle.c_ucp_receiver.proofs.Numbers.{receives, takes}
 use Rattle.thm_ucp_receiver.specs.Line.{Observed}
-use Rattle.thm_ucp_receiver.specs.Lines.{Handed, handedTo}
+use Rattle.thm_ucp_receiver.specs.Lines.{Handed, handed_to}
 use Rattle.thm_ucp_receiver.specs.Slice.{ObservedSlice}
-use Rattle.thm_ucp_receiver.proofs.Lines.{answerGiven, answer-same, called, called-receives, every-line}
-use Rattle.thm_c_ucp.specs.Receiver.{inNumbers}
-use Rattle.thm_c_ucp.specs.Slices.{LinkedTake, byOctet, bySlice, LinkedTakes, sliceInNumbers}
-use Rattle.thm_c_ucp.specs.Lines.{handedToLinked, HandedTake, anOctet, aSlice, handedTake, AllOctets, EveryLinkedLine}
-use Rattle.thm_c_ucp.proofs.Receiver.{linked-lines}
+use Rattle.thm_ucp_receiver.proofs.Lines.{answer_given, answer_same, called, called_receives, every_line}
+use Rattle.thm_c_ucp.specs.Receiver.{in_numbers}
+use Rattle.thm_c_ucp.specs.Slices.{LinkedTake, by_octet, by_slice, LinkedTakes, slice_in_numbers}
+use Rattle.thm_c_ucp.specs.Lines.{handed_to_linked, HandedTake, an_octet, a_slice, handed_take, AllOctets, EveryLinkedLine}
+use Rattle.thm_c_ucp.proofs.Receiver.{linked_lines}
 
 -- ---- by the octet
-same-handed : (os : List Observed) → map handedToLinked (map inNumbers os) ≡ map handedTo os
-same-handed [] = refl
-same-handed (o ∷ os) = ap (λ (hs : List Handed). handedTo o ∷ hs) (same-handed os)
+same_handed : (os : List Observed) → map handed_to_linked (map in_numbers os) ≡ map handed_to os
+same_handed [] = refl
+same_handed (o ∷ os) = ap (λ (hs : List Handed). handed_to o ∷ hs) (same_handed os)
 
 -- ---- by the octet and by the slice
 -- the call with a slice that the contract asks for
 abbrev sliced : State → Counts → List ℕ → List ℕ → ObservedSlice
 sliced s c xs output =
-    let r : SliceRun = sliceRun s c xs (length output) in
+    let r : SliceRun = slice_run s c xs (length output) in
     record {
       line = xs;
       output = output;
       given = record {
         receiver = record { rest = r.state.rest; counts = r.counts };
-        answer = answerGiven r.verdict;
+        answer = answer_given r.verdict;
         taken = r.taken;
       };
-      storeAfter = r.state.store;
-      outputThen = outputAtFlag r.verdict output;
+      store_after = r.state.store;
+      output_then = output_at_flag r.verdict output;
     }
 
 record TakesOver (store line : List ℕ) (given : List HandedTake) : Type 0 where
   calls : List LinkedTake
   met : LinkedTakes store line calls
-  same : map handedTake calls ≡ given
+  same : map handed_take calls ≡ given
 
-takes-over : (store line : List ℕ) (given : List HandedTake) → AllOctets given → TakesOver store line given
-takes-over store line [] small = record { calls = []; met = tt; same = refl }
-takes-over store line (anOctet x output ∷ ts) small =
-    let s : State = record { rest = restIn line; store = store } in
+takes_over : (store line : List ℕ) (given : List HandedTake) → AllOctets given → TakesOver store line given
+takes_over store line [] small = record { calls = []; met = tt; same = refl }
+takes_over store line (an_octet x output ∷ ts) small =
+    let s : State = record { rest = rest_in line; store = store } in
     let h : Handed = record { octet = x; output = output } in
-    let o : Observed = called s (countsIn line) h in
-    let rest = takes-over o.storeAfter (recordNumbers o.given.receiver) ts small.1 in
+    let o : Observed = called s (counts_in line) h in
+    let rest = takes_over o.store_after (record_numbers o.given.receiver) ts small.1 in
     record {
-      calls = byOctet (inNumbers o) ∷ rest.calls;
+      calls = by_octet (in_numbers o) ∷ rest.calls;
       met = (
         (
           small.0 0,
-          receives (recordNumbers o.given.receiver) (answerKind o.given.answer) (answerValue o.given.answer) o.given.receiver
-              o.given.answer refl refl refl line store x output o.storeAfter o.outputThen (called-receives s (countsIn line) h),
+          receives (record_numbers o.given.receiver) (answer_kind o.given.answer) (answer_value o.given.answer) o.given.receiver
+              o.given.answer refl refl refl line store x output o.store_after o.output_then (called_receives s (counts_in line) h),
         ),
         rest.met,
       );
-      same = ap (λ (hs : List HandedTake). anOctet x output ∷ hs) rest.same;
+      same = ap (λ (hs : List HandedTake). an_octet x output ∷ hs) rest.same;
     }
-takes-over store line (aSlice xs output ∷ ts) small =
-    let s : State = record { rest = restIn line; store = store } in
-    let o : ObservedSlice = sliced s (countsIn line) xs output in
-    let rest = takes-over o.storeAfter (recordNumbers o.given.receiver) ts small.1 in
-    let taken : Takes (recordIn line) store xs output o.given o.storeAfter o.outputThen =
-    record { state = refl; account = refl; taken = refl; answers = answer-same (sliceRun s (countsIn line) xs (length output)).verdict; puts = refl } in
+takes_over store line (a_slice xs output ∷ ts) small =
+    let s : State = record { rest = rest_in line; store = store } in
+    let o : ObservedSlice = sliced s (counts_in line) xs output in
+    let rest = takes_over o.store_after (record_numbers o.given.receiver) ts small.1 in
+    let taken : Takes (record_in line) store xs output o.given o.store_after o.output_then =
+    record { state = refl; account = refl; taken = refl; answers = answer_same (slice_run s (counts_in line) xs (length output)).verdict; puts = refl } in
     record {
-      calls = bySlice (sliceInNumbers o) ∷ rest.calls;
+      calls = by_slice (slice_in_numbers o) ∷ rest.calls;
       met = (
         (
           small.0,
-          takes (recordNumbers o.given.receiver) (answerKind o.given.answer) (answerValue o.given.answer) o.given.receiver
-              o.given.answer refl refl refl line store xs output o.given.taken o.storeAfter o.outputThen taken,
+          takes (record_numbers o.given.receiver) (answer_kind o.given.answer) (answer_value o.given.answer) o.given.receiver
+              o.given.answer refl refl refl line store xs output o.given.taken o.store_after o.output_then taken,
         ),
         rest.met,
       );
-      same = ap (λ (hs : List HandedTake). aSlice xs output ∷ hs) rest.same;
+      same = ap (λ (hs : List HandedTake). a_slice xs output ∷ hs) rest.same;
     }
 
-pub every-linked-line : EveryLinkedLine
-every-linked-line =
+pub every_linked_line : EveryLinkedLine
+every_linked_line =
     record {
-      byOctets = λ given small.
-          let l = every-line given small in
-          record { calls = map inNumbers l.calls; line = linked-lines.ofLine l.calls l.line; same = same-handed l.calls ∙ l.same };
-      bySlices = λ given small.
-          let t = takes-over noOctets (recordNumbers freshRecord) given small in
-          record { calls = t.calls; line = record { store = noOctets; line = recordNumbers freshRecord; starts = (refl, refl); takes = t.met }; same = t.same };
+      by_octets = λ given small.
+          let l = every_line given small in
+          record { calls = map in_numbers l.calls; line = linked_lines.of_line l.calls l.line; same = same_handed l.calls ∙ l.same };
+      by_slices = λ given small.
+          let t = takes_over no_octets (record_numbers fresh_record) given small in
+          record { calls = t.calls; line = record { store = no_octets; line = record_numbers fresh_record; starts = (refl, refl); takes = t.met }; same = t.same };
     }

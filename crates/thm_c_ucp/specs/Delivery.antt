@@ -3,26 +3,26 @@
 -- nothing.
 use Rattle.std.specs.Prelude.{◌≡◌, List, ◌∷◌, ◌++◌, ℕ, ◌≤◌, length, take}
 use Rattle.output_writing.specs.declared.OstrogoszWritten.{OstrogoszWritten}
-use Rattle.ucp_frame.specs.Frame.{frame, longestBody}
+use Rattle.ucp_frame.specs.Frame.{frame, longest_body}
 use Rattle.ucp_frame.specs.Stretch.{delivered}
 use Rattle.c_ucp_frames.specs.Frames.{WritesFrameNumbers}
 use Rattle.thm_ucp_receiver.specs.Promises.{EndsIn}
-use Rattle.thm_c_ucp.specs.Receiver.{LinkedCall, LinkedLine, linkedUpTo, LinkedAnswersAs}
+use Rattle.thm_c_ucp.specs.Receiver.{LinkedCall, LinkedLine, linked_up_to, LinkedAnswersAs}
 
 -- where a linked line, whatever it brought before, ends in these octets, and the room is 436 octets or more: the last call delivers
 -- this body, and the octets that it put out meet `Use`
 abbrev pub DeliversLinked : List ℕ → List ℕ → (List ℕ → Type 0) → Type 0
 DeliversLinked octets body Use =
     (before later : List LinkedCall) (c : LinkedCall) → LinkedLine (before ++ c ∷ later)
-    → EndsIn octets (linkedUpTo before c) → longestBody ≤ length c.output
-    → LinkedAnswersAs (delivered body) c × Use (take c.value c.outputThen)
+    → EndsIn octets (linked_up_to before c) → longest_body ≤ length c.output
+    → LinkedAnswersAs (delivered body) c × Use (take c.value c.output_then)
 
 -- where a call of a linked line delivers a body, and the linked frame writer is given that body: with room it accepts, and the octets
 -- that it then writes are those that the line ended in
 abbrev pub LinkedDeliveredWritesBack : Type 0
 LinkedDeliveredWritesBack =
     (before after : List LinkedCall) (c : LinkedCall) → LinkedLine (before ++ c ∷ after) → c.kind ≡ 1
-    → (output then : List ℕ) (w : OstrogoszWritten) → WritesFrameNumbers (take c.value c.outputThen) output w then
-    → (length (frame (take c.value c.outputThen)) ≤ length output
-    → w ≡ record { refusal = 0; length = length (frame (take c.value c.outputThen)) })
-    × (w.refusal ≡ 0 → EndsIn (take w.length then) (linkedUpTo before c))
+    → (output then : List ℕ) (w : OstrogoszWritten) → WritesFrameNumbers (take c.value c.output_then) output w then
+    → (length (frame (take c.value c.output_then)) ≤ length output
+    → w ≡ record { refusal = 0; length = length (frame (take c.value c.output_then)) })
+    × (w.refusal ≡ 0 → EndsIn (take w.length then) (linked_up_to before c))

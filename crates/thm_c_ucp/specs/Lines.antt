@@ -4,36 +4,36 @@ use Rattle.std.specs.Prelude.{◌≡◌, List, [], ◌∷◌, map, ℕ}
 use Rattle.crc_polynomial.specs.Polynomial.{Octets}
 use Rattle.thm_ucp_receiver.specs.Lines.{Handed}
 use Rattle.thm_c_ucp.specs.Receiver.{LinkedCall, LinkedLine}
-use Rattle.thm_c_ucp.specs.Slices.{LinkedTake, byOctet, bySlice, LinkedSliceLine}
+use Rattle.thm_c_ucp.specs.Slices.{LinkedTake, by_octet, by_slice, LinkedSliceLine}
 
 -- ---- by the octet
-abbrev pub handedToLinked : LinkedCall → Handed
-handedToLinked c = record { octet = c.octet; output = c.output }
+abbrev pub handed_to_linked : LinkedCall → Handed
+handed_to_linked c = record { octet = c.octet; output = c.output }
 
 pub record LinkedLineOver (given : List Handed) : Type 0 where
   pub calls : List LinkedCall
   pub line : LinkedLine calls
-  pub same : map handedToLinked calls ≡ given
+  pub same : map handed_to_linked calls ≡ given
 
 -- ---- by the octet and by the slice: what a call is given, and an output
 pub data HandedTake : Type 0 where
-  anOctet : ℕ → List ℕ → HandedTake
-  aSlice : List ℕ → List ℕ → HandedTake
+  an_octet : ℕ → List ℕ → HandedTake
+  a_slice : List ℕ → List ℕ → HandedTake
 
-abbrev pub handedTake : LinkedTake → HandedTake
-handedTake (byOctet c) = anOctet c.octet c.output
-handedTake (bySlice s) = aSlice s.octets s.output
+abbrev pub handed_take : LinkedTake → HandedTake
+handed_take (by_octet c) = an_octet c.octet c.output
+handed_take (by_slice s) = a_slice s.octets s.output
 
 abbrev pub AllOctets : List HandedTake → Type 0
 AllOctets [] = Unit
-AllOctets (anOctet x output ∷ ts) = Octets (x ∷ []) × AllOctets ts
-AllOctets (aSlice xs output ∷ ts) = Octets xs × AllOctets ts
+AllOctets (an_octet x output ∷ ts) = Octets (x ∷ []) × AllOctets ts
+AllOctets (a_slice xs output ∷ ts) = Octets xs × AllOctets ts
 
 pub record LinkedSliceLineOver (given : List HandedTake) : Type 0 where
   pub calls : List LinkedTake
   pub line : LinkedSliceLine calls
-  pub same : map handedTake calls ≡ given
+  pub same : map handed_take calls ≡ given
 
 pub record EveryLinkedLine : Type 0 where
-  pub byOctets : (given : List Handed) → Octets (map (λ (h : Handed). h.octet) given) → LinkedLineOver given
-  pub bySlices : (given : List HandedTake) → AllOctets given → LinkedSliceLineOver given
+  pub by_octets : (given : List Handed) → Octets (map (λ (h : Handed). h.octet) given) → LinkedLineOver given
+  pub by_slices : (given : List HandedTake) → AllOctets given → LinkedSliceLineOver given

@@ -2,9 +2,9 @@
 -- silence. The conditions are those of thm_ucp_receiver. Assumes nothing.
 use Rattle.std.specs.Prelude.{◌≡◌, List, ◌∷◌, ◌++◌, map, ℕ, length}
 use Rattle.ucp_frame.specs.Frame.{flag}
-use Rattle.ucp_history.specs.History.{cutAtFlags, openStretch}
+use Rattle.ucp_history.specs.History.{cut_at_flags, open_stretch}
 use Rattle.thm_ucp_receiver.specs.Refusals.{RefusesWhen}
-use Rattle.thm_c_ucp.specs.Receiver.{LinkedCall, LinkedLine, linkedCallOf}
+use Rattle.thm_c_ucp.specs.Receiver.{LinkedCall, LinkedLine, linked_call_of}
 
 abbrev pub NumbersRefuse : ℕ → ℕ → ℕ → Type 0
 NumbersRefuse kind value number = (kind ≡ 2) × (value ≡ number)
@@ -14,5 +14,5 @@ abbrev pub LinkedReceiverRefusesWhen : Type 0
 LinkedReceiverRefusesWhen =
     (before after : List LinkedCall) (c : LinkedCall) → LinkedLine (before ++ c ∷ after)
     → (c.octet ≡ flag
-    → RefusesWhen (openStretch (cutAtFlags (map linkedCallOf before)).flags) (length c.output) (NumbersRefuse c.kind c.value) (c.kind ≡ 0))
+    → RefusesWhen (open_stretch (cut_at_flags (map linked_call_of before)).flags) (length c.output) (NumbersRefuse c.kind c.value) (c.kind ≡ 0))
     × ((c.octet ≡ flag → ⊥) → c.kind ≡ 0)

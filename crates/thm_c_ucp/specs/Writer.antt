@@ -3,9 +3,9 @@
 use Rattle.std.specs.Prelude.{◌≡◌, cond, List, [], ◌∷◌, ◌++◌, map, ◌⊎◌, ◌↔◌, ℕ, eqb, length, take, drop}
 use Rattle.refusals.specs.Numbers as because
 use Rattle.output_writing.specs.declared.OstrogoszWritten.{OstrogoszWritten}
-use Rattle.output_writing.specs.Writing.{writerAnswer, writtenNumbers}
-use Rattle.ucp_frame.specs.Frame.{frame, framesOf}
-use Rattle.ucp_writer.specs.Room.{frameDue}
+use Rattle.output_writing.specs.Writing.{writer_answer, written_numbers}
+use Rattle.ucp_frame.specs.Frame.{frame, frames_of}
+use Rattle.ucp_writer.specs.Room.{frame_due}
 use Rattle.ucp_writer.specs.Refusals.{WrongBodyLength, NoRoomForFrame, RoomForFrame}
 use Rattle.c_ucp_frames.specs.Frames.{WritesFrameNumbers}
 use Rattle.thm_ucp_writer.specs.Calls.{WriterCall, DifferInNumberOrOctet}
@@ -25,41 +25,41 @@ LinkedWrites (w ∷ ws) = WritesFrameNumbers w.body w.output w.given w.after × 
 -- ---- they are the frame writer's
 
 -- a call of the frame writer in C's numbers
-abbrev pub writeInNumbers : WriterCall → LinkedWrite
-writeInNumbers c =
-    record { body = c.body; output = c.output; given = writtenNumbers (writerAnswer c.answer); after = c.after }
+abbrev pub write_in_numbers : WriterCall → LinkedWrite
+write_in_numbers c =
+    record { body = c.body; output = c.output; given = written_numbers (writer_answer c.answer); after = c.after }
 
 pub record AreWrites (calls : List LinkedWrite) : Type 0 where
   pub called : List WriterCall
-  pub same : map writeInNumbers called ≡ calls
+  pub same : map write_in_numbers called ≡ calls
 
 pub record LinkedWriter : Type 0 where
-  pub areWrites : (calls : List LinkedWrite) → LinkedWrites calls → AreWrites calls
-  pub ofWrites : (called : List WriterCall) → LinkedWrites (map writeInNumbers called)
+  pub are_writes : (calls : List LinkedWrite) → LinkedWrites calls → AreWrites calls
+  pub of_writes : (called : List WriterCall) → LinkedWrites (map write_in_numbers called)
 
 -- ---- what C then sees of them: where no refusal's number is given, as many octets as the length says are the frame
 
-abbrev pub linkedAdds : OstrogoszWritten → List ℕ → List ℕ
-linkedAdds given after = cond (eqb given.refusal 0) (take given.length after) []
+abbrev pub linked_adds : OstrogoszWritten → List ℕ → List ℕ
+linked_adds given after = cond (eqb given.refusal 0) (take given.length after) []
 
-abbrev pub linkedAccepts : OstrogoszWritten → List ℕ → List (List ℕ)
-linkedAccepts given body = cond (eqb given.refusal 0) (body ∷ []) []
+abbrev pub linked_accepts : OstrogoszWritten → List ℕ → List (List ℕ)
+linked_accepts given body = cond (eqb given.refusal 0) (body ∷ []) []
 
-abbrev pub linkedOctets : List LinkedWrite → List ℕ
-linkedOctets [] = []
-linkedOctets (w ∷ ws) = linkedAdds w.given w.after ++ linkedOctets ws
+abbrev pub linked_octets : List LinkedWrite → List ℕ
+linked_octets [] = []
+linked_octets (w ∷ ws) = linked_adds w.given w.after ++ linked_octets ws
 
-abbrev pub linkedBodies : List LinkedWrite → List (List ℕ)
-linkedBodies [] = []
-linkedBodies (w ∷ ws) = linkedAccepts w.given w.body ++ linkedBodies ws
+abbrev pub linked_bodies : List LinkedWrite → List (List ℕ)
+linked_bodies [] = []
+linked_bodies (w ∷ ws) = linked_accepts w.given w.body ++ linked_bodies ws
 
 -- ---- one call: 7, then 8, each exactly when and no other; a refusal's number, no length and the output as it was, or the frame
 
 pub record FrameRefusals (body output : List ℕ) (given : OstrogoszWritten) (after : List ℕ) : Type 0 where
-  pub refuses7 : (given.refusal ≡ because.bodyLength) ↔ WrongBodyLength body
-  pub refuses8 : (given.refusal ≡ because.outputLength) ↔ NoRoomForFrame body output
+  pub refuses7 : (given.refusal ≡ because.body_length) ↔ WrongBodyLength body
+  pub refuses8 : (given.refusal ≡ because.output_length) ↔ NoRoomForFrame body output
   pub accepts : (given.refusal ≡ 0) ↔ RoomForFrame body output
-  pub no_other : (given.refusal ≡ 0) ⊎ ((given.refusal ≡ because.bodyLength) ⊎ (given.refusal ≡ because.outputLength))
+  pub no_other : (given.refusal ≡ 0) ⊎ ((given.refusal ≡ because.body_length) ⊎ (given.refusal ≡ because.output_length))
   pub writes : given.refusal ≡ 0 → (given.length ≡ length (frame body)) × (after ≡ frame body ++ drop (length (frame body)) output)
   pub leaves : (given.refusal ≡ 0 → ⊥) → (given.length ≡ 0) × (after ≡ output)
 
@@ -71,7 +71,7 @@ LinkedWriterRefuses =
 
 -- demand 3, the writer, one claim about whole lists of linked calls, as `WriterLists` is of the frame writer's
 pub record LinkedWriterLists : Type 0 where
-  pub answers : (w : LinkedWrite) → LinkedWrites (w ∷ []) → w.given ≡ writtenNumbers (frameDue w.body w.output)
-  pub frames : (calls : List LinkedWrite) → LinkedWrites calls → linkedOctets calls ≡ framesOf (linkedBodies calls)
-  pub differ : (xs ys : List LinkedWrite) → LinkedWrites xs → LinkedWrites ys → (linkedBodies xs ≡ linkedBodies ys → ⊥)
-      → DifferInNumberOrOctet (linkedOctets xs) (linkedOctets ys)
+  pub answers : (w : LinkedWrite) → LinkedWrites (w ∷ []) → w.given ≡ written_numbers (frame_due w.body w.output)
+  pub frames : (calls : List LinkedWrite) → LinkedWrites calls → linked_octets calls ≡ frames_of (linked_bodies calls)
+  pub differ : (xs ys : List LinkedWrite) → LinkedWrites xs → LinkedWrites ys → (linked_bodies xs ≡ linked_bodies ys → ⊥)
+      → DifferInNumberOrOctet (linked_octets xs) (linked_octets ys)

@@ -1,51 +1,51 @@
 -- The examples of MAVLink, by computation. Assumes nothing.
 use mathlib.Core.Path.{refl}
 use Rattle.crc_polynomial.specs.Polynomial.{step, reduced, polynomial}
-use Rattle.crc_x25.specs.Check.{bitsUp, wireBits, next, register, mirrored, x25}
-use Rattle.field_codes.specs.Codes.{isSquawk, isEmitter, isSizeCode}
-use Rattle.field_texts.specs.Text.{isSpaced}
+use Rattle.crc_x25.specs.Check.{bits_up, wire_bits, next, register, mirrored, x25}
+use Rattle.field_codes.specs.Codes.{is_squawk, is_emitter, is_size_code}
+use Rattle.field_texts.specs.Text.{is_spaced}
 use Rattle.field_signed.specs.Signed.{signed}
-use Rattle.field_format.specs.Format.{body_of, valueIn}
-use Rattle.mavlink_frame.specs.Frame.{mavlinkKind, mavlinkFrame}
-use Rattle.mavlink_frame.specs.Reader.{foundOf, found}
-use Rattle.mavlink_messages.specs.Ranges.{staticFits, dynamicFits, trafficFits}
-use Rattle.mavlink_messages.specs.FailureBits.{failureBits}
-use Rattle.mavlink_messages.specs.Failures.{failuresIn}
+use Rattle.field_format.specs.Format.{body_of, value_in}
+use Rattle.mavlink_frame.specs.Frame.{mavlink_kind, mavlink_frame}
+use Rattle.mavlink_frame.specs.Reader.{found_of, found}
+use Rattle.mavlink_messages.specs.Ranges.{static_fits, dynamic_fits, traffic_fits}
+use Rattle.mavlink_messages.specs.FailureBits.{failure_bits}
+use Rattle.mavlink_messages.specs.Failures.{failures_in}
 use Rattle.thm_kind_examples.specs.Mavlink.{MavlinkKindExamples}
 
 pub examples : MavlinkKindExamples
-unfolding step reduced polynomial bitsUp wireBits next register mirrored x25 isSquawk isEmitter isSizeCode isSpaced signed body_of valueIn mavlinkKind mavlinkFrame foundOf found staticFits dynamicFits trafficFits failureBits failuresIn
+unfolding step reduced polynomial bits_up wire_bits next register mirrored x25 is_squawk is_emitter is_size_code is_spaced signed body_of value_in mavlink_kind mavlink_frame found_of found static_fits dynamic_fits traffic_fits failure_bits failures_in
 examples =
     record {
-      no-octet = refl;
-      start-FD = refl;
-      five-octets = refl;
-      id-67 = refl;
-      length-2 = refl;
-      one-octet-short = refl;
-      wrong-check = refl;
+      no_octet = refl;
+      start_fd = refl;
+      five_octets = refl;
+      id_67 = refl;
+      length_2 = refl;
+      one_octet_short = refl;
+      wrong_check = refl;
       stream = record { read = refl; fit = refl; written = refl };
       static = record { read = refl; fit = refl; written = refl };
-      address-of-25-bits = refl;
-      lower-case = refl;
+      address_of_25_bits = refl;
+      lower_case = refl;
       hyphen = refl;
-      ninth-octet = refl;
-      emitter-22 = refl;
-      size-16 = refl;
-      lateral-8 = refl;
-      longitudinal-32 = refl;
+      ninth_octet = refl;
+      emitter_22 = refl;
+      size_16 = refl;
+      lateral_8 = refl;
+      longitudinal_32 = refl;
       dynamic = record { read = refl; fit = refl; written = refl };
-      squawk-7778 = refl;
-      fix-6 = refl;
-      four-failures = record { read = refl; fit = refl; written = refl };
-      bit-0 = refl;
-      bit-1 = refl;
-      bits-2-and-3 = refl;
-      bit-4 = refl;
-      bit-5 = refl;
-      all-bits = refl;
+      squawk_7778 = refl;
+      fix_6 = refl;
+      four_failures = record { read = refl; fit = refl; written = refl };
+      bit_0 = refl;
+      bit_1 = refl;
+      bits_2_and_3 = refl;
+      bit_4 = refl;
+      bit_5 = refl;
+      all_bits = refl;
       traffic = record { read = refl; fit = refl; written = refl };
-      squawk-of-traffic-7777 = refl;
-      squawk-of-traffic-7778 = refl;
-      squawk-of-traffic-65534 = refl;
+      squawk_of_traffic_7777 = refl;
+      squawk_of_traffic_7778 = refl;
+      squawk_of_traffic_65534 = refl;
     }

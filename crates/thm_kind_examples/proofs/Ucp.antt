@@ -1,94 +1,94 @@
 -- The examples of the UCP line, by computation. Assumes nothing.
 use mathlib.Core.Path.{refl}
-use Rattle.field_codes.specs.Codes.{isSquawk, isEmitter, isSizeCode}
-use Rattle.field_texts.specs.Text.{allSpaces, isPadded, isSpaced}
+use Rattle.field_codes.specs.Codes.{is_squawk, is_emitter, is_size_code}
+use Rattle.field_texts.specs.Text.{all_spaces, is_padded, is_spaced}
 use Rattle.field_signed.specs.Signed.{signed, holds}
-use Rattle.field_format.specs.Format.{valueIn, body_of, fits}
-use Rattle.ucp_answers.specs.Refusals.{refusalBy, refusalOf, reads}
-use Rattle.ucp_meanings.specs.Meanings.{altitudeMeans, rateMeans, geometricMeans, degreesE7}
-use Rattle.ucp_messages.specs.Uplink7.{uplinkFits}
+use Rattle.field_format.specs.Format.{value_in, body_of, fits}
+use Rattle.ucp_answers.specs.Refusals.{refusal_by, refusal_of, reads}
+use Rattle.ucp_meanings.specs.Meanings.{altitude_means, rate_means, geometric_means, degrees_e7}
+use Rattle.ucp_messages.specs.Uplink7.{uplink_fits}
 use Rattle.ucp_messages.specs.Kinds.{kind_of}
-use Rattle.ucp_messages.specs.Messages.{answerAs, messageFits, messageBody}
+use Rattle.ucp_messages.specs.Messages.{answer_as, message_fits, message_body}
 use Rattle.thm_kind_examples.specs.Ucp.{UcpKindExamples}
 
 pub examples : UcpKindExamples
-unfolding isSquawk isEmitter isSizeCode allSpaces isPadded isSpaced signed holds valueIn body_of fits refusalBy refusalOf reads altitudeMeans rateMeans geometricMeans degreesE7 uplinkFits kind_of answerAs messageFits messageBody
+unfolding is_squawk is_emitter is_size_code all_spaces is_padded is_spaced signed holds value_in body_of fits refusal_by refusal_of reads altitude_means rate_means geometric_means degrees_e7 uplink_fits kind_of answer_as message_fits message_body
 examples =
     record {
-      no-octet = refl;
-      id-1 = refl;
+      no_octet = refl;
+      id_1 = refl;
       heartbeat = record { read = refl; fit = refl; written = refl };
-      heartbeat-of-6 = refl;
-      heartbeat-of-8 = refl;
+      heartbeat_of_6 = refl;
+      heartbeat_of_8 = refl;
       uplink = refl;
-      uplink-of-435 = refl;
-      uplink-of-437 = refl;
-      payload-of-435 = refl;
-      payload-written = refl;
-      payload-of-434 = refl;
-      payload-of-436 = refl;
+      uplink_of_435 = refl;
+      uplink_of_437 = refl;
+      payload_of_435 = refl;
+      payload_written = refl;
+      payload_of_434 = refl;
+      payload_of_436 = refl;
       traffic = record { read = refl; fit = refl; written = refl };
       ownship = record { read = refl; fit = refl; written = refl };
-      report-of-27 = refl;
-      alert-16 = refl;
-      address-of-25-bits = refl;
-      latitude-too-low = refl;
-      latitude-too-high = refl;
-      rate-too-low = refl;
-      rate-too-high = refl;
-      altitude-1000 = refl;
-      spare-16 = refl;
-      altitude-FFF = refl;
-      altitude-FFE = refl;
-      altitude-0 = refl;
-      rate-800 = refl;
-      rate-801 = refl;
-      rate-7FF = refl;
-      degrees-800000 = refl;
-      degrees-000001 = refl;
-      degrees-FFFFFF = refl;
+      report_of_27 = refl;
+      alert_16 = refl;
+      address_of_25_bits = refl;
+      latitude_too_low = refl;
+      latitude_too_high = refl;
+      rate_too_low = refl;
+      rate_too_high = refl;
+      altitude_1000 = refl;
+      spare_16 = refl;
+      altitude_fff = refl;
+      altitude_ffe = refl;
+      altitude_0 = refl;
+      rate_800 = refl;
+      rate_801 = refl;
+      rate_7ff = refl;
+      degrees_800000 = refl;
+      degrees_000001 = refl;
+      degrees_ffffff = refl;
       geometric = record { read = refl; fit = refl; written = refl };
-      geometric-of-4 = refl;
-      geometric-feet = refl;
+      geometric_of_4 = refl;
+      geometric_feet = refl;
       request = record { read = refl; fit = refl; written = refl };
-      version-3 = refl;
-      version-1 = refl;
-      version-1-of-2 = refl;
+      version_3 = refl;
+      version_1 = refl;
+      version_1_of_2 = refl;
       control = record { read = refl; fit = refl; written = refl };
-      control-version-2 = refl;
-      squawk-7778 = refl;
-      squawk-256-more = refl;
-      lower-case = refl;
-      space-inside = refl;
-      space-first = refl;
-      before-0 = refl;
-      behind-9 = refl;
-      before-A = refl;
-      behind-Z = refl;
-      last-octet-00 = refl;
-      air-ground-3-fits = refl;
-      air-ground-4-unfit = refl;
-      squawk-7778-unfit = refl;
-      lower-case-unfit = refl;
-      no-bit = refl;
-      bit-7 = refl;
-      bit-6 = refl;
-      bit-5 = refl;
-      bit-4 = refl;
-      bit-3 = refl;
-      bits-2-and-1 = refl;
-      bit-0 = refl;
+      control_version_2 = refl;
+      squawk_7778 = refl;
+      squawk_256_more = refl;
+      lower_case = refl;
+      space_inside = refl;
+      space_first = refl;
+      before_0 = refl;
+      behind_9 = refl;
+      before_a = refl;
+      behind_z = refl;
+      last_octet_00 = refl;
+      air_ground_3_fits = refl;
+      air_ground_4_unfit = refl;
+      squawk_7778_unfit = refl;
+      lower_case_unfit = refl;
+      no_bit = refl;
+      bit_7 = refl;
+      bit_6 = refl;
+      bit_5 = refl;
+      bit_4 = refl;
+      bit_3 = refl;
+      bits_2_and_1 = refl;
+      bit_0 = refl;
       initialization = record { read = refl; fit = refl; written = refl };
-      lateral-in-the-top-bits = record { read = refl; fit = refl; written = refl };
-      signature-66 = refl;
-      subtype-2 = refl;
-      emitter-22 = refl;
-      lower-case-callsign = refl;
-      callsign-ends-in-00 = refl;
-      size-16 = refl;
-      address-wide = refl;
-      lateral-8 = refl;
-      longitudinal-32 = refl;
-      emitter-22-unfit = refl;
-      size-16-unfit = refl;
+      lateral_in_the_top_bits = record { read = refl; fit = refl; written = refl };
+      signature_66 = refl;
+      subtype_2 = refl;
+      emitter_22 = refl;
+      lower_case_callsign = refl;
+      callsign_ends_in_00 = refl;
+      size_16 = refl;
+      address_wide = refl;
+      lateral_8 = refl;
+      longitudinal_32 = refl;
+      emitter_22_unfit = refl;
+      size_16_unfit = refl;
     }

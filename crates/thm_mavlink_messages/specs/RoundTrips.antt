@@ -10,37 +10,37 @@ use Rattle.mavlink_messages.specs.Failures.{FailureAnswer}
 use Rattle.mavlink_messages.specs.declared.Message.{Message}
 use Rattle.mavlink_messages.specs.declared.Message.TheVariants.{DataStream, Static, Dynamic, Status, Traffic}
 use Rattle.mavlink_messages.specs.Messages as read_as
-use Rattle.mavlink_messages.specs.DataStream66.{dataStreamFormat}
-use Rattle.mavlink_messages.specs.Static201.{staticFormat}
-use Rattle.mavlink_messages.specs.Dynamic202.{dynamicFormat}
-use Rattle.mavlink_messages.specs.Status203.{statusFormat}
-use Rattle.mavlink_messages.specs.Traffic246.{trafficFormat}
-use Rattle.mavlink_messages.specs.Messages.{failuresOf, readDue, writeDue, messageFrame}
+use Rattle.mavlink_messages.specs.DataStream66.{data_stream_format}
+use Rattle.mavlink_messages.specs.Static201.{static_format}
+use Rattle.mavlink_messages.specs.Dynamic202.{dynamic_format}
+use Rattle.mavlink_messages.specs.Status203.{status_format}
+use Rattle.mavlink_messages.specs.Traffic246.{traffic_format}
+use Rattle.mavlink_messages.specs.Messages.{failures_of, read_due, write_due, message_frame}
 
 -- the fields are values of their types: as a running program's are, and antt's numbers need not be
 abbrev pub MavlinkTyped : Message → Type 0
-MavlinkTyped (DataStream d) = TypedAs dataStreamFormat d
-MavlinkTyped (Static s) = TypedAs staticFormat s
-MavlinkTyped (Dynamic d) = TypedAs dynamicFormat d
-MavlinkTyped (Status s) = TypedAs statusFormat s
-MavlinkTyped (Traffic t) = TypedAs trafficFormat t
+MavlinkTyped (DataStream d) = TypedAs data_stream_format d
+MavlinkTyped (Static s) = TypedAs static_format s
+MavlinkTyped (Dynamic d) = TypedAs dynamic_format d
+MavlinkTyped (Status s) = TypedAs status_format s
+MavlinkTyped (Traffic t) = TypedAs traffic_format t
 
 -- every message that the reader gives is one
 abbrev pub MavlinkReadIsTyped : Type 0
 MavlinkReadIsTyped =
-    (s : List ℕ) (h : Header) (used : ℕ) (m : Message) (f : FailureAnswer) → Octets s → readDue s ≡ read_as.means h used m f → MavlinkTyped m
+    (s : List ℕ) (h : Header) (used : ℕ) (m : Message) (f : FailureAnswer) → Octets s → read_due s ≡ read_as.means h used m f → MavlinkTyped m
 
 -- ---- a written frame reads back equal, with anything behind it: the same kind, fields and header, and its own length
 abbrev pub MavlinkReadsBack : Type 0
 MavlinkReadsBack =
     (m : Message) (h : Header) (output after : List ℕ) (n : ℕ) → MavlinkTyped m
-    → Writing (writeDue m output) (messageFrame m h) output (Wrote n) after
-    → readDue after ≡ read_as.means h n m (failuresOf m)
+    → Writing (write_due m output) (message_frame m h) output (Wrote n) after
+    → read_due after ≡ read_as.means h n m (failures_of m)
 
 -- ---- an accepted frame writes back to the same octets, wherever there is room for them
 abbrev pub MavlinkWritesBack : Type 0
 MavlinkWritesBack =
-    (s : List ℕ) (h : Header) (used : ℕ) (m : Message) (f : FailureAnswer) → Octets s → readDue s ≡ read_as.means h used m f
+    (s : List ℕ) (h : Header) (used : ℕ) (m : Message) (f : FailureAnswer) → Octets s → read_due s ≡ read_as.means h used m f
     → (output after : List ℕ) (r : Written) → used ≤ length output
-    → Writing (writeDue m output) (messageFrame m h) output r after
+    → Writing (write_due m output) (message_frame m h) output r after
     → (r ≡ Wrote used) × (after ≡ take used s ++ drop used output)

@@ -1,11 +1,11 @@
 // What holds of MAVLink's reader and writers together, and worked examples: stated in specs/, proved in proofs/. The functions do
 // nothing: their contracts say that every message that a program holds meets what the theorems ask of it.
 ghost use Rattle.field_format.specs.Format.{TypedAs};
-ghost use Rattle.mavlink_messages.specs.DataStream66.{dataStreamFormat};
-ghost use Rattle.mavlink_messages.specs.Static201.{staticFormat};
-ghost use Rattle.mavlink_messages.specs.Dynamic202.{dynamicFormat};
-ghost use Rattle.mavlink_messages.specs.Status203.{statusFormat};
-ghost use Rattle.mavlink_messages.specs.Traffic246.{trafficFormat};
+ghost use Rattle.mavlink_messages.specs.DataStream66.{data_stream_format};
+ghost use Rattle.mavlink_messages.specs.Static201.{static_format};
+ghost use Rattle.mavlink_messages.specs.Dynamic202.{dynamic_format};
+ghost use Rattle.mavlink_messages.specs.Status203.{status_format};
+ghost use Rattle.mavlink_messages.specs.Traffic246.{traffic_format};
 ghost use Rattle.thm_mavlink_messages.specs.RoundTrips.{MavlinkTyped};
 
 use mavlink_messages::{DataStream, Dynamic, Message, Static, Status, Traffic};
@@ -13,23 +13,23 @@ use mavlink_messages::{DataStream, Dynamic, Message, Static, Status, Traffic};
 // ---- one kind
 
 fn data_stream_typed(data_stream: DataStream)
-    ensures { TypedAs dataStreamFormat data_stream }
+    ensures { TypedAs data_stream_format data_stream }
 {}
 
 fn static_typed(static_data: Static)
-    ensures { TypedAs staticFormat static_data }
+    ensures { TypedAs static_format static_data }
 {}
 
 fn dynamic_typed(dynamic: Dynamic)
-    ensures { TypedAs dynamicFormat dynamic }
+    ensures { TypedAs dynamic_format dynamic }
 {}
 
 fn status_typed(status: Status)
-    ensures { TypedAs statusFormat status }
+    ensures { TypedAs status_format status }
 {}
 
 fn traffic_typed(traffic: Traffic)
-    ensures { TypedAs trafficFormat traffic }
+    ensures { TypedAs traffic_format traffic }
 {}
 
 // Every message is a value of its type.

@@ -13,43 +13,43 @@ use Rattle.output_writing.specs.Puts.{Puts}
 use Rattle.ucp_history.specs.History.{Call, answer, account}
 use Rattle.ucp_receiver.specs.declared.Counts.{Counts}
 use Rattle.ucp_receiver.specs.declared.Record.{Record}
-use Rattle.ucp_receiver.specs.Answers.{outputAtFlag}
-use Rattle.ucp_receiver.specs.Octet.{State, state_of, noOctets, freshRecord, stateAfter, verdictDue, countsAfter}
-use Rattle.text_ucp_listing.specs.Listing.{bodyRoom, longestLine, answerLine, closingLine, longestClosing}
-use Rattle.text_ucp_listing.specs.Lists.{Lines, behind, noLines, lines, Lists, behindAll, everyLine}
+use Rattle.ucp_receiver.specs.Answers.{output_at_flag}
+use Rattle.ucp_receiver.specs.Octet.{State, state_of, no_octets, fresh_record, state_after, verdict_due, counts_after}
+use Rattle.text_ucp_listing.specs.Listing.{body_room, longest_line, answer_line, closing_line, longest_closing}
+use Rattle.text_ucp_listing.specs.Lists.{Lines, behind, no_lines, lines, Lists, behind_all, every_line}
 use Rattle.thm_ucp_receiver.specs.Slice.{gathered}
-use Rattle.thm_ucp_receiver.specs.Promises.{accountCounts}
-use Rattle.thm_ucp_listing.specs.Input.{listedCall, answerLines}
-use Rattle.thm_ucp_listing.specs.Calls.{ListCall, ListRuns, listTaken, listText, countsLast, CallsAreListing}
-use Rattle.thm_ucp_listing.proofs.Input.{listedAfter, one-call, Keeps, KeepsBehind, keeps-fresh, keeps-behind, lines-by-history}
+use Rattle.thm_ucp_receiver.specs.Promises.{account_counts}
+use Rattle.thm_ucp_listing.specs.Input.{listed_call, answer_lines}
+use Rattle.thm_ucp_listing.specs.Calls.{ListCall, ListRuns, list_taken, list_text, counts_last, CallsAreListing}
+use Rattle.thm_ucp_listing.proofs.Input.{listed_after, one_call, Keeps, KeepsBehind, keeps_fresh, keeps_behind, lines_by_history}
 
 -- ---- one call
 
 -- the text, and the record behind, of the octets that were taken
 record TakenLines (s : State) (c : Counts) (xs : List ℕ) (l : Lines) : Type 0 where
-  text : l.text ≡ everyLine s c (take l.taken xs)
-  left : behindAll s c (take l.taken xs) ≡ record { state = l.state; counts = l.counts }
+  text : l.text ≡ every_line s c (take l.taken xs)
+  left : behind_all s c (take l.taken xs) ≡ record { state = l.state; counts = l.counts }
 
 one_more : (s : State) (c : Counts) (room : List ℕ) (x : ℕ) (xs : List ℕ) (l : Lines)
-    → TakenLines (stateAfter s x) (countsAfter c s x bodyRoom) xs l → (full : Bool)
-    → TakenLines s c (x ∷ xs) (cond full (noLines s c room) (behind (answerLine (verdictDue s x bodyRoom)) l))
-unfolding behindAll everyLine
+    → TakenLines (state_after s x) (counts_after c s x body_room) xs l → (full : Bool)
+    → TakenLines s c (x ∷ xs) (cond full (no_lines s c room) (behind (answer_line (verdict_due s x body_room)) l))
+unfolding behind_all every_line
 one_more s c room x xs l t true = record { text = refl; left = refl }
 one_more s c room x xs l t false =
     rw (add-one l.taken)
     (record {
-      text = ap (λ (m : List ℕ). answerLine (verdictDue s x bodyRoom) ++ m) t.text;
+      text = ap (λ (m : List ℕ). answer_line (verdict_due s x body_room) ++ m) t.text;
       left = t.left;
     })
 
-taken-lines : (s : State) (c : Counts) (room xs : List ℕ) (free : ℕ) → TakenLines s c xs (lines s c room xs free)
-unfolding lines behindAll everyLine
-taken-lines s c room [] free = record { text = refl; left = refl }
-taken-lines s c room (x ∷ xs) free =
-    let due = verdictDue s x bodyRoom in
+taken_lines : (s : State) (c : Counts) (room xs : List ℕ) (free : ℕ) → TakenLines s c xs (lines s c room xs free)
+unfolding lines behind_all every_line
+taken_lines s c room [] free = record { text = refl; left = refl }
+taken_lines s c room (x ∷ xs) free =
+    let due = verdict_due s x body_room in
     one_more s c room x xs _
-    (taken-lines (stateAfter s x) (countsAfter c s x bodyRoom) (outputAtFlag due room) xs (free - length (answerLine due)))
-    (ltb free longestLine)
+    (taken_lines (state_after s x) (counts_after c s x body_room) (output_at_flag due room) xs (free - length (answer_line due)))
+    (ltb free longest_line)
 
 -- octets put at the start of a text that has room for them are what then stands there
 put_first : (before octets : List ℕ) (next : ℕ) (after : List ℕ) → Puts before 0 octets next after → next ≤ length before
@@ -60,19 +60,19 @@ put_first before octets next after p h =
     ap₂ take n (p.leaves ∙ e) ∙ take-append_seam octets (drop (0 + length octets) before)
 
 record CallLines (h : List Call) (c : ListCall) : Type 0 where
-  text : listText c ≡ answerLines h (listTaken c)
-  keeps : Keeps (listedAfter h (listTaken c)) (state_of c.given.receiver.rest c.storeAfter) c.given.receiver.counts
+  text : list_text c ≡ answer_lines h (list_taken c)
+  keeps : Keeps (listed_after h (list_taken c)) (state_of c.given.receiver.rest c.store_after) c.given.receiver.counts
 
-call-lines : (h : List Call) (receiver : Record) (store : List ℕ) (c : ListCall)
-    → Lists receiver store c.room c.line c.text c.given c.storeAfter c.roomAfter c.textAfter
+call_lines : (h : List Call) (receiver : Record) (store : List ℕ) (c : ListCall)
+    → Lists receiver store c.room c.line c.text c.given c.store_after c.room_after c.text_after
     → Keeps h (state_of receiver.rest store) receiver.counts → CallLines h c
-call-lines h receiver store c l k =
+call_lines h receiver store c l k =
     record {
       text =
-          put_first c.text run.text c.given.written c.textAfter l.puts l.within
-          ∙ t.text ∙ ap (λ (n : ℕ). everyLine s counts (take n c.line)) (sym l.taken)
-          ∙ lines-by-history h s counts (listTaken c) k;
-      keeps = subst (KeepsBehind (listedAfter h (listTaken c))) left (keeps-behind h s counts (listTaken c) k);
+          put_first c.text run.text c.given.written c.text_after l.puts l.within
+          ∙ t.text ∙ ap (λ (n : ℕ). every_line s counts (take n c.line)) (sym l.taken)
+          ∙ lines_by_history h s counts (list_taken c) k;
+      keeps = subst (KeepsBehind (listed_after h (list_taken c))) left (keeps_behind h s counts (list_taken c) k);
     }
   where
     s : State
@@ -85,51 +85,51 @@ call-lines h receiver store c l k =
     run = lines s counts c.room c.line (length c.text)
 
     t : TakenLines s counts c.line run
-    t = taken-lines s counts c.room c.line (length c.text)
+    t = taken_lines s counts c.room c.line (length c.text)
 
-    left : behindAll s counts (listTaken c)
-        ≡ record { state = state_of c.given.receiver.rest c.storeAfter; counts = c.given.receiver.counts }
+    left : behind_all s counts (list_taken c)
+        ≡ record { state = state_of c.given.receiver.rest c.store_after; counts = c.given.receiver.counts }
     left =
-        ap (λ (n : ℕ). behindAll s counts (take n c.line)) l.taken
+        ap (λ (n : ℕ). behind_all s counts (take n c.line)) l.taken
         ∙ t.left ∙ (λ i. record { state = sym l.state i; counts = sym l.account i })
 
 -- ---- all calls
 
-pub answer-lines-append : (h : List Call) (xs ys : List ℕ) → answerLines h (xs ++ ys) ≡ answerLines h xs ++ answerLines (listedAfter h xs) ys
-unfolding answerLines
-answer-lines-append h [] ys = ap (λ (l : List Call). answerLines l ys) (sym (append-nil h))
-answer-lines-append h (x ∷ xs) ys =
-    ap (λ (l : List ℕ). answerLine (answer h (listedCall x)) ++ l)
-    (answer-lines-append (h ++ (listedCall x ∷ [])) xs ys
-    ∙ ap (λ (l : List Call). answerLines (h ++ (listedCall x ∷ [])) xs ++ answerLines l ys) (one-call h x xs))
-    ∙ sym (append_assoc (answerLine (answer h (listedCall x))) (answerLines (h ++ (listedCall x ∷ [])) xs) _)
+pub answer_lines_append : (h : List Call) (xs ys : List ℕ) → answer_lines h (xs ++ ys) ≡ answer_lines h xs ++ answer_lines (listed_after h xs) ys
+unfolding answer_lines
+answer_lines_append h [] ys = ap (λ (l : List Call). answer_lines l ys) (sym (append-nil h))
+answer_lines_append h (x ∷ xs) ys =
+    ap (λ (l : List ℕ). answer_line (answer h (listed_call x)) ++ l)
+    (answer_lines_append (h ++ (listed_call x ∷ [])) xs ys
+    ∙ ap (λ (l : List Call). answer_lines (h ++ (listed_call x ∷ [])) xs ++ answer_lines l ys) (one_call h x xs))
+    ∙ sym (append_assoc (answer_line (answer h (listed_call x))) (answer_lines (h ++ (listed_call x ∷ [])) xs) _)
 
-pub listed-both : (h : List Call) (xs ys : List ℕ) → listedAfter (listedAfter h xs) ys ≡ listedAfter h (xs ++ ys)
-listed-both h xs ys =
-    append_assoc h (map listedCall xs) (map listedCall ys) ∙ ap (λ (l : List Call). h ++ l) (sym (map-append listedCall xs ys))
+pub listed_both : (h : List Call) (xs ys : List ℕ) → listed_after (listed_after h xs) ys ≡ listed_after h (xs ++ ys)
+listed_both h xs ys =
+    append_assoc h (map listed_call xs) (map listed_call ys) ∙ ap (λ (l : List Call). h ++ l) (sym (map-append listed_call xs ys))
 
 record AllLines (h : List Call) (counts : Counts) (cs : List ListCall) : Type 0 where
-  text : gathered listText cs ≡ answerLines h (gathered listTaken cs)
-  tally : countsLast counts cs ≡ accountCounts (account (listedAfter h (gathered listTaken cs)))
+  text : gathered list_text cs ≡ answer_lines h (gathered list_taken cs)
+  tally : counts_last counts cs ≡ account_counts (account (listed_after h (gathered list_taken cs)))
 
 all_lines : (h : List Call) (receiver : Record) (store : List ℕ) (cs : List ListCall) → ListRuns receiver store cs
     → Keeps h (state_of receiver.rest store) receiver.counts → AllLines h receiver.counts cs
-unfolding answerLines
+unfolding answer_lines
 all_lines h receiver store [] r k = record { text = refl; tally = rw append-nil k.tally }
 all_lines h receiver store (c ∷ cs) r k =
-    let one = call-lines h receiver store c r.0 k in
-    let rest = all_lines (listedAfter h (listTaken c)) c.given.receiver c.storeAfter cs r.1 one.keeps in
-    let more = gathered listTaken cs in
+    let one = call_lines h receiver store c r.0 k in
+    let rest = all_lines (listed_after h (list_taken c)) c.given.receiver c.store_after cs r.1 one.keeps in
+    let more = gathered list_taken cs in
     record {
-      text = ap₂ (λ (l m : List ℕ). l ++ m) one.text rest.text ∙ sym (answer-lines-append h (listTaken c) more);
+      text = ap₂ (λ (l m : List ℕ). l ++ m) one.text rest.text ∙ sym (answer_lines_append h (list_taken c) more);
       tally =
           rest.tally
-          ∙ ap (λ (l : List Call). accountCounts (account l)) (listed-both h (listTaken c) more);
+          ∙ ap (λ (l : List Call). account_counts (account l)) (listed_both h (list_taken c) more);
     }
 
-pub calls-are-listing : CallsAreListing
-calls-are-listing cs r text next after room p =
-    let all = all_lines [] freshRecord noOctets cs r keeps-fresh in
-    let put = rw (le-leb (0 + longestClosing) (length text) (omega arith)) at p in
+pub calls_are_listing : CallsAreListing
+calls_are_listing cs r text next after room p =
+    let all = all_lines [] fresh_record no_octets cs r keeps_fresh in
+    let put = rw (le-leb (0 + longest_closing) (length text) (omega arith)) at p in
     ap₂ (λ (l m : List ℕ). l ++ m) all.text
-    (put_first text _ next after put.puts put.within ∙ ap closingLine all.tally)
+    (put_first text _ next after put.puts put.within ∙ ap closing_line all.tally)

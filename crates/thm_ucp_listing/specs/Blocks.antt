@@ -3,10 +3,10 @@
 use Rattle.std.specs.Prelude.{◌≡◌, List, [], ◌∷◌, ℕ, ◌+◌, ◌%◌, ◌^◌, ◌≤◌, length}
 use Rattle.ucp_receiver.specs.declared.Counts.{Counts}
 use Rattle.ucp_receiver.specs.declared.Record.{Record}
-use Rattle.ucp_receiver.specs.Account.{zeroCounts}
-use Rattle.ucp_receiver.specs.Octet.{state_of, noOctets, freshRecord}
-use Rattle.text_ucp_listing.specs.Listing.{longestClosing}
-use Rattle.text_ucp_listing.specs.Lists.{behindAll, everyLine, PutsClosing}
+use Rattle.ucp_receiver.specs.Account.{zero_counts}
+use Rattle.ucp_receiver.specs.Octet.{state_of, no_octets, fresh_record}
+use Rattle.text_ucp_listing.specs.Listing.{longest_closing}
+use Rattle.text_ucp_listing.specs.Lists.{behind_all, every_line, PutsClosing}
 use Rattle.io_streams.specs.declared.Input.TheVariants.{More}
 use Rattle.io_ucp.specs.Records.{Leaves, WritesLines}
 use Rattle.thm_ucp_receiver.specs.Slice.{gathered}
@@ -16,28 +16,28 @@ use Rattle.thm_ucp_listing.specs.Input.{listing}
 pub record BlockCall : Type 0 where
   pub block : List ℕ
   pub receiver : Record
-  pub storeAfter : List ℕ
+  pub store_after : List ℕ
   pub written : ℕ
 
 abbrev pub BlockRuns : Record → List ℕ → List BlockCall → Type 0
 BlockRuns receiver store [] = Unit
 BlockRuns receiver store (b ∷ bs) =
-    Leaves More (state_of b.receiver.rest b.storeAfter) b.receiver.counts (behindAll (state_of receiver.rest store) receiver.counts b.block) b.block
-    × WritesLines More b.written (everyLine (state_of receiver.rest store) receiver.counts b.block)
-    × BlockRuns b.receiver b.storeAfter bs
+    Leaves More (state_of b.receiver.rest b.store_after) b.receiver.counts (behind_all (state_of receiver.rest store) receiver.counts b.block) b.block
+    × WritesLines More b.written (every_line (state_of receiver.rest store) receiver.counts b.block)
+    × BlockRuns b.receiver b.store_after bs
 
-abbrev pub blockCounts : Counts → List BlockCall → Counts
-blockCounts counts [] = counts
-blockCounts counts (b ∷ bs) = blockCounts b.receiver.counts bs
+abbrev pub block_counts : Counts → List BlockCall → Counts
+block_counts counts [] = counts
+block_counts counts (b ∷ bs) = block_counts b.receiver.counts bs
 
-abbrev pub writtenAll : List BlockCall → ℕ
-writtenAll [] = 0
-writtenAll (b ∷ bs) = b.written + writtenAll bs
+abbrev pub written_all : List BlockCall → ℕ
+written_all [] = 0
+written_all (b ∷ bs) = b.written + written_all bs
 
 -- modulo 2^64, as the counts of what went out are
 abbrev pub BlocksAreListing : Type 0
 BlocksAreListing =
-    (blocks : List BlockCall) → BlockRuns freshRecord noOctets blocks
-    → (text : List ℕ) (next : ℕ) (after : List ℕ) → longestClosing ≤ length text
-    → PutsClosing text 0 (blockCounts zeroCounts blocks) next after
-    → (writtenAll blocks + next) % 2 ^ 64 ≡ length (listing (gathered (λ (b : BlockCall). b.block) blocks)) % 2 ^ 64
+    (blocks : List BlockCall) → BlockRuns fresh_record no_octets blocks
+    → (text : List ℕ) (next : ℕ) (after : List ℕ) → longest_closing ≤ length text
+    → PutsClosing text 0 (block_counts zero_counts blocks) next after
+    → (written_all blocks + next) % 2 ^ 64 ≡ length (listing (gathered (λ (b : BlockCall). b.block) blocks)) % 2 ^ 64

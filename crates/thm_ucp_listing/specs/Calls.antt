@@ -5,10 +5,10 @@
 use Rattle.std.specs.Prelude.{◌≡◌, List, [], ◌∷◌, ◌++◌, ℕ, ◌≤◌, length, take}
 use Rattle.ucp_receiver.specs.declared.Counts.{Counts}
 use Rattle.ucp_receiver.specs.declared.Record.{Record}
-use Rattle.ucp_receiver.specs.Account.{zeroCounts}
-use Rattle.ucp_receiver.specs.Octet.{noOctets, freshRecord}
+use Rattle.ucp_receiver.specs.Account.{zero_counts}
+use Rattle.ucp_receiver.specs.Octet.{no_octets, fresh_record}
 use Rattle.text_ucp_listing.specs.declared.Listed.{Listed}
-use Rattle.text_ucp_listing.specs.Listing.{longestClosing}
+use Rattle.text_ucp_listing.specs.Listing.{longest_closing}
 use Rattle.text_ucp_listing.specs.Lists.{Lists, PutsClosing}
 use Rattle.thm_ucp_receiver.specs.Slice.{gathered}
 use Rattle.thm_ucp_listing.specs.Input.{listing}
@@ -19,33 +19,33 @@ pub record ListCall : Type 0 where
   pub line : List ℕ
   pub text : List ℕ
   pub given : Listed
-  pub storeAfter : List ℕ
-  pub roomAfter : List ℕ
-  pub textAfter : List ℕ
+  pub store_after : List ℕ
+  pub room_after : List ℕ
+  pub text_after : List ℕ
 
 -- each call meets the contract, the first from this record and the others from what the one before gave back
 abbrev pub ListRuns : Record → List ℕ → List ListCall → Type 0
 ListRuns receiver store [] = Unit
 ListRuns receiver store (c ∷ cs) =
-    Lists receiver store c.room c.line c.text c.given c.storeAfter c.roomAfter c.textAfter
-    × ListRuns c.given.receiver c.storeAfter cs
+    Lists receiver store c.room c.line c.text c.given c.store_after c.room_after c.text_after
+    × ListRuns c.given.receiver c.store_after cs
 
 -- the octets that a call took, and the text that it put
-abbrev pub listTaken : ListCall → List ℕ
-listTaken c = take c.given.taken c.line
+abbrev pub list_taken : ListCall → List ℕ
+list_taken c = take c.given.taken c.line
 
-abbrev pub listText : ListCall → List ℕ
-listText c = take c.given.written c.textAfter
+abbrev pub list_text : ListCall → List ℕ
+list_text c = take c.given.written c.text_after
 
 -- the counts behind the last of some calls
-abbrev pub countsLast : Counts → List ListCall → Counts
-countsLast counts [] = counts
-countsLast counts (c ∷ cs) = countsLast c.given.receiver.counts cs
+abbrev pub counts_last : Counts → List ListCall → Counts
+counts_last counts [] = counts
+counts_last counts (c ∷ cs) = counts_last c.given.receiver.counts cs
 
 -- the texts one after the other, and then the closing line in a text that has room for it, are the listing of the octets taken
 abbrev pub CallsAreListing : Type 0
 CallsAreListing =
-    (calls : List ListCall) → ListRuns freshRecord noOctets calls
-    → (text : List ℕ) (next : ℕ) (after : List ℕ) → longestClosing ≤ length text
-    → PutsClosing text 0 (countsLast zeroCounts calls) next after
-    → gathered listText calls ++ take next after ≡ listing (gathered listTaken calls)
+    (calls : List ListCall) → ListRuns fresh_record no_octets calls
+    → (text : List ℕ) (next : ℕ) (after : List ℕ) → longest_closing ≤ length text
+    → PutsClosing text 0 (counts_last zero_counts calls) next after
+    → gathered list_text calls ++ take next after ≡ listing (gathered list_taken calls)

@@ -8,21 +8,21 @@ use Rattle.ucp_frame.specs.Stretch.{Verdict, silent, refused, delivered}
 use Rattle.ucp_receiver.specs.declared.Answer.{Answer}
 use Rattle.ucp_receiver.specs.declared.Answer.TheVariants.{Nothing, Delivered, Refused}
 use Rattle.ucp_receiver.specs.declared.Counts.{Counts}
-use Rattle.ucp_receiver.specs.Account.{zeroCounts}
-use Rattle.ucp_receiver.specs.Answers.{receiverAnswer, answerFor, outputAtFlag}
-use Rattle.ucp_receiver.specs.Octet.{State, fresh, stateAfter, verdictDue, countsAfter}
+use Rattle.ucp_receiver.specs.Account.{zero_counts}
+use Rattle.ucp_receiver.specs.Answers.{receiver_answer, answer_for, output_at_flag}
+use Rattle.ucp_receiver.specs.Octet.{State, fresh, state_after, verdict_due, counts_after}
 use Rattle.thm_ucp_receiver.specs.Line.{Observed, Meets, Runs}
-use Rattle.thm_ucp_receiver.specs.Lines.{Handed, handedTo, EveryLine}
+use Rattle.thm_ucp_receiver.specs.Lines.{Handed, handed_to, EveryLine}
 
-abbrev pub answerGiven : Verdict → Answer
-answerGiven silent = Nothing
-answerGiven (refused number) = Refused number
-answerGiven (delivered octets) = Delivered (length octets)
+abbrev pub answer_given : Verdict → Answer
+answer_given silent = Nothing
+answer_given (refused number) = Refused number
+answer_given (delivered octets) = Delivered (length octets)
 
-pub answer-same : (v : Verdict) → receiverAnswer (answerGiven v) ≡ answerFor v
-answer-same silent = refl
-answer-same (refused number) = refl
-answer-same (delivered octets) = refl
+pub answer_same : (v : Verdict) → receiver_answer (answer_given v) ≡ answer_for v
+answer_same silent = refl
+answer_same (refused number) = refl
+answer_same (delivered octets) = refl
 
 -- the call that the contract asks for
 abbrev pub called : State → Counts → Handed → Observed
@@ -31,33 +31,33 @@ called s c h =
       octet = h.octet;
       output = h.output;
       given = record {
-        receiver = record { rest = (stateAfter s h.octet).rest; counts = countsAfter c s h.octet (length h.output) };
-        answer = answerGiven (verdictDue s h.octet (length h.output));
+        receiver = record { rest = (state_after s h.octet).rest; counts = counts_after c s h.octet (length h.output) };
+        answer = answer_given (verdict_due s h.octet (length h.output));
       };
-      storeAfter = (stateAfter s h.octet).store;
-      outputThen = outputAtFlag (verdictDue s h.octet (length h.output)) h.output;
+      store_after = (state_after s h.octet).store;
+      output_then = output_at_flag (verdict_due s h.octet (length h.output)) h.output;
     }
 
 abbrev run : State → Counts → List Handed → List Observed
 run s c [] = []
-run s c (h ∷ hs) = called s c h ∷ run (stateAfter s h.octet) (countsAfter c s h.octet (length h.output)) hs
+run s c (h ∷ hs) = called s c h ∷ run (state_after s h.octet) (counts_after c s h.octet (length h.output)) hs
 
-pub called-receives : (s : State) (c : Counts) (h : Handed) → Meets (record { rest = s.rest; counts = c }) s.store (called s c h)
-called-receives s c h =
-    record { state = refl; account = refl; answers = answer-same (verdictDue s h.octet (length h.output)); puts = refl }
+pub called_receives : (s : State) (c : Counts) (h : Handed) → Meets (record { rest = s.rest; counts = c }) s.store (called s c h)
+called_receives s c h =
+    record { state = refl; account = refl; answers = answer_same (verdict_due s h.octet (length h.output)); puts = refl }
 
 runs : (s : State) (c : Counts) (hs : List Handed) → Octets (map (λ (h : Handed). h.octet) hs) → Runs (record { rest = s.rest; counts = c }) s.store (run s c hs)
 runs s c [] o = tt
 runs s c (h ∷ hs) o = (
   o 0,
-  called-receives s c h,
-  runs (stateAfter s h.octet) (countsAfter c s h.octet (length h.output)) hs (λ i. o (suc i)),
+  called_receives s c h,
+  runs (state_after s h.octet) (counts_after c s h.octet (length h.output)) hs (λ i. o (suc i)),
 )
 
-same : (s : State) (c : Counts) (hs : List Handed) → map handedTo (run s c hs) ≡ hs
+same : (s : State) (c : Counts) (hs : List Handed) → map handed_to (run s c hs) ≡ hs
 same s c [] = refl
 same s c (h ∷ hs) =
-    ap (λ (l : List Handed). h ∷ l) (same (stateAfter s h.octet) (countsAfter c s h.octet (length h.output)) hs)
+    ap (λ (l : List Handed). h ∷ l) (same (state_after s h.octet) (counts_after c s h.octet (length h.output)) hs)
 
-pub every-line : EveryLine
-every-line given o = record { calls = run fresh zeroCounts given; line = runs fresh zeroCounts given o; same = same fresh zeroCounts given }
+pub every_line : EveryLine
+every_line given o = record { calls = run fresh zero_counts given; line = runs fresh zero_counts given o; same = same fresh zero_counts given }

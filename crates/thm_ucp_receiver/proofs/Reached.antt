@@ -10,72 +10,72 @@ use lib.ListN.{length, take, set, replicate, length-append}
 use lib.Seq.{take_at, take-append-le, take-append_seam, set-append_seam}
 use borrow.Author.Tests.{ltb-true, ltb-false, lt-ltb, le-ltb, ne_eqb}
 use Rattle.ucp_frame.specs.Frame.{flag, escape}
-use Rattle.ucp_frame.specs.Stretch.{Ending, whole, escapeLast, badEscape, Unstuffed, unstuffed, Verdict, storeOctets, byEnding, judged, verdict}
-use Rattle.ucp_frame.proofs.Unstuffing.{onward, unstuffed-snoc, unstuffed-nothing}
+use Rattle.ucp_frame.specs.Stretch.{Ending, whole, escape_last, bad_escape, Unstuffed, unstuffed, Verdict, store_octets, by_ending, judged, verdict}
+use Rattle.ucp_frame.proofs.Unstuffing.{onward, unstuffed_snoc, unstuffed_nothing}
 use Rattle.ucp_receiver.specs.declared.Phase.{Phase}
 use Rattle.ucp_receiver.specs.declared.Phase.TheVariants.{Reading, Escape, BadEscape, TooLong}
-use Rattle.ucp_receiver.specs.Octet.{State, storing, advancedIn, closed_in}
+use Rattle.ucp_receiver.specs.Octet.{State, storing, advanced_in, closed_in}
 
 -- these octets held, and zero beyond
 abbrev pub holding : Phase → List ℕ → State
 holding p held =
-    record { rest = record { phase = p; stored = length held }; store = held ++ replicate (storeOctets - length held) 0 }
+    record { rest = record { phase = p; stored = length held }; store = held ++ replicate (store_octets - length held) 0 }
 
-abbrev pub phaseAt : Ending → Phase
-phaseAt whole = Reading
-phaseAt escapeLast = Escape
-phaseAt badEscape = BadEscape
+abbrev pub phase_at : Ending → Phase
+phase_at whole = Reading
+phase_at escape_last = Escape
+phase_at bad_escape = BadEscape
 
 unfoldable pub reached : Unstuffed → State
 reached u =
-    cond (ltb storeOctets (length u.octets))
-    (holding TooLong (take storeOctets u.octets))
-    (holding (phaseAt u.ending) u.octets)
+    cond (ltb store_octets (length u.octets))
+    (holding TooLong (take store_octets u.octets))
+    (holding (phase_at u.ending) u.octets)
 
-over : (u : Unstuffed) → storeOctets < length u.octets → reached u ≡ holding TooLong (take storeOctets u.octets)
+over : (u : Unstuffed) → store_octets < length u.octets → reached u ≡ holding TooLong (take store_octets u.octets)
 unfolding reached
-over u h = rw (lt-ltb storeOctets (length u.octets) h)
+over u h = rw (lt-ltb store_octets (length u.octets) h)
 
-within : (u : Unstuffed) → length u.octets ≤ storeOctets → reached u ≡ holding (phaseAt u.ending) u.octets
+within : (u : Unstuffed) → length u.octets ≤ store_octets → reached u ≡ holding (phase_at u.ending) u.octets
 unfolding reached
-within u h = rw (le-ltb storeOctets (length u.octets) h)
+within u h = rw (le-ltb store_octets (length u.octets) h)
 
 -- ---- one octet more
 
-over-more : (octets : List ℕ) (x : ℕ) → storeOctets < length octets
-    → holding TooLong (take storeOctets octets) ≡ reached (record { octets = octets ++ (x ∷ []); ending = whole })
-over-more octets x h =
-    ap (holding TooLong) (sym (take-append-le storeOctets octets (x ∷ []) (omega arith)))
+over_more : (octets : List ℕ) (x : ℕ) → store_octets < length octets
+    → holding TooLong (take store_octets octets) ≡ reached (record { octets = octets ++ (x ∷ []); ending = whole })
+over_more octets x h =
+    ap (holding TooLong) (sym (take-append-le store_octets octets (x ∷ []) (omega arith)))
     ∙ sym (over _ (simp length-append (omega arith)))
 
-room-left : (held : List ℕ) (x : ℕ) → length held < storeOctets
-    → set (held ++ replicate (storeOctets - length held) 0) (length held) x
-    ≡ held ++ (x ∷ []) ++ replicate (storeOctets - length (held ++ (x ∷ []))) 0
-room-left held x h =
-    let n : storeOctets - length held ≡ suc (storeOctets - length (held ++ (x ∷ []))) = simp length-append (omega arith) in
-    rw n (set-append_seam held 0 (replicate (storeOctets - length (held ++ (x ∷ []))) 0) x
-    ∙ sym (append_assoc held (x ∷ []) (replicate (storeOctets - length (held ++ (x ∷ []))) 0)))
+room_left : (held : List ℕ) (x : ℕ) → length held < store_octets
+    → set (held ++ replicate (store_octets - length held) 0) (length held) x
+    ≡ held ++ (x ∷ []) ++ replicate (store_octets - length (held ++ (x ∷ []))) 0
+room_left held x h =
+    let n : store_octets - length held ≡ suc (store_octets - length (held ++ (x ∷ []))) = simp length-append (omega arith) in
+    rw n (set-append_seam held 0 (replicate (store_octets - length (held ++ (x ∷ []))) 0) x
+    ∙ sym (append_assoc held (x ∷ []) (replicate (store_octets - length (held ++ (x ∷ []))) 0)))
 
-stored_more : (p : Phase) (held : List ℕ) (x : ℕ) → length held ≤ storeOctets
+stored_more : (p : Phase) (held : List ℕ) (x : ℕ) → length held ≤ store_octets
     → storing x (holding p held) ≡ reached (record { octets = held ++ (x ∷ []); ending = whole })
 unfolding storing
-stored_more p held x h = go (ltb (length held) storeOctets) refl
+stored_more p held x h = go (ltb (length held) store_octets) refl
   where
     l : length held + 1 ≡ length (held ++ (x ∷ []))
     l = simp length-append
 
-    go : (t : Bool) → ltb (length held) storeOctets ≡ t
+    go : (t : Bool) → ltb (length held) store_octets ≡ t
         → storing x (holding p held) ≡ reached (record { octets = held ++ (x ∷ []); ending = whole })
     go true e =
-        let m : length held < storeOctets = ltb-true (length held) storeOctets e in
-        rw e ((λ i. record { rest = record { phase = Reading; stored = l i }; store = room-left held x m i })
+        let m : length held < store_octets = ltb-true (length held) store_octets e in
+        rw e ((λ i. record { rest = record { phase = Reading; stored = l i }; store = room_left held x m i })
         ∙ sym (within _ (omega (arith, l))))
     go false e =
-        let m : storeOctets ≤ length held = ltb-false (length held) storeOctets e in
-        rw e (ap (holding TooLong) (sym (take_at held (x ∷ []) storeOctets (omega arith))) ∙ sym (over _ (omega (arith, l))))
+        let m : store_octets ≤ length held = ltb-false (length held) store_octets e in
+        rw e (ap (holding TooLong) (sym (take_at held (x ∷ []) store_octets (omega arith))) ∙ sym (over _ (omega (arith, l))))
 
 abbrev pub advanced : ℕ → State → State
-advanced x s = advancedIn s.rest.phase x s
+advanced x s = advanced_in s.rest.phase x s
 
 either : (t : Bool) (u v : Unstuffed) {s r : State} → s ≡ reached u → r ≡ reached v → cond t s r ≡ reached (cond t u v)
 either true u v m n = m
@@ -85,34 +85,34 @@ ignored : (t : Bool) (u v : Unstuffed) {s : State} → s ≡ reached u → s ≡
 ignored true u v m n = m
 ignored false u v m n = n
 
-too_long : (e : Ending) (octets : List ℕ) (x : ℕ) → storeOctets < length octets
-    → holding TooLong (take storeOctets octets) ≡ reached (onward e octets x)
-too_long whole octets x h = ignored (eqb x escape) _ _ (sym (over _ h)) (over-more octets x h)
-too_long escapeLast octets x h =
-    ignored (eqb x 0x5E) _ _ (over-more octets flag h) (ignored (eqb x 0x5D) _ _ (over-more octets escape h) (sym (over _ h)))
-too_long badEscape octets x h = sym (over _ h)
+too_long : (e : Ending) (octets : List ℕ) (x : ℕ) → store_octets < length octets
+    → holding TooLong (take store_octets octets) ≡ reached (onward e octets x)
+too_long whole octets x h = ignored (eqb x escape) _ _ (sym (over _ h)) (over_more octets x h)
+too_long escape_last octets x h =
+    ignored (eqb x 0x5E) _ _ (over_more octets flag h) (ignored (eqb x 0x5D) _ _ (over_more octets escape h) (sym (over _ h)))
+too_long bad_escape octets x h = sym (over _ h)
 
-going_on : (e : Ending) (octets : List ℕ) (x : ℕ) → length octets ≤ storeOctets
-    → advanced x (holding (phaseAt e) octets) ≡ reached (onward e octets x)
+going_on : (e : Ending) (octets : List ℕ) (x : ℕ) → length octets ≤ store_octets
+    → advanced x (holding (phase_at e) octets) ≡ reached (onward e octets x)
 going_on whole octets x h = either (eqb x escape) _ _ (sym (within _ h)) (stored_more Reading octets x h)
-going_on escapeLast octets x h =
+going_on escape_last octets x h =
     either (eqb x 0x5E) _ _ (stored_more Escape octets flag h)
     (either (eqb x 0x5D) _ _ (stored_more Escape octets escape h) (sym (within _ h)))
-going_on badEscape octets x h = sym (within _ h)
+going_on bad_escape octets x h = sym (within _ h)
 
-pub reached-more : (raw : List ℕ) (x : ℕ) → advanced x (reached (unstuffed raw)) ≡ reached (unstuffed (raw ++ (x ∷ [])))
-reached-more raw x = go (ltb storeOctets (length u.octets)) refl ∙ ap reached (sym (unstuffed-snoc raw x))
+pub reached_more : (raw : List ℕ) (x : ℕ) → advanced x (reached (unstuffed raw)) ≡ reached (unstuffed (raw ++ (x ∷ [])))
+reached_more raw x = go (ltb store_octets (length u.octets)) refl ∙ ap reached (sym (unstuffed_snoc raw x))
   where
     u : Unstuffed
     u = unstuffed raw
 
-    go : (t : Bool) → ltb storeOctets (length u.octets) ≡ t
+    go : (t : Bool) → ltb store_octets (length u.octets) ≡ t
         → advanced x (reached u) ≡ reached (onward u.ending u.octets x)
     go true e =
-        let h : storeOctets < length u.octets = ltb-true storeOctets (length u.octets) e in
+        let h : store_octets < length u.octets = ltb-true store_octets (length u.octets) e in
         ap (advanced x) (over u h) ∙ too_long u.ending u.octets x h
     go false e =
-        let h : length u.octets ≤ storeOctets = ltb-false storeOctets (length u.octets) e in
+        let h : length u.octets ≤ store_octets = ltb-false store_octets (length u.octets) e in
         ap (advanced x) (within u h) ∙ going_on u.ending u.octets x h
 
 -- ---- a flag
@@ -120,30 +120,30 @@ reached-more raw x = go (ltb storeOctets (length u.octets)) refl ∙ ap reached 
 abbrev pub closed : ℕ → State → Verdict
 closed room s = closed_in s.rest.phase s room
 
-closed-judged : (u : Unstuffed) (room : ℕ) → (u.ending ≡ whole → length u.octets ≡ 0 → ⊥)
+closed_judged : (u : Unstuffed) (room : ℕ) → (u.ending ≡ whole → length u.octets ≡ 0 → ⊥)
     → closed room (reached u) ≡ judged u room
 unfolding judged
-closed-judged u room some = go (ltb storeOctets (length u.octets)) refl
+closed_judged u room some = go (ltb store_octets (length u.octets)) refl
   where
-    by-ending : (e : Ending) → u.ending ≡ e → length u.octets ≤ storeOctets
-        → closed room (holding (phaseAt e) u.octets) ≡ byEnding e u.octets room
-    by-ending whole k h =
+    by_ending_lem : (e : Ending) → u.ending ≡ e → length u.octets ≤ store_octets
+        → closed room (holding (phase_at e) u.octets) ≡ by_ending e u.octets room
+    by_ending_lem whole k h =
         rw (
           ne_eqb (length u.octets) 0 (some k),
-          le-ltb storeOctets (length u.octets) h,
-          take-append_seam u.octets (replicate (storeOctets - length u.octets) 0),
+          le-ltb store_octets (length u.octets) h,
+          take-append_seam u.octets (replicate (store_octets - length u.octets) 0),
         )
-    by-ending escapeLast k h = refl
-    by-ending badEscape k h = refl
+    by_ending_lem escape_last k h = refl
+    by_ending_lem bad_escape k h = refl
 
-    go : (t : Bool) → ltb storeOctets (length u.octets) ≡ t → closed room (reached u) ≡ judged u room
-    go true e = ap (closed room) (over u (ltb-true storeOctets (length u.octets) e)) ∙ rw e
+    go : (t : Bool) → ltb store_octets (length u.octets) ≡ t → closed room (reached u) ≡ judged u room
+    go true e = ap (closed room) (over u (ltb-true store_octets (length u.octets) e)) ∙ rw e
     go false e =
-        let h : length u.octets ≤ storeOctets = ltb-false storeOctets (length u.octets) e in
-        ap (closed room) (within u h) ∙ rw e (by-ending u.ending refl h)
+        let h : length u.octets ≤ store_octets = ltb-false store_octets (length u.octets) e in
+        ap (closed room) (within u h) ∙ rw e (by_ending_lem u.ending refl h)
 
-pub reached-closed : (raw : List ℕ) (room : ℕ) → closed room (reached (unstuffed raw)) ≡ verdict raw room
+pub reached_closed : (raw : List ℕ) (room : ℕ) → closed room (reached (unstuffed raw)) ≡ verdict raw room
 unfolding verdict reached unstuffed
-reached-closed [] room = refl
-reached-closed (x ∷ xs) room =
-    closed-judged (unstuffed (x ∷ xs)) room (λ e z. cons≢nil (unstuffed-nothing (x ∷ xs) e z))
+reached_closed [] room = refl
+reached_closed (x ∷ xs) room =
+    closed_judged (unstuffed (x ∷ xs)) room (λ e z. cons≢nil (unstuffed_nothing (x ∷ xs) e z))

@@ -12,20 +12,20 @@ use Rattle.ucp_receiver.specs.declared.Counts.{Counts}
 use Rattle.ucp_receiver.specs.declared.Record.{Record}
 use Rattle.ucp_receiver.specs.declared.Answer.{Answer}
 use Rattle.ucp_receiver.specs.declared.Answer.TheVariants.{Nothing, Delivered, Refused}
-use Rattle.ucp_receiver.specs.Answers.{ReceiverAnswer, nothing, refusal, body, receiverAnswer, answerFor, outputAtFlag}
-use Rattle.ucp_receiver.specs.Octet.{State, noOctets, freshRecord, afterFlag, stateAfter, verdictDue, countsAfter}
-use Rattle.ucp_receiver.specs.Slice.{SliceRun, later, end_at, sliceRun}
+use Rattle.ucp_receiver.specs.Answers.{ReceiverAnswer, nothing, refusal, body, receiver_answer, answer_for, output_at_flag}
+use Rattle.ucp_receiver.specs.Octet.{State, no_octets, fresh_record, after_flag, state_after, verdict_due, counts_after}
+use Rattle.ucp_receiver.specs.Slice.{SliceRun, later, end_at, slice_run}
 use Rattle.thm_ucp_receiver.specs.Line.{Observed, Meets, Runs, Line}
-use Rattle.thm_ucp_receiver.specs.Slice.{stateOver, answersOver, last_of, TakenAs, SliceIsOctets, ObservedSlice, rooms_of, Held, recordAfter, outputLast, Lent, AnswersLast, CallsOf, SliceRuns, SliceFlagClears, SlicesRun, CallsUpTo, LineOfSlices, AllSilent, SliceIsCall}
-use Rattle.thm_ucp_receiver.proofs.Stretch.{refused-answers, delivered-answers}
+use Rattle.thm_ucp_receiver.specs.Slice.{state_over, answers_over, last_of, TakenAs, SliceIsOctets, ObservedSlice, rooms_of, Held, record_after, output_last, Lent, AnswersLast, CallsOf, SliceRuns, SliceFlagClears, SlicesRun, CallsUpTo, LineOfSlices, AllSilent, SliceIsCall}
+use Rattle.thm_ucp_receiver.proofs.Stretch.{refused_answers, delivered_answers}
 
-last-silent : (vs : List Verdict) → last_of (silent ∷ vs) ≡ last_of vs
-last-silent [] = refl
-last-silent (v ∷ vs) = refl
+last_silent : (vs : List Verdict) → last_of (silent ∷ vs) ≡ last_of vs
+last_silent [] = refl
+last_silent (v ∷ vs) = refl
 
 module _ (s : State) (c : Counts) (x : ℕ) (xs : List ℕ) (room : ℕ) where
   -- the first octet is silent
-  goes_on : (r : SliceRun) → verdictDue s x room ≡ silent → TakenAs (stateAfter s x) (countsAfter c s x room) xs room r
+  goes_on : (r : SliceRun) → verdict_due s x room ≡ silent → TakenAs (state_after s x) (counts_after c s x room) xs room r
       → TakenAs s c (x ∷ xs) room (later r)
   goes_on r e t =
       rw (add-one r.taken)
@@ -33,23 +33,23 @@ module _ (s : State) (c : Counts) (x : ℕ) (xs : List ℕ) (room : ℕ) where
         most = omega (arith, t.most);
         state = t.state;
         counts = t.counts;
-        verdict = t.verdict ∙ sym (last-silent rest) ∙ ap (λ (v : Verdict). last_of (v ∷ rest)) (sym e);
+        verdict = t.verdict ∙ sym (last_silent rest) ∙ ap (λ (v : Verdict). last_of (v ∷ rest)) (sym e);
         quiet = quiet;
         all = λ k. ap suc (t.all k);
       })
     where
       rest : List Verdict
-      rest = answersOver (stateAfter s x) (take r.taken xs) room
+      rest = answers_over (state_after s x) (take r.taken xs) room
 
-      quiet : (i : ℕ) → suc i < suc r.taken → get_or (verdictDue s x room ∷ rest) i silent ≡ silent
+      quiet : (i : ℕ) → suc i < suc r.taken → get_or (verdict_due s x room ∷ rest) i silent ≡ silent
       quiet zero h = e
       quiet (suc i) h = t.quiet i (omega arith)
 
   abbrev stopped : SliceRun
-  stopped = record { state = stateAfter s x; counts = countsAfter c s x room; taken = 1; verdict = verdictDue s x room }
+  stopped = record { state = state_after s x; counts = counts_after c s x room; taken = 1; verdict = verdict_due s x room }
 
   -- the first octet brings an answer
-  stops : (verdictDue s x room ≡ silent → ⊥) → TakenAs s c (x ∷ xs) room stopped
+  stops : (verdict_due s x room ≡ silent → ⊥) → TakenAs s c (x ∷ xs) room stopped
   stops n =
       record {
         most = omega arith;
@@ -60,15 +60,15 @@ module _ (s : State) (c : Counts) (x : ℕ) (xs : List ℕ) (room : ℕ) where
         all = λ e. absurd (n e);
       }
 
-  by_answer : (r : SliceRun) → TakenAs (stateAfter s x) (countsAfter c s x room) xs room r → (v : Verdict) → verdictDue s x room ≡ v
+  by_answer : (r : SliceRun) → TakenAs (state_after s x) (counts_after c s x room) xs room r → (v : Verdict) → verdict_due s x room ≡ v
       → TakenAs s c (x ∷ xs) room (end_at v stopped (later r))
   by_answer r t silent e = goes_on r e t
-  by_answer r t (refused number) e = stops (λ k. refused-answers number (sym e ∙ k))
-  by_answer r t (delivered octets) e = stops (λ k. delivered-answers octets (sym e ∙ k))
+  by_answer r t (refused number) e = stops (λ k. refused_answers number (sym e ∙ k))
+  by_answer r t (delivered octets) e = stops (λ k. delivered_answers octets (sym e ∙ k))
 
-pub slice-is-octets : SliceIsOctets
-unfolding sliceRun
-slice-is-octets s c [] room =
+pub slice_is_octets : SliceIsOctets
+unfolding slice_run
+slice_is_octets s c [] room =
     record {
       most = omega arith;
       state = refl;
@@ -77,100 +77,100 @@ slice-is-octets s c [] room =
       quiet = λ i h. absurd (omega arith);
       all = λ e. refl;
     }
-slice-is-octets s c (x ∷ xs) room =
-    by_answer s c x xs room _ (slice-is-octets (stateAfter s x) (countsAfter c s x room) xs room) (verdictDue s x room) refl
+slice_is_octets s c (x ∷ xs) room =
+    by_answer s c x xs room _ (slice_is_octets (state_after s x) (counts_after c s x room) xs room) (verdict_due s x room) refl
 
 -- ---- a flag taken last
 
-state-append : (s : State) (xs : List ℕ) (x : ℕ) → stateOver s (xs ++ x ∷ []) ≡ stateAfter (stateOver s xs) x
-state-append s [] x = refl
-state-append s (y ∷ ys) x = state-append (stateAfter s y) ys x
+state_append : (s : State) (xs : List ℕ) (x : ℕ) → state_over s (xs ++ x ∷ []) ≡ state_after (state_over s xs) x
+state_append s [] x = refl
+state_append s (y ∷ ys) x = state_append (state_after s y) ys x
 
-flag-leads : (s : State) → stateAfter s flag ≡ afterFlag
-unfolding stateAfter
-flag-leads s = refl
+flag_leads : (s : State) → state_after s flag ≡ after_flag
+unfolding state_after
+flag_leads s = refl
 
-pub slice-flag-clears : SliceFlagClears
-slice-flag-clears receiver store line output given storeAfter outputThen earlier t e =
+pub slice_flag_clears : SliceFlagClears
+slice_flag_clears receiver store line output given store_after output_then earlier t e =
     (ap (λ (u : State). u.store) left, ap (λ (u : State). u.rest) left)
   where
     s : State
     s = record { rest = receiver.rest; store = store }
 
-    left : ◌≡◌ {A = State} (record { rest = given.receiver.rest; store = storeAfter }) afterFlag
+    left : ◌≡◌ {A = State} (record { rest = given.receiver.rest; store = store_after }) after_flag
     left =
-        t.state ∙ (slice-is-octets s receiver.counts line (length output)).state
-        ∙ ap (λ (n : ℕ). stateOver s (take n line)) (sym t.taken) ∙ ap (stateOver s) e
-        ∙ state-append s earlier flag ∙ flag-leads (stateOver s earlier)
+        t.state ∙ (slice_is_octets s receiver.counts line (length output)).state
+        ∙ ap (λ (n : ℕ). state_over s (take n line)) (sym t.taken) ∙ ap (state_over s) e
+        ∙ state_append s earlier flag ∙ flag_leads (state_over s earlier)
 
 -- ---- the calls by the octet
 
 -- the answer that says this
-abbrev answerTo : ReceiverAnswer → Answer
-answerTo nothing = Nothing
-answerTo (refusal number) = Refused number
-answerTo (body octets) = Delivered octets
+abbrev answer_to : ReceiverAnswer → Answer
+answer_to nothing = Nothing
+answer_to (refusal number) = Refused number
+answer_to (body octets) = Delivered octets
 
-tells : (t : ReceiverAnswer) → receiverAnswer (answerTo t) ≡ t
+tells : (t : ReceiverAnswer) → receiver_answer (answer_to t) ≡ t
 tells nothing = refl
 tells (refusal number) = refl
 tells (body octets) = refl
 
-answer-once : (a : Answer) → a ≡ answerTo (receiverAnswer a)
-answer-once Nothing = refl
-answer-once (Refused number) = refl
-answer-once (Delivered octets) = refl
+answer_once : (a : Answer) → a ≡ answer_to (receiver_answer a)
+answer_once Nothing = refl
+answer_once (Refused number) = refl
+answer_once (Delivered octets) = refl
 
-abbrev recordOf : State → Counts → Record
-recordOf s c = record { rest = s.rest; counts = c }
+abbrev record_of : State → Counts → Record
+record_of s c = record { rest = s.rest; counts = c }
 
 -- what the contracts leave of a call with an octet, and of one with a slice that comes to this run
 abbrev called : State → Counts → ℕ → List ℕ → Observed
 called s c x output =
-    let v : Verdict = verdictDue s x (length output) in
+    let v : Verdict = verdict_due s x (length output) in
     record {
       octet = x;
       output = output;
       given =
-          record { receiver = recordOf (stateAfter s x) (countsAfter c s x (length output)); answer = answerTo (answerFor v) };
-      storeAfter = (stateAfter s x).store;
-      outputThen = outputAtFlag v output;
+          record { receiver = record_of (state_after s x) (counts_after c s x (length output)); answer = answer_to (answer_for v) };
+      store_after = (state_after s x).store;
+      output_then = output_at_flag v output;
     }
 
-abbrev calledWith : List ℕ → List ℕ → SliceRun → ObservedSlice
-calledWith xs output r =
+abbrev called_with : List ℕ → List ℕ → SliceRun → ObservedSlice
+called_with xs output r =
     record {
       line = xs;
       output = output;
       given =
-          record { receiver = recordOf r.state r.counts; answer = answerTo (answerFor r.verdict); taken = r.taken };
-      storeAfter = r.state.store;
-      outputThen = outputAtFlag r.verdict output;
+          record { receiver = record_of r.state r.counts; answer = answer_to (answer_for r.verdict); taken = r.taken };
+      store_after = r.state.store;
+      output_then = output_at_flag r.verdict output;
     }
 
-meets : (s : State) (c : Counts) (x : ℕ) (output : List ℕ) → Meets (recordOf s c) s.store (called s c x output)
+meets : (s : State) (c : Counts) (x : ℕ) (output : List ℕ) → Meets (record_of s c) s.store (called s c x output)
 meets s c x output = record { state = refl; account = refl; answers = tells _; puts = refl }
 
 -- an answer that says nothing is due to silence
-pub silence-due : (v : Verdict) → answerFor v ≡ nothing → v ≡ silent
-silence-due silent e = refl
-silence-due (refused number) e = absurd (let z : ◌≡◌ {A = ℕ} 0 1 = cc in omega arith)
-silence-due (delivered octets) e = absurd (let z : ◌≡◌ {A = ℕ} 0 1 = cc in omega arith)
+pub silence_due : (v : Verdict) → answer_for v ≡ nothing → v ≡ silent
+silence_due silent e = refl
+silence_due (refused number) e = absurd (let z : ◌≡◌ {A = ℕ} 0 1 = cc in omega arith)
+silence_due (delivered octets) e = absurd (let z : ◌≡◌ {A = ℕ} 0 1 = cc in omega arith)
 
 -- a silent call before others
-silent-first : (t : ReceiverAnswer) (o : Observed) (os : List Observed) → receiverAnswer o.given.answer ≡ nothing → AnswersLast t os
+silent_first : (t : ReceiverAnswer) (o : Observed) (os : List Observed) → receiver_answer o.given.answer ≡ nothing → AnswersLast t os
     → AnswersLast t (o ∷ os)
-silent-first t o [] e a = e ∙ a
-silent-first t o (p ∷ os) e a = (e, a)
+silent_first t o [] e a = e ∙ a
+silent_first t o (p ∷ os) e a = (e, a)
 
 module _ (s : State) (c : Counts) (x : ℕ) (xs : List ℕ) (output : List ℕ) (small : x < 256) where
   abbrev first : Observed
   first = called s c x output
 
-  call-then : (r : SliceRun) → verdictDue s x (length output) ≡ silent
-      → CallsOf (recordOf (stateAfter s x) (countsAfter c s x (length output))) (stateAfter s x).store (calledWith xs output r)
-      → CallsOf (recordOf s c) s.store (calledWith (x ∷ xs) output (later r))
-  call-then r e k =
+  call_then : (r : SliceRun) → verdict_due s x (length output) ≡ silent
+      → CallsOf (record_of (state_after s x) (counts_after c s x (length output))) (state_after s x).store (called_with xs output r)
+      → CallsOf (record_of s c) s.store (called_with (x ∷ xs) output (later r))
+  call_then r e k =
       rw (add-one r.taken)
       (record {
         calls = first ∷ k.calls;
@@ -179,17 +179,17 @@ module _ (s : State) (c : Counts) (x : ℕ) (xs : List ℕ) (output : List ℕ) 
         rooms = ap (λ (l : List ℕ). length output ∷ l) k.rooms;
         lent = (refl, subst (λ (l : List ℕ). Lent l k.calls) (sym same) k.lent);
         leaves = k.leaves;
-        puts = ap (λ (l : List ℕ). outputLast l k.calls) same ∙ k.puts;
-        answers = silent-first _ first k.calls (tells _ ∙ ap answerFor e) k.answers;
+        puts = ap (λ (l : List ℕ). output_last l k.calls) same ∙ k.puts;
+        answers = silent_first _ first k.calls (tells _ ∙ ap answer_for e) k.answers;
         all = λ n. ap suc (k.all n);
       })
     where
-      same : first.outputThen ≡ output
-      same = ap (λ (v : Verdict). outputAtFlag v output) e
+      same : first.output_then ≡ output
+      same = ap (λ (v : Verdict). output_at_flag v output) e
 
-  call-only : (verdictDue s x (length output) ≡ silent → ⊥)
-      → CallsOf (recordOf s c) s.store (calledWith (x ∷ xs) output (stopped s c x xs (length output)))
-  call-only n =
+  call_only : (verdict_due s x (length output) ≡ silent → ⊥)
+      → CallsOf (record_of s c) s.store (called_with (x ∷ xs) output (stopped s c x xs (length output)))
+  call_only n =
       record {
         calls = first ∷ [];
         runs = (small, meets s c x output, tt);
@@ -199,21 +199,21 @@ module _ (s : State) (c : Counts) (x : ℕ) (xs : List ℕ) (output : List ℕ) 
         leaves = refl;
         puts = refl;
         answers = refl;
-        all = λ e. absurd (n (silence-due _ (sym (tells _) ∙ e)));
+        all = λ e. absurd (n (silence_due _ (sym (tells _) ∙ e)));
       }
 
-  calls-by-answer : (r : SliceRun)
-      → CallsOf (recordOf (stateAfter s x) (countsAfter c s x (length output))) (stateAfter s x).store (calledWith xs output r)
-      → (v : Verdict) → verdictDue s x (length output) ≡ v
-      → CallsOf (recordOf s c) s.store (calledWith (x ∷ xs) output (end_at v (stopped s c x xs (length output)) (later r)))
-  calls-by-answer r k silent e = call-then r e k
-  calls-by-answer r k (refused number) e = call-only (λ n. refused-answers number (sym e ∙ n))
-  calls-by-answer r k (delivered octets) e = call-only (λ n. delivered-answers octets (sym e ∙ n))
+  calls_by_answer : (r : SliceRun)
+      → CallsOf (record_of (state_after s x) (counts_after c s x (length output))) (state_after s x).store (called_with xs output r)
+      → (v : Verdict) → verdict_due s x (length output) ≡ v
+      → CallsOf (record_of s c) s.store (called_with (x ∷ xs) output (end_at v (stopped s c x xs (length output)) (later r)))
+  calls_by_answer r k silent e = call_then r e k
+  calls_by_answer r k (refused number) e = call_only (λ n. refused_answers number (sym e ∙ n))
+  calls_by_answer r k (delivered octets) e = call_only (λ n. delivered_answers octets (sym e ∙ n))
 
-calls-of-run : (s : State) (c : Counts) (xs output : List ℕ) → Octets xs
-    → CallsOf (recordOf s c) s.store (calledWith xs output (sliceRun s c xs (length output)))
-unfolding sliceRun
-calls-of-run s c [] output small =
+calls_of_run : (s : State) (c : Counts) (xs output : List ℕ) → Octets xs
+    → CallsOf (record_of s c) s.store (called_with xs output (slice_run s c xs (length output)))
+unfolding slice_run
+calls_of_run s c [] output small =
     record {
       calls = [];
       runs = tt;
@@ -225,16 +225,16 @@ calls-of-run s c [] output small =
       answers = refl;
       all = λ n. refl;
     }
-calls-of-run s c (x ∷ xs) output small =
-    calls-by-answer s c x xs output (small 0) _
-    (calls-of-run (stateAfter s x) (countsAfter c s x (length output)) xs output (λ i. small (suc i))) (verdictDue s x (length output)) refl
+calls_of_run s c (x ∷ xs) output small =
+    calls_by_answer s c x xs output (small 0) _
+    (calls_of_run (state_after s x) (counts_after c s x (length output)) xs output (λ i. small (suc i))) (verdict_due s x (length output)) refl
 
-pub slice-runs : SliceRuns
-slice-runs receiver store s t =
+pub slice_runs : SliceRuns
+slice_runs receiver store s t =
     subst (CallsOf receiver store) (sym same)
-    (calls-of-run (record { rest = receiver.rest; store = store }) receiver.counts s.line s.output t.0)
+    (calls_of_run (record { rest = receiver.rest; store = store }) receiver.counts s.line s.output t.0)
   where
-    same : s ≡ calledWith s.line s.output (sliceRun (record { rest = receiver.rest; store = store }) receiver.counts s.line (length s.output))
+    same : s ≡ called_with s.line s.output (slice_run (record { rest = receiver.rest; store = store }) receiver.counts s.line (length s.output))
     same =
         λ i.
         record {
@@ -243,11 +243,11 @@ slice-runs receiver store s t =
           given =
               record {
                 receiver = record { rest = (t.1.state i).rest; counts = t.1.account i };
-                answer = (answer-once s.given.answer ∙ ap answerTo t.1.answers) i;
+                answer = (answer_once s.given.answer ∙ ap answer_to t.1.answers) i;
                 taken = t.1.taken i;
               };
-          storeAfter = (t.1.state i).store;
-          outputThen = t.1.puts i;
+          store_after = (t.1.state i).store;
+          output_then = t.1.puts i;
         }
 
 -- ---- a line driven by slices
@@ -258,18 +258,18 @@ gather f os ps e k = map-append f os ps ∙ ap₂ (λ (a b : List ℕ). a ++ b) 
 abbrev RunsFrom : Held → List Observed → Type 0
 RunsFrom h = Runs h.receiver h.store
 
-runs_append : (h : Held) (os ps : List Observed) → RunsFrom h os → RunsFrom (recordAfter h os) ps → RunsFrom h (os ++ ps)
+runs_append : (h : Held) (os ps : List Observed) → RunsFrom h os → RunsFrom (record_after h os) ps → RunsFrom h (os ++ ps)
 runs_append h [] ps r q = q
 runs_append h (o ∷ os) ps r q = (r.0, r.1, runs_append _ os ps r.2 q)
 
-record-append : (h : Held) (os ps : List Observed) → recordAfter h (os ++ ps) ≡ recordAfter (recordAfter h os) ps
-record-append h [] ps = refl
-record-append h (o ∷ os) ps = record-append _ os ps
+record_append : (h : Held) (os ps : List Observed) → record_after h (os ++ ps) ≡ record_after (record_after h os) ps
+record_append h [] ps = refl
+record_append h (o ∷ os) ps = record_append _ os ps
 
-calls-up-to : (receiver : Record) (store : List ℕ) (before after : List ObservedSlice) (s : ObservedSlice)
+calls_up_to : (receiver : Record) (store : List ℕ) (before after : List ObservedSlice) (s : ObservedSlice)
     → SlicesRun receiver store (before ++ s ∷ after) → CallsUpTo receiver store before s
-calls-up-to receiver store [] after s r =
-    let k = slice-runs receiver store s r.0 in
+calls_up_to receiver store [] after s r =
+    let k = slice_runs receiver store s r.0 in
     record {
       earlier = [];
       octets = refl;
@@ -279,15 +279,15 @@ calls-up-to receiver store [] after s r =
       own = k;
       runs = k.runs;
     }
-calls-up-to receiver store (b ∷ before) after s r =
-    let k = slice-runs receiver store b r.0 in
-    let j = calls-up-to b.given.receiver b.storeAfter before after s r.1 in
+calls_up_to receiver store (b ∷ before) after s r =
+    let k = slice_runs receiver store b r.0 in
+    let j = calls_up_to b.given.receiver b.store_after before after s r.1 in
     record {
       earlier = k.calls ++ j.earlier;
       octets = gather _ k.calls j.earlier k.octets j.octets;
       rooms = gather _ k.calls j.earlier k.rooms j.rooms;
       met = j.met;
-      meets = record-append _ k.calls j.earlier ∙ ap (λ (h : Held). recordAfter h j.earlier) k.leaves ∙ j.meets;
+      meets = record_append _ k.calls j.earlier ∙ ap (λ (h : Held). record_after h j.earlier) k.leaves ∙ j.meets;
       own = j.own;
       runs =
           rw append_assoc
@@ -295,8 +295,8 @@ calls-up-to receiver store (b ∷ before) after s r =
           (subst (λ (h : Held). RunsFrom h (j.earlier ++ j.own.calls)) (sym k.leaves) j.runs));
     }
 
-pub line-of-slices : LineOfSlices
-line-of-slices = calls-up-to freshRecord noOctets
+pub line_of_slices : LineOfSlices
+line_of_slices = calls_up_to fresh_record no_octets
 
 -- the last of some calls
 record Last (t : ReceiverAnswer) (held : Held) (output : List ℕ) (os : List Observed) : Type 0 where
@@ -305,23 +305,23 @@ record Last (t : ReceiverAnswer) (held : Held) (output : List ℕ) (os : List Ob
   parts : os ≡ quiet ++ last ∷ []
   silence : AllSilent quiet
   lent : last.output ≡ output
-  answer : receiverAnswer last.given.answer ≡ t
-  leaves : recordAfter held os ≡ record { receiver = last.given.receiver; store = last.storeAfter }
-  puts : outputLast output os ≡ last.outputThen
+  answer : receiver_answer last.given.answer ≡ t
+  leaves : record_after held os ≡ record { receiver = last.given.receiver; store = last.store_after }
+  puts : output_last output os ≡ last.output_then
 
 -- a call without an answer leaves the output
-left_alone : (receiver : Record) (store : List ℕ) (o : Observed) → Meets receiver store o → receiverAnswer o.given.answer ≡ nothing
-    → o.outputThen ≡ o.output
+left_alone : (receiver : Record) (store : List ℕ) (o : Observed) → Meets receiver store o → receiver_answer o.given.answer ≡ nothing
+    → o.output_then ≡ o.output
 left_alone receiver store o m e =
-    let v : Verdict = verdictDue (record { rest = receiver.rest; store = store }) o.octet (length o.output) in
-    m.puts ∙ ap (λ (w : Verdict). outputAtFlag w o.output) (silence-due v (sym m.answers ∙ e))
+    let v : Verdict = verdict_due (record { rest = receiver.rest; store = store }) o.octet (length o.output) in
+    m.puts ∙ ap (λ (w : Verdict). output_at_flag w o.output) (silence_due v (sym m.answers ∙ e))
 
-last-call : (t : ReceiverAnswer) (held : Held) (output : List ℕ) (o : Observed) (os : List Observed) → AnswersLast t (o ∷ os)
+last_call : (t : ReceiverAnswer) (held : Held) (output : List ℕ) (o : Observed) (os : List Observed) → AnswersLast t (o ∷ os)
     → RunsFrom held (o ∷ os) → Lent output (o ∷ os) → Last t held output (o ∷ os)
-last-call t held output o [] a r n =
+last_call t held output o [] a r n =
     record { quiet = []; last = o; parts = refl; silence = tt; lent = n.0; answer = a; leaves = refl; puts = refl }
-last-call t held output o (p ∷ os) a r n =
-    let k = last-call t (record { receiver = o.given.receiver; store = o.storeAfter }) o.outputThen p os a.1 r.2 n.1 in
+last_call t held output o (p ∷ os) a r n =
+    let k = last_call t (record { receiver = o.given.receiver; store = o.store_after }) o.output_then p os a.1 r.2 n.1 in
     record {
       quiet = o ∷ k.quiet;
       last = k.last;
@@ -334,48 +334,48 @@ last-call t held output o (p ∷ os) a r n =
     }
 
 -- the calls of a slice that took an octet are not none
-last-of : (met : Held) (s : ObservedSlice) (k : CallsOf met.receiver met.store s) → 1 ≤ s.given.taken
-    → Last (receiverAnswer s.given.answer) met s.output k.calls
-last-of met s k some = go k.calls k.rooms k.answers k.runs k.lent
+last_of_lem : (met : Held) (s : ObservedSlice) (k : CallsOf met.receiver met.store s) → 1 ≤ s.given.taken
+    → Last (receiver_answer s.given.answer) met s.output k.calls
+last_of_lem met s k some = go k.calls k.rooms k.answers k.runs k.lent
   where
     t : ReceiverAnswer
-    t = receiverAnswer s.given.answer
+    t = receiver_answer s.given.answer
 
     go : (os : List Observed) → map (λ (o : Observed). length o.output) os ≡ rooms_of s → AnswersLast t os → RunsFrom met os
         → Lent s.output os → Last t met s.output os
     go [] e a r n = absurd (omega (arith, length-replicate s.given.taken (length s.output), ap length e))
-    go (o ∷ os) e a r n = last-call t met s.output o os a r n
+    go (o ∷ os) e a r n = last_call t met s.output o os a r n
 
-pub slice-is-call : SliceIsCall
-slice-is-call before after s r some =
+pub slice_is_call : SliceIsCall
+slice_is_call before after s r some =
     record {
       earlier = u.earlier;
       quiet = k.quiet;
       last = k.last;
       line = subst Line whole u.runs;
-      octetsBefore = u.octets;
+      octets_before = u.octets;
       octets = ap (map (λ (o : Observed). o.octet)) (sym k.parts) ∙ u.own.octets;
-      roomsBefore = u.rooms;
+      rooms_before = u.rooms;
       rooms = ap (map (λ (o : Observed). length o.output)) (sym k.parts) ∙ u.own.rooms;
       silence = k.silence;
       output = k.lent;
       answer = k.answer;
       receiver = ap (λ (h : Held). h.receiver) left;
-      storeAfter = ap (λ (h : Held). h.store) left;
-      outputThen = sym k.puts ∙ u.own.puts;
+      store_after = ap (λ (h : Held). h.store) left;
+      output_then = sym k.puts ∙ u.own.puts;
     }
   where
-    u : CallsUpTo freshRecord noOctets before s
-    u = line-of-slices before after s r
+    u : CallsUpTo fresh_record no_octets before s
+    u = line_of_slices before after s r
 
-    k : Last (receiverAnswer s.given.answer) u.met s.output u.own.calls
-    k = last-of u.met s u.own some
+    k : Last (receiver_answer s.given.answer) u.met s.output u.own.calls
+    k = last_of_lem u.met s u.own some
 
     whole : u.earlier ++ u.own.calls ≡ (u.earlier ++ k.quiet) ++ k.last ∷ []
     whole =
         ap (λ (l : List Observed). u.earlier ++ l) k.parts
         ∙ sym (append_assoc u.earlier k.quiet (k.last ∷ []))
 
-    left : ◌≡◌ {A = Held} (record { receiver = k.last.given.receiver; store = k.last.storeAfter })
-        (record { receiver = s.given.receiver; store = s.storeAfter })
+    left : ◌≡◌ {A = Held} (record { receiver = k.last.given.receiver; store = k.last.store_after })
+        (record { receiver = s.given.receiver; store = s.store_after })
     left = sym k.leaves ∙ u.own.leaves

@@ -9,13 +9,13 @@ pub record Handed : Type 0 where
   pub octet : ℕ
   pub output : List ℕ
 
-abbrev pub handedTo : Observed → Handed
-handedTo o = record { octet = o.octet; output = o.output }
+abbrev pub handed_to : Observed → Handed
+handed_to o = record { octet = o.octet; output = o.output }
 
 pub record LineOver (given : List Handed) : Type 0 where
   pub calls : List Observed
   pub line : Line calls
-  pub same : map handedTo calls ≡ given
+  pub same : map handed_to calls ≡ given
 
 abbrev pub EveryLine : Type 0
 EveryLine = (given : List Handed) → Octets (map (λ (h : Handed). h.octet) given) → LineOver given

@@ -7,23 +7,23 @@ use Rattle.ucp_frame.specs.Stretch.{Verdict, silent}
 use Rattle.ucp_receiver.specs.declared.Counts.{Counts}
 use Rattle.ucp_receiver.specs.declared.Record.{Record}
 use Rattle.ucp_receiver.specs.declared.Taken.{Taken}
-use Rattle.ucp_receiver.specs.Answers.{ReceiverAnswer, nothing, receiverAnswer}
-use Rattle.ucp_receiver.specs.Octet.{State, noOctets, freshRecord, flagRest, stateAfter, verdictDue, countsAfter}
-use Rattle.ucp_receiver.specs.Slice.{SliceRun, sliceRun, Takes}
+use Rattle.ucp_receiver.specs.Answers.{ReceiverAnswer, nothing, receiver_answer}
+use Rattle.ucp_receiver.specs.Octet.{State, no_octets, fresh_record, flag_rest, state_after, verdict_due, counts_after}
+use Rattle.ucp_receiver.specs.Slice.{SliceRun, slice_run, Takes}
 use Rattle.thm_ucp_receiver.specs.Line.{Observed, Runs, Line}
 
 -- the record, its counts and the answers after a call for each of these octets
-abbrev pub stateOver : State → List ℕ → State
-stateOver s [] = s
-stateOver s (x ∷ xs) = stateOver (stateAfter s x) xs
+abbrev pub state_over : State → List ℕ → State
+state_over s [] = s
+state_over s (x ∷ xs) = state_over (state_after s x) xs
 
-abbrev pub countsOver : Counts → State → List ℕ → ℕ → Counts
-countsOver c s [] room = c
-countsOver c s (x ∷ xs) room = countsOver (countsAfter c s x room) (stateAfter s x) xs room
+abbrev pub counts_over : Counts → State → List ℕ → ℕ → Counts
+counts_over c s [] room = c
+counts_over c s (x ∷ xs) room = counts_over (counts_after c s x room) (state_after s x) xs room
 
-abbrev pub answersOver : State → List ℕ → ℕ → List Verdict
-answersOver s [] room = []
-answersOver s (x ∷ xs) room = verdictDue s x room ∷ answersOver (stateAfter s x) xs room
+abbrev pub answers_over : State → List ℕ → ℕ → List Verdict
+answers_over s [] room = []
+answers_over s (x ∷ xs) room = verdict_due s x room ∷ answers_over (state_after s x) xs room
 
 -- the last of some answers
 abbrev pub last_of : List Verdict → Verdict
@@ -34,14 +34,14 @@ last_of (v ∷ w ∷ ws) = last_of (w ∷ ws)
 -- the octets taken are run one by one, and all but the last of them are silent; with no answer all are taken
 pub record TakenAs (s : State) (c : Counts) (xs : List ℕ) (room : ℕ) (r : SliceRun) : Type 0 where
   pub most : r.taken ≤ length xs
-  pub state : r.state ≡ stateOver s (take r.taken xs)
-  pub counts : r.counts ≡ countsOver c s (take r.taken xs) room
-  pub verdict : r.verdict ≡ last_of (answersOver s (take r.taken xs) room)
-  pub quiet : (i : ℕ) → suc i < r.taken → get_or (answersOver s (take r.taken xs) room) i silent ≡ silent
+  pub state : r.state ≡ state_over s (take r.taken xs)
+  pub counts : r.counts ≡ counts_over c s (take r.taken xs) room
+  pub verdict : r.verdict ≡ last_of (answers_over s (take r.taken xs) room)
+  pub quiet : (i : ℕ) → suc i < r.taken → get_or (answers_over s (take r.taken xs) room) i silent ≡ silent
   pub all : r.verdict ≡ silent → r.taken ≡ length xs
 
 abbrev pub SliceIsOctets : Type 0
-SliceIsOctets = (s : State) (c : Counts) (xs : List ℕ) (room : ℕ) → TakenAs s c xs room (sliceRun s c xs room)
+SliceIsOctets = (s : State) (c : Counts) (xs : List ℕ) (room : ℕ) → TakenAs s c xs room (slice_run s c xs room)
 
 -- ---- a call with a slice as calls by the octet
 
@@ -50,17 +50,17 @@ pub record ObservedSlice : Type 0 where
   pub line : List ℕ
   pub output : List ℕ
   pub given : Taken
-  pub storeAfter : List ℕ
-  pub outputThen : List ℕ
+  pub store_after : List ℕ
+  pub output_then : List ℕ
 
 -- the slice has octets, and the call meets the contract from this record
 abbrev pub MeetsSlice : Record → List ℕ → ObservedSlice → Type 0
 MeetsSlice receiver store s =
-    Octets s.line × Takes receiver store s.line s.output s.given s.storeAfter s.outputThen
+    Octets s.line × Takes receiver store s.line s.output s.given s.store_after s.output_then
 
 -- the octets that it took
-abbrev pub sliceOctets : ObservedSlice → List ℕ
-sliceOctets s = take s.given.taken s.line
+abbrev pub slice_octets : ObservedSlice → List ℕ
+slice_octets s = take s.given.taken s.line
 
 -- the rooms lent to a call for each of them
 abbrev pub rooms_of : ObservedSlice → List ℕ
@@ -72,39 +72,39 @@ pub record Held : Type 0 where
   pub store : List ℕ
 
 -- after some calls by the octet, the record and the output are as the last of them left them
-abbrev pub recordAfter : Held → List Observed → Held
-recordAfter held [] = held
-recordAfter held (o ∷ os) = recordAfter (record { receiver = o.given.receiver; store = o.storeAfter }) os
+abbrev pub record_after : Held → List Observed → Held
+record_after held [] = held
+record_after held (o ∷ os) = record_after (record { receiver = o.given.receiver; store = o.store_after }) os
 
-abbrev pub outputLast : List ℕ → List Observed → List ℕ
-outputLast output [] = output
-outputLast output (o ∷ os) = outputLast o.outputThen os
+abbrev pub output_last : List ℕ → List Observed → List ℕ
+output_last output [] = output
+output_last output (o ∷ os) = output_last o.output_then os
 
 -- each call is lent the output as the one before left it, the first of them this one
 abbrev pub Lent : List ℕ → List Observed → Type 0
 Lent output [] = Unit
-Lent output (o ∷ os) = (o.output ≡ output) × Lent o.outputThen os
+Lent output (o ∷ os) = (o.output ≡ output) × Lent o.output_then os
 
 -- all calls but the last are silent, and the last answers this; where there is no call, this is silence
 abbrev pub AnswersLast : ReceiverAnswer → List Observed → Type 0
 AnswersLast t [] = nothing ≡ t
-AnswersLast t (o ∷ []) = receiverAnswer o.given.answer ≡ t
-AnswersLast t (o ∷ p ∷ os) = (receiverAnswer o.given.answer ≡ nothing) × AnswersLast t (p ∷ os)
+AnswersLast t (o ∷ []) = receiver_answer o.given.answer ≡ t
+AnswersLast t (o ∷ p ∷ os) = (receiver_answer o.given.answer ≡ nothing) × AnswersLast t (p ∷ os)
 
 -- calls by the octet, from the same record and with the same output, that come to what the call with the slice comes to; octets
 -- are taken up to the first that brings an answer, or all of them
 pub record CallsOf (receiver : Record) (store : List ℕ) (s : ObservedSlice) : Type 0 where
   pub calls : List Observed
   pub runs : Runs receiver store calls
-  pub octets : map (λ (o : Observed). o.octet) calls ≡ sliceOctets s
+  pub octets : map (λ (o : Observed). o.octet) calls ≡ slice_octets s
   pub rooms : map (λ (o : Observed). length o.output) calls ≡ rooms_of s
   pub lent : Lent s.output calls
   pub leaves :
-      recordAfter (record { receiver = receiver; store = store }) calls
-      ≡ record { receiver = s.given.receiver; store = s.storeAfter }
-  pub puts : outputLast s.output calls ≡ s.outputThen
-  pub answers : AnswersLast (receiverAnswer s.given.answer) calls
-  pub all : receiverAnswer s.given.answer ≡ nothing → s.given.taken ≡ length s.line
+      record_after (record { receiver = receiver; store = store }) calls
+      ≡ record { receiver = s.given.receiver; store = s.store_after }
+  pub puts : output_last s.output calls ≡ s.output_then
+  pub answers : AnswersLast (receiver_answer s.given.answer) calls
+  pub all : receiver_answer s.given.answer ≡ nothing → s.given.taken ≡ length s.line
 
 abbrev pub SliceRuns : Type 0
 SliceRuns = (receiver : Record) (store : List ℕ) (s : ObservedSlice) → MeetsSlice receiver store s → CallsOf receiver store s
@@ -112,9 +112,9 @@ SliceRuns = (receiver : Record) (store : List ℕ) (s : ObservedSlice) → Meets
 -- where the octets taken end in a flag, from any record and whatever the answer, the store is zero and the rest is the one fixed value
 abbrev pub SliceFlagClears : Type 0
 SliceFlagClears =
-    (receiver : Record) (store line output : List ℕ) (given : Taken) (storeAfter outputThen earlier : List ℕ)
-    → Takes receiver store line output given storeAfter outputThen → take given.taken line ≡ earlier ++ flag ∷ []
-    → (storeAfter ≡ noOctets) × (given.receiver.rest ≡ flagRest)
+    (receiver : Record) (store line output : List ℕ) (given : Taken) (store_after output_then earlier : List ℕ)
+    → Takes receiver store line output given store_after output_then → take given.taken line ≡ earlier ++ flag ∷ []
+    → (store_after ≡ no_octets) × (given.receiver.rest ≡ flag_rest)
 
 -- ---- a line driven by slices
 
@@ -122,10 +122,10 @@ SliceFlagClears =
 abbrev pub SlicesRun : Record → List ℕ → List ObservedSlice → Type 0
 SlicesRun receiver store [] = Unit
 SlicesRun receiver store (s ∷ ss) =
-    MeetsSlice receiver store s × SlicesRun s.given.receiver s.storeAfter ss
+    MeetsSlice receiver store s × SlicesRun s.given.receiver s.store_after ss
 
 abbrev pub SliceLine : List ObservedSlice → Type 0
-SliceLine = SlicesRun freshRecord noOctets
+SliceLine = SlicesRun fresh_record no_octets
 
 -- the octets, or the rooms, of calls with slices one after the other
 abbrev pub gathered : {A : Type 0} → (A → List ℕ) → List A → List ℕ
@@ -135,10 +135,10 @@ gathered f (s ∷ ss) = f s ++ gathered f ss
 -- calls by the octet for the slices before, and then those of this slice, run from this record
 pub record CallsUpTo (receiver : Record) (store : List ℕ) (before : List ObservedSlice) (s : ObservedSlice) : Type 0 where
   pub earlier : List Observed
-  pub octets : map (λ (o : Observed). o.octet) earlier ≡ gathered sliceOctets before
+  pub octets : map (λ (o : Observed). o.octet) earlier ≡ gathered slice_octets before
   pub rooms : map (λ (o : Observed). length o.output) earlier ≡ gathered rooms_of before
   pub met : Held
-  pub meets : recordAfter (record { receiver = receiver; store = store }) earlier ≡ met
+  pub meets : record_after (record { receiver = receiver; store = store }) earlier ≡ met
   pub own : CallsOf met.receiver met.store s
   pub runs : Runs receiver store (earlier ++ own.calls)
 
@@ -146,12 +146,12 @@ pub record CallsUpTo (receiver : Record) (store : List ℕ) (before : List Obser
 abbrev pub LineOfSlices : Type 0
 LineOfSlices =
     (before after : List ObservedSlice) (s : ObservedSlice) → SliceLine (before ++ s ∷ after)
-    → CallsUpTo freshRecord noOctets before s
+    → CallsUpTo fresh_record no_octets before s
 
 -- none of these calls has an answer
 abbrev pub AllSilent : List Observed → Type 0
 AllSilent [] = Unit
-AllSilent (o ∷ os) = (receiverAnswer o.given.answer ≡ nothing) × AllSilent os
+AllSilent (o ∷ os) = (receiver_answer o.given.answer ≡ nothing) × AllSilent os
 
 -- a line of calls by the octet, first for the slices before, then for this one, silent up to a last call that is lent the same
 -- output and gives back what this slice does
@@ -160,16 +160,16 @@ pub record EndsAsSlice (before : List ObservedSlice) (s : ObservedSlice) : Type 
   pub quiet : List Observed
   pub last : Observed
   pub line : Line ((earlier ++ quiet) ++ last ∷ [])
-  pub octetsBefore : map (λ (o : Observed). o.octet) earlier ≡ gathered sliceOctets before
-  pub octets : map (λ (o : Observed). o.octet) (quiet ++ last ∷ []) ≡ sliceOctets s
-  pub roomsBefore : map (λ (o : Observed). length o.output) earlier ≡ gathered rooms_of before
+  pub octets_before : map (λ (o : Observed). o.octet) earlier ≡ gathered slice_octets before
+  pub octets : map (λ (o : Observed). o.octet) (quiet ++ last ∷ []) ≡ slice_octets s
+  pub rooms_before : map (λ (o : Observed). length o.output) earlier ≡ gathered rooms_of before
   pub rooms : map (λ (o : Observed). length o.output) (quiet ++ last ∷ []) ≡ rooms_of s
   pub silence : AllSilent quiet
   pub output : last.output ≡ s.output
-  pub answer : receiverAnswer last.given.answer ≡ receiverAnswer s.given.answer
+  pub answer : receiver_answer last.given.answer ≡ receiver_answer s.given.answer
   pub receiver : last.given.receiver ≡ s.given.receiver
-  pub storeAfter : last.storeAfter ≡ s.storeAfter
-  pub outputThen : last.outputThen ≡ s.outputThen
+  pub store_after : last.store_after ≡ s.store_after
+  pub output_then : last.output_then ≡ s.output_then
 
 -- so every promise of a line's call holds of a slice that took an octet
 abbrev pub SliceIsCall : Type 0

@@ -2,9 +2,9 @@
 use Rattle.std.specs.Prelude.{◌≡◌, List, [], ◌∷◌, ◌++◌, ◌⊎◌, ℕ, ◌<◌, length, get_or, take}
 use Rattle.output_writing.specs.declared.Written.{Written}
 use Rattle.output_writing.specs.declared.Written.TheVariants.{Wrote, Refused}
-use Rattle.output_writing.specs.Writing.{writerAnswer}
-use Rattle.ucp_frame.specs.Frame.{framesOf}
-use Rattle.ucp_writer.specs.Room.{frameDue}
+use Rattle.output_writing.specs.Writing.{writer_answer}
+use Rattle.ucp_frame.specs.Frame.{frames_of}
+use Rattle.ucp_writer.specs.Room.{frame_due}
 use Rattle.ucp_writer.specs.Writes.{WritesFrame}
 
 -- one call: the body and the output as at entry, the answer, the output as at return; and that it is a call of the writer,
@@ -27,19 +27,19 @@ accepts (Refused number) body = []
 accepts (Wrote octets) body = body ∷ []
 
 -- the line octets of a list of calls: the frames in the order of the calls, with nothing between
-unfoldable pub lineOctets : List WriterCall → List ℕ
-lineOctets [] = []
-lineOctets (c ∷ cs) = adds c.answer c.after ++ lineOctets cs
+unfoldable pub line_octets : List WriterCall → List ℕ
+line_octets [] = []
+line_octets (c ∷ cs) = adds c.answer c.after ++ line_octets cs
 
-unfoldable pub acceptedBodies : List WriterCall → List (List ℕ)
-acceptedBodies [] = []
-acceptedBodies (c ∷ cs) = accepts c.answer c.body ++ acceptedBodies cs
+unfoldable pub accepted_bodies : List WriterCall → List (List ℕ)
+accepted_bodies [] = []
+accepted_bodies (c ∷ cs) = accepts c.answer c.body ++ accepted_bodies cs
 
 -- two lists of octets differ at a place that both have
 pub record DifferAtPlace (xs ys : List ℕ) : Type 0 where
   pub place : ℕ
-  pub inFirst : place < length xs
-  pub inSecond : place < length ys
+  pub in_first : place < length xs
+  pub in_second : place < length ys
   pub octets : get_or xs place 0 ≡ get_or ys place 0 → ⊥
 
 -- they differ in number or in some octet
@@ -50,7 +50,7 @@ DifferInNumberOrOctet xs ys = (length xs ≡ length ys → ⊥) ⊎ DifferAtPlac
 -- frames of its accepted bodies, in the order of the calls; and for every two lists, refused calls included, where the
 -- accepted bodies are not the same list the line octets are not the same either: they differ in number or in some octet
 pub record WriterLists : Type 0 where
-  pub answers : (c : WriterCall) → writerAnswer c.answer ≡ frameDue c.body c.output
-  pub frames : (calls : List WriterCall) → lineOctets calls ≡ framesOf (acceptedBodies calls)
-  pub apart : (xs ys : List WriterCall) → (acceptedBodies xs ≡ acceptedBodies ys → ⊥) → lineOctets xs ≡ lineOctets ys → ⊥
-  pub differ : (xs ys : List WriterCall) → (acceptedBodies xs ≡ acceptedBodies ys → ⊥) → DifferInNumberOrOctet (lineOctets xs) (lineOctets ys)
+  pub answers : (c : WriterCall) → writer_answer c.answer ≡ frame_due c.body c.output
+  pub frames : (calls : List WriterCall) → line_octets calls ≡ frames_of (accepted_bodies calls)
+  pub apart : (xs ys : List WriterCall) → (accepted_bodies xs ≡ accepted_bodies ys → ⊥) → line_octets xs ≡ line_octets ys → ⊥
+  pub differ : (xs ys : List WriterCall) → (accepted_bodies xs ≡ accepted_bodies ys → ⊥) → DifferInNumberOrOctet (line_octets xs) (line_octets ys)

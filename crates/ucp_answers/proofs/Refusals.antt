@@ -7,8 +7,8 @@ use Prim.Native.Nat.{ℕ}
 use native.Mathlib.Omega.{arith}
 use borrow.Author.Tests.{eqb-true, eqb-false, eq-eqb, ne_eqb}
 use lib.ListN.{length, drop}
-use Rattle.ucp_answers.specs.Refusals.{refusalBy, refusalOf}
-use Rattle.field_format.specs.Format.{Format, standAt, bodySize, valueIn}
+use Rattle.ucp_answers.specs.Refusals.{refusal_by, refusal_of}
+use Rattle.field_format.specs.Format.{Format, stand_at, body_size, value_in}
 
 -- what each number says of the three tests
 abbrev Due : Bool → Bool → Bool → ℕ → Type 0
@@ -22,8 +22,8 @@ no e = let z : ◌≡◌ {A = ℕ} 0 1 = cc in omega arith
 no' : false ≡ true → ⊥
 no' e = no (sym e)
 
-due : (l x r : Bool) → Due l x r (refusalBy l x r)
-unfolding refusalBy
+due : (l x r : Bool) → Due l x r (refusal_by l x r)
+unfolding refusal_by
 due false x r = (
   (λ h. refl, λ h. refl),
   (λ h. absurd (omega arith), λ h. absurd (no' h.0)),
@@ -51,31 +51,31 @@ due true true true = (
 
 module _ {A : Type 0} (f : Format A) (body : List ℕ) where
   abbrev Fixed : Bool → Type 0
-  Fixed b = standAt true 1 (drop 1 f.head) body ≡ b
+  Fixed b = stand_at true 1 (drop 1 f.head) body ≡ b
 
   abbrev InRanges : Bool → Type 0
-  InRanges b = f.ranges (valueIn f body) ≡ b
+  InRanges b = f.ranges (value_in f body) ≡ b
 
-  pub exactly-11 : (refusalOf f body ≡ 11) ↔ (length body ≡ bodySize f → ⊥)
-  unfolding refusalOf
-  exactly-11 =
+  pub exactly_11 : (refusal_of f body ≡ 11) ↔ (length body ≡ body_size f → ⊥)
+  unfolding refusal_of
+  exactly_11 =
       let d = (due _ _ _).0 in
-      (λ h. eqb-false (length body) (bodySize f) (d.0 h), λ n. d.1 (ne_eqb (length body) (bodySize f) n))
+      (λ h. eqb-false (length body) (body_size f) (d.0 h), λ n. d.1 (ne_eqb (length body) (body_size f) n))
 
-  pub exactly-12 : (refusalOf f body ≡ 12) ↔ ((length body ≡ bodySize f) × Fixed false)
-  unfolding refusalOf
-  exactly-12 =
+  pub exactly_12 : (refusal_of f body ≡ 12) ↔ ((length body ≡ body_size f) × Fixed false)
+  unfolding refusal_of
+  exactly_12 =
       let d = (due _ _ _).1 in
-      (λ h. (eqb-true (length body) (bodySize f) (d.0 h).0, (d.0 h).1), λ n. d.1 (eq-eqb (length body) (bodySize f) n.0, n.1))
+      (λ h. (eqb-true (length body) (body_size f) (d.0 h).0, (d.0 h).1), λ n. d.1 (eq-eqb (length body) (body_size f) n.0, n.1))
 
-  pub exactly-13 : (refusalOf f body ≡ 13) ↔ ((length body ≡ bodySize f) × Fixed true × InRanges false)
-  unfolding refusalOf
-  exactly-13 =
+  pub exactly_13 : (refusal_of f body ≡ 13) ↔ ((length body ≡ body_size f) × Fixed true × InRanges false)
+  unfolding refusal_of
+  exactly_13 =
       let d = (due _ _ _).2 in
-      (λ h. (eqb-true (length body) (bodySize f) (d.0 h).0, (d.0 h).1, (d.0 h).2), λ n. d.1 (eq-eqb (length body) (bodySize f) n.0, n.1, n.2))
+      (λ h. (eqb-true (length body) (body_size f) (d.0 h).0, (d.0 h).1, (d.0 h).2), λ n. d.1 (eq-eqb (length body) (body_size f) n.0, n.1, n.2))
 
-  pub exactly-0 : (refusalOf f body ≡ 0) ↔ ((length body ≡ bodySize f) × Fixed true × InRanges true)
-  unfolding refusalOf
-  exactly-0 =
+  pub exactly_0 : (refusal_of f body ≡ 0) ↔ ((length body ≡ body_size f) × Fixed true × InRanges true)
+  unfolding refusal_of
+  exactly_0 =
       let d = (due _ _ _).3 in
-      (λ h. (eqb-true (length body) (bodySize f) (d.0 h).0, (d.0 h).1, (d.0 h).2), λ n. d.1 (eq-eqb (length body) (bodySize f) n.0, n.1, n.2))
+      (λ h. (eqb-true (length body) (body_size f) (d.0 h).0, (d.0 h).1, (d.0 h).2), λ n. d.1 (eq-eqb (length body) (body_size f) n.0, n.1, n.2))

@@ -6,16 +6,16 @@ use Prim.Native.Nat.{ℕ}
 use borrow.Author.Tests.{not-true, not-false}
 use Rattle.output_writing.specs.declared.Written.{Written}
 use Rattle.output_writing.specs.declared.Written.TheVariants.{Refused}
-use Rattle.ucp_answers.specs.Writes.{WritesBody, bodyDue}
+use Rattle.ucp_answers.specs.Writes.{WritesBody, body_due}
 
 module _ {test fits : Bool} (e : test ≡ fits) where
   pub fitting : not test ≡ false → fits ≡ true
   fitting h = sym e ∙ not-false _ h
 
-  pub refused-13 : (body output : List ℕ) → not test ≡ true → WritesBody fits body output (Refused 13) output
-  unfolding bodyDue
-  refused-13 body output h = record { answers = rw (sym e ∙ not-true _ h); leaves = refl }
+  pub refused_13 : (body output : List ℕ) → not test ≡ true → WritesBody fits body output (Refused 13) output
+  unfolding body_due
+  refused_13 body output h = record { answers = rw (sym e ∙ not-true _ h); leaves = refl }
 
-  pub body-put : {body octets output after : List ℕ} {answer : Written} → not test ≡ false → octets ≡ body
+  pub body_put : {body octets output after : List ℕ} {answer : Written} → not test ≡ false → octets ≡ body
       → WritesBody true octets output answer after → WritesBody fits body output answer after
-  body-put h d w = rw (fitting h, ← d) w
+  body_put h d w = rw (fitting h, ← d) w

@@ -6,9 +6,9 @@ use Rattle.output_writing.specs.declared.Written.{Written}
 use Rattle.output_writing.specs.Writing.{WriterAnswer, refused, room_for, Writing}
 
 -- the answer that is due: 13 for a field outside its range, then 8 for an output shorter than the body
-unfoldable pub bodyDue : Bool → List ℕ → List ℕ → WriterAnswer
-bodyDue fits body output = cond fits (room_for (length body) output) (refused because.field)
+unfoldable pub body_due : Bool → List ℕ → List ℕ → WriterAnswer
+body_due fits body output = cond fits (room_for (length body) output) (refused because.field)
 
 -- one call, whole: whether the fields fit, their body, the output as at entry, the answer, and the output as at return
 abbrev pub WritesBody : Bool → List ℕ → List ℕ → Written → List ℕ → Type 0
-WritesBody fits body output = Writing (bodyDue fits body output) body output
+WritesBody fits body output = Writing (body_due fits body output) body output

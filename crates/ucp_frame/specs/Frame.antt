@@ -1,6 +1,6 @@
 -- Stuffing, and the frame of a body (document 01, "Check and stuffing"). Assumes nothing.
 use Rattle.std.specs.Prelude.{cond, List, [], ◌∷◌, ◌++◌, ℕ, eqb, replicate}
-use Rattle.crc_gdl90.specs.Check.{frameCheckOctets}
+use Rattle.crc_gdl90.specs.Check.{frame_check_octets}
 
 abbrev pub flag : ℕ
 flag = 0x7E
@@ -18,20 +18,20 @@ stuffed (x ∷ xs) = escaped x ++ stuffed xs
 
 -- 7E, the body and its check stuffed together, 7E
 unfoldable pub frame : List ℕ → List ℕ
-frame body = flag ∷ stuffed (body ++ frameCheckOctets body) ++ (flag ∷ [])
+frame body = flag ∷ stuffed (body ++ frame_check_octets body) ++ (flag ∷ [])
 
 -- the longest body, and the longest frame
-abbrev pub longestBody : ℕ
-longestBody = 436
+abbrev pub longest_body : ℕ
+longest_body = 436
 
-abbrev pub longestFrame : ℕ
-longestFrame = 878
+abbrev pub longest_frame : ℕ
+longest_frame = 878
 
 -- a body whose frame is the longest: 436 octets that need an escape, and so do the two of its check, 7E7D
-unfoldable pub longestFrameBody : List ℕ
-longestFrameBody = flag ∷ escape ∷ replicate 371 flag ++ escape ∷ replicate 62 flag
+unfoldable pub longest_frame_body : List ℕ
+longest_frame_body = flag ∷ escape ∷ replicate 371 flag ++ escape ∷ replicate 62 flag
 
 -- the line's octets: the frames of the bodies in order, with nothing between
-unfoldable pub framesOf : List (List ℕ) → List ℕ
-framesOf [] = []
-framesOf (body ∷ bodies) = frame body ++ framesOf bodies
+unfoldable pub frames_of : List (List ℕ) → List ℕ
+frames_of [] = []
+frames_of (body ∷ bodies) = frame body ++ frames_of bodies

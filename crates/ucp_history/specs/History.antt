@@ -20,55 +20,55 @@ pub record Cut : Type 0 where
   pub hunted : List ℕ
   pub flags : List Segment
 
-unfoldable pub cutAtFlags : List Call → Cut
-cutAtFlags [] = record { hunted = []; flags = [] }
-cutAtFlags (c ∷ cs) =
+unfoldable pub cut_at_flags : List Call → Cut
+cut_at_flags [] = record { hunted = []; flags = [] }
+cut_at_flags (c ∷ cs) =
     cond (eqb c.octet flag)
-    (record { hunted = []; flags = (record { room = c.room; octets = (cutAtFlags cs).hunted }) ∷ (cutAtFlags cs).flags })
-    (record { hunted = c.octet ∷ (cutAtFlags cs).hunted; flags = (cutAtFlags cs).flags })
+    (record { hunted = []; flags = (record { room = c.room; octets = (cut_at_flags cs).hunted }) ∷ (cut_at_flags cs).flags })
+    (record { hunted = c.octet ∷ (cut_at_flags cs).hunted; flags = (cut_at_flags cs).flags })
 
 -- the stretch that is open: the octets since the last of these flags. Before the first flag the line hunts, and it has none
-unfoldable pub openStretch : List Segment → List ℕ
-openStretch [] = []
-openStretch (s ∷ []) = s.octets
-openStretch (s ∷ t ∷ ss) = openStretch (t ∷ ss)
+unfoldable pub open_stretch : List Segment → List ℕ
+open_stretch [] = []
+open_stretch (s ∷ []) = s.octets
+open_stretch (s ∷ t ∷ ss) = open_stretch (t ∷ ss)
 
 -- ---- the answer to a call, after the calls before it: a flag closes the open stretch, with the room lent to its call
 unfoldable pub answer : List Call → Call → Verdict
-answer before c = cond (eqb c.octet flag) (verdict (openStretch (cutAtFlags before).flags) c.room) silent
+answer before c = cond (eqb c.octet flag) (verdict (open_stretch (cut_at_flags before).flags) c.room) silent
 
 -- ---- the byte account, in line octets
 
 -- those of a stretch that is closed, by its answer
-abbrev pub ifDelivered : Verdict → ℕ → ℕ
-ifDelivered silent n = 0
-ifDelivered (refused number) n = 0
-ifDelivered (delivered body) n = n
+abbrev pub if_delivered : Verdict → ℕ → ℕ
+if_delivered silent n = 0
+if_delivered (refused number) n = 0
+if_delivered (delivered body) n = n
 
-abbrev pub ifRefused : Verdict → ℕ → ℕ
-ifRefused silent n = 0
-ifRefused (refused number) n = n
-ifRefused (delivered body) n = 0
+abbrev pub if_refused : Verdict → ℕ → ℕ
+if_refused silent n = 0
+if_refused (refused number) n = n
+if_refused (delivered body) n = 0
 
 -- a sum over the closed stretches: each goes from one flag to the next, whose room is the room lent at its close
-unfoldable pub overClosed : (Verdict → ℕ → ℕ) → List Segment → ℕ
-overClosed f [] = 0
-overClosed f (s ∷ []) = 0
-overClosed f (s ∷ t ∷ ss) = f (verdict s.octets t.room) (length s.octets) + overClosed f (t ∷ ss)
+unfoldable pub over_closed : (Verdict → ℕ → ℕ) → List Segment → ℕ
+over_closed f [] = 0
+over_closed f (s ∷ []) = 0
+over_closed f (s ∷ t ∷ ss) = f (verdict s.octets t.room) (length s.octets) + over_closed f (t ∷ ss)
 
 pub record Account : Type 0 where
   pub flags : ℕ
   pub delivered : ℕ
   pub refused : ℕ
   pub skipped : ℕ
-  pub openOctets : ℕ
+  pub open_octets : ℕ
 
 abbrev pub account : List Call → Account
 account calls =
     record {
-      flags = length (cutAtFlags calls).flags;
-      delivered = overClosed ifDelivered (cutAtFlags calls).flags;
-      refused = overClosed ifRefused (cutAtFlags calls).flags;
-      skipped = length (cutAtFlags calls).hunted;
-      openOctets = length (openStretch (cutAtFlags calls).flags);
+      flags = length (cut_at_flags calls).flags;
+      delivered = over_closed if_delivered (cut_at_flags calls).flags;
+      refused = over_closed if_refused (cut_at_flags calls).flags;
+      skipped = length (cut_at_flags calls).hunted;
+      open_octets = length (open_stretch (cut_at_flags calls).flags);
     }

@@ -8,38 +8,38 @@ use Rattle.ucp_meanings.specs.declared.Rate.TheVariants.{NoData as NoRate, FeetP
 
 -- what a raw number means: nothing, or a value in the unit of its rule
 pub data Meaning : Type 0 where
-  noData : Meaning
+  no_data : Meaning
   value : ℤ → Meaning
 
 -- ---- what the answers say
 
-abbrev pub altitudeAnswer : Altitude → Meaning
-altitudeAnswer NoAltitude = noData
-altitudeAnswer (Feet feet) = value feet
+abbrev pub altitude_answer : Altitude → Meaning
+altitude_answer NoAltitude = no_data
+altitude_answer (Feet feet) = value feet
 
-abbrev pub rateAnswer : Rate → Meaning
-rateAnswer NoRate = noData
-rateAnswer (FeetPerMinute feet) = value feet
+abbrev pub rate_answer : Rate → Meaning
+rate_answer NoRate = no_data
+rate_answer (FeetPerMinute feet) = value feet
 
 -- ---- the rules
 
 -- FFF is no data, else 25 n - 1000 feet
-unfoldable pub altitudeMeans : ℕ → Meaning
-altitudeMeans n = cond (eqb n 0xFFF) noData (value (pos (n * 25) -ℤ pos 1000))
+unfoldable pub altitude_means : ℕ → Meaning
+altitude_means n = cond (eqb n 0xFFF) no_data (value (pos (n * 25) -ℤ pos 1000))
 
 -- -2048
-abbrev pub isNoRate : ℤ → Bool
-isNoRate (pos n) = false
-isNoRate (negsuc n) = eqb n 2047
+abbrev pub is_no_rate : ℤ → Bool
+is_no_rate (pos n) = false
+is_no_rate (negsuc n) = eqb n 2047
 
 -- 800 (-2048) is no data, else 64 n feet per minute
-unfoldable pub rateMeans : ℤ → Meaning
-rateMeans z = cond (isNoRate z) noData (value (z *ℤ pos 64))
+unfoldable pub rate_means : ℤ → Meaning
+rate_means z = cond (is_no_rate z) no_data (value (z *ℤ pos 64))
 
 -- steps of 5 feet
-unfoldable pub geometricMeans : ℤ → ℤ
-geometricMeans z = z *ℤ pos 5
+unfoldable pub geometric_means : ℤ → ℤ
+geometric_means z = z *ℤ pos 5
 
 -- 180 degrees in 2^23 steps (document 003, section 6.2.2), in whole units of 1E-7 degree: n * 180 / 2^23 * 10^7, toward zero
-unfoldable pub degreesE7 : ℤ → ℤ
-degreesE7 z = quot_z (z *ℤ pos 1800000000) (pos 8388608)
+unfoldable pub degrees_e7 : ℤ → ℤ
+degrees_e7 z = quot_z (z *ℤ pos 1800000000) (pos 8388608)

@@ -1,6 +1,6 @@
 // What the raw numbers of messages 10, 11 and 20 mean in feet, feet per minute and degrees.
 ghost use Rattle.std.specs.Prelude.{◌≡◌};
-ghost use Rattle.ucp_meanings.specs.Meanings.{altitudeAnswer, rateAnswer, altitudeMeans, rateMeans, geometricMeans, degreesE7};
+ghost use Rattle.ucp_meanings.specs.Meanings.{altitude_answer, rate_answer, altitude_means, rate_means, geometric_means, degrees_e7};
 
 // A pressure altitude.
 #[derive(Drop)]
@@ -18,7 +18,7 @@ pub enum Rate {
 
 // The pressure altitude that messages 10 and 20 carry as a number.
 pub fn altitude_in_feet(number: u16) -> Altitude
-    ensures { altitudeAnswer result ≡ altitudeMeans number }
+    ensures { altitude_answer result ≡ altitude_means number }
 {
     if number == 0xFFF {
         return Altitude::NoData;
@@ -29,7 +29,7 @@ pub fn altitude_in_feet(number: u16) -> Altitude
 
 // The vertical rate that messages 10 and 20 carry as a number.
 pub fn rate_in_feet_per_minute(number: i16) -> Rate
-    ensures { rateAnswer result ≡ rateMeans number }
+    ensures { rate_answer result ≡ rate_means number }
 {
     if number == -2048 {
         return Rate::NoData;
@@ -39,14 +39,14 @@ pub fn rate_in_feet_per_minute(number: i16) -> Rate
 
 // The geometric altitude that message 11 carries as a number.
 pub fn geometric_altitude_in_feet(number: i16) -> i32
-    ensures { result ≡ geometricMeans number }
+    ensures { result ≡ geometric_means number }
 {
     number as i32 * 5
 }
 
 // The angle that messages 10 and 20 carry as a number, in whole units of 1E-7 degree, toward zero.
 pub fn degrees_e7(number: i32) -> i64
-    ensures { result ≡ degreesE7 number }
+    ensures { result ≡ degrees_e7 number }
 {
     number as i64 * 1800000000 / 8388608
 }

@@ -1,15 +1,15 @@
 -- Message 45, Control version 1 (document 003, section 6.2.5.1). Assumes nothing.
 use Rattle.std.specs.Prelude.{◌&&◌, [], ◌∷◌}
-use Rattle.field_codes.specs.Codes.{isSquawk}
-use Rattle.field_texts.specs.Text.{isPadded}
-use Rattle.field_layout.specs.Layout.{textOctets}
+use Rattle.field_codes.specs.Codes.{is_squawk}
+use Rattle.field_texts.specs.Text.{is_padded}
+use Rattle.field_layout.specs.Layout.{text_octets}
 use Rattle.field_format.specs.Format.{unsigned, integer, Format, high, low, text, octet, bits, bit}
 use Rattle.ucp_messages.specs.declared.Control.{Control}
 
 -- offset 0: ID; 1: version; 2, from bit 7: 1090ES enabled, modes S, C and A, ident, air-ground state, barometer checked;
 -- 3: altitude; 7: squawk; 9: emergency; 10: flight identity
-abbrev pub controlFormat : Format Control
-controlFormat = record {
+abbrev pub control_format : Format Control
+control_format = record {
   head = 45 ∷ 1 ∷ [];
   items =
       high
@@ -39,5 +39,5 @@ controlFormat = record {
     emergency = emergency;
     identity = identity;
   };
-  ranges = λ c. isSquawk c.squawk && isPadded (textOctets c.identity);
+  ranges = λ c. is_squawk c.squawk && is_padded (text_octets c.identity);
 }

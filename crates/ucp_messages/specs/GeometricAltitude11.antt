@@ -4,8 +4,8 @@ use Rattle.field_format.specs.Format.{unsigned, integer, Format, high, number}
 use Rattle.ucp_messages.specs.declared.GeometricAltitude.{GeometricAltitude}
 
 -- offset 0: ID; 1: altitude, signed, 16 bits; 3: metrics, 16 bits
-abbrev pub geometricFormat : Format GeometricAltitude
-geometricFormat = record {
+abbrev pub geometric_format : Format GeometricAltitude
+geometric_format = record {
   head = 11 ∷ [];
   items =
       high (number integer 16 (λ g. g.altitude) ∷ [])

@@ -4,8 +4,8 @@ use Rattle.field_format.specs.Format.{unsigned, Format, high, low, octet, number
 use Rattle.ucp_messages.specs.declared.Heartbeat.{Heartbeat}
 
 -- offset 0: ID; 1 and 2: status; 3: time stamp, low octet first; 5: message counts, high octet first
-abbrev pub heartbeatFormat : Format Heartbeat
-heartbeatFormat = record {
+abbrev pub heartbeat_format : Format Heartbeat
+heartbeat_format = record {
   head = 0 ∷ [];
   items =
       octet (λ h. h.status_1)

@@ -1,15 +1,15 @@
 -- Message 117, Initialization (document 000, "Initialization Message"). Assumes nothing.
 use Rattle.std.specs.Prelude.{◌&&◌, [], ◌∷◌}
-use Rattle.field_codes.specs.Codes.{isEmitter, isSizeCode}
-use Rattle.field_texts.specs.Text.{isSpaced}
-use Rattle.field_layout.specs.Layout.{textOctets}
+use Rattle.field_codes.specs.Codes.{is_emitter, is_size_code}
+use Rattle.field_texts.specs.Text.{is_spaced}
+use Rattle.field_layout.specs.Layout.{text_octets}
 use Rattle.field_format.specs.Format.{part, Format, high, low, text, octet, bits}
 use Rattle.ucp_messages.specs.declared.Initialization.{Initialization}
 
 -- offset 0: ID; 1: signature; 2: subtype; 3: version; 4: address, 24 bits; 7: emitter; 8: callsign; 16: stall speed;
 -- 17: size; 18: antenna offset, lateral in the top 3 bits and longitudinal in the bottom 5
-abbrev pub initializationFormat : Format Initialization
-initializationFormat = record {
+abbrev pub initialization_format : Format Initialization
+initialization_format = record {
   head = 117 ∷ 65 ∷ 1 ∷ [];
   items =
       octet (λ n. n.version)
@@ -33,5 +33,5 @@ initializationFormat = record {
     lateral = lateral;
     longitudinal = longitudinal;
   };
-  ranges = λ n. isEmitter n.emitter && isSpaced (textOctets n.callsign) && isSizeCode n.size;
+  ranges = λ n. is_emitter n.emitter && is_spaced (text_octets n.callsign) && is_size_code n.size;
 }

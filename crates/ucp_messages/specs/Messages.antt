@@ -7,11 +7,11 @@ use Rattle.ucp_messages.specs.declared.Message.TheVariants.{Uplink}
 use Rattle.std.specs.Prelude.{◌≡◌, List, [], ℕ, drop, Bool}
 use Rattle.refusals.specs.Numbers as because
 use Rattle.ucp_answers.specs.Refusals
-use Rattle.ucp_answers.specs.Refusals.{refusalOf, reads}
-use Rattle.ucp_messages.specs.Uplink7.{uplinkRefusal, uplinkFits, uplinkBody}
+use Rattle.ucp_answers.specs.Refusals.{refusal_of, reads}
+use Rattle.ucp_messages.specs.Uplink7.{uplink_refusal, uplink_fits, uplink_body}
 use Rattle.ucp_messages.specs.declared.Read.{Read}
 use Rattle.ucp_messages.specs.declared.Read.TheVariants.{Message as Means, Refused}
-use Rattle.ucp_messages.specs.Kinds.{Reading, format, uplink, unknown, reading_of, Carried, value, payload, carriedBy, kindIn}
+use Rattle.ucp_messages.specs.Kinds.{Reading, format, uplink, unknown, reading_of, Carried, value, payload, carried_by, kind_in}
 
 -- an answer in the paper's terms: a refusal's number, or the message that the body is
 pub data ReaderAnswer : Type 0 where
@@ -19,63 +19,63 @@ pub data ReaderAnswer : Type 0 where
   means : Message → ReaderAnswer
 
 -- the paper's number and values of each case
-abbrev pub readerAnswer : Read → ReaderAnswer
-readerAnswer (Refused number) = refused number
-readerAnswer (Means message) = means message
+abbrev pub reader_answer : Read → ReaderAnswer
+reader_answer (Refused number) = refused number
+reader_answer (Means message) = means message
 
 -- the refusal, or the message where there is none
-abbrev pub meansUnlessRefused : ℕ → Message → ReaderAnswer
-meansUnlessRefused refusal message = Refusals.unlessRefused refused refusal (means message)
+abbrev pub means_unless_refused : ℕ → Message → ReaderAnswer
+means_unless_refused refusal message = Refusals.unless_refused refused refusal (means message)
 
-abbrev pub refusalByReading : Reading → List ℕ → ℕ
-refusalByReading (format f message) body = refusalOf f body
-refusalByReading uplink body = uplinkRefusal body
-refusalByReading unknown body = because.unknownId
+abbrev pub refusal_by_reading : Reading → List ℕ → ℕ
+refusal_by_reading (format f message) body = refusal_of f body
+refusal_by_reading uplink body = uplink_refusal body
+refusal_by_reading unknown body = because.unknown_id
 
-abbrev pub answerBy : Reading → List ℕ → ReaderAnswer
-answerBy (format f message) body = reads f refused (λ a. means (message a)) body
-answerBy uplink body = meansUnlessRefused (uplinkRefusal body) Uplink
-answerBy unknown body = refused because.unknownId
+abbrev pub answer_by : Reading → List ℕ → ReaderAnswer
+answer_by (format f message) body = reads f refused (λ a. means (message a)) body
+answer_by uplink body = means_unless_refused (uplink_refusal body) Uplink
+answer_by unknown body = refused because.unknown_id
 
 -- the refusal of a body as a message of a kind, and the answer to it
-unfoldable pub refusalIn : Kind → List ℕ → ℕ
-refusalIn k = refusalByReading (reading_of k)
+unfoldable pub refusal_in : Kind → List ℕ → ℕ
+refusal_in k = refusal_by_reading (reading_of k)
 
-unfoldable pub answerAs : Kind → List ℕ → ReaderAnswer
-answerAs k = answerBy (reading_of k)
+unfoldable pub answer_as : Kind → List ℕ → ReaderAnswer
+answer_as k = answer_by (reading_of k)
 
 -- one call, whole
-abbrev pub messageDue : List ℕ → ReaderAnswer
-messageDue body = answerAs (kindIn body) body
+abbrev pub message_due : List ℕ → ReaderAnswer
+message_due body = answer_as (kind_in body) body
 
 abbrev pub Reads : List ℕ → Read → Type 0
-Reads body answer = readerAnswer answer ≡ messageDue body
+Reads body answer = reader_answer answer ≡ message_due body
 
-abbrev pub carriedFits : Carried → List ℕ → Bool
-carriedFits (value f a) octets = fits f a
-carriedFits payload octets = uplinkFits octets
+abbrev pub carried_fits : Carried → List ℕ → Bool
+carried_fits (value f a) octets = fits f a
+carried_fits payload octets = uplink_fits octets
 
-abbrev pub carriedBody : Carried → List ℕ → List ℕ
-carriedBody (value f a) octets = body_of f a
-carriedBody payload octets = uplinkBody octets
+abbrev pub carried_body : Carried → List ℕ → List ℕ
+carried_body (value f a) octets = body_of f a
+carried_body payload octets = uplink_body octets
 
 -- every field is in its range and has no more bits than the body has for it
-unfoldable pub messageFits : Message → List ℕ → Bool
-messageFits m = carriedFits (carriedBy m)
+unfoldable pub message_fits : Message → List ℕ → Bool
+message_fits m = carried_fits (carried_by m)
 
-unfoldable pub messageBody : Message → List ℕ → List ℕ
-messageBody m = carriedBody (carriedBy m)
+unfoldable pub message_body : Message → List ℕ → List ℕ
+message_body m = carried_body (carried_by m)
 
 -- ---- an uplink's payload, which is no part of the message: the body without its first octet
-abbrev pub carriedPayload : Carried → List ℕ → List ℕ
-carriedPayload (value f a) body = []
-carriedPayload payload body = drop 1 body
+abbrev pub carried_payload : Carried → List ℕ → List ℕ
+carried_payload (value f a) body = []
+carried_payload payload body = drop 1 body
 
 -- of another message, and of a body that is refused, there is none
-abbrev pub payloadBy : ReaderAnswer → List ℕ → List ℕ
-payloadBy (refused number) body = []
-payloadBy (means message) body = carriedPayload (carriedBy message) body
+abbrev pub payload_by : ReaderAnswer → List ℕ → List ℕ
+payload_by (refused number) body = []
+payload_by (means message) body = carried_payload (carried_by message) body
 
 -- one call, whole: the body, and the octets that are given
 abbrev pub GivesPayload : List ℕ → List ℕ → Type 0
-GivesPayload body given = given ≡ payloadBy (messageDue body) body
+GivesPayload body given = given ≡ payload_by (message_due body) body

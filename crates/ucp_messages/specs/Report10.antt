@@ -1,12 +1,12 @@
 -- Messages 10 and 20, Ownship and Traffic report (document 01; 003, section 6.2.2). Assumes nothing.
 use Rattle.std.specs.Prelude.{true, [], ◌∷◌, ℕ}
-use Rattle.field_format.specs.Format.{unsigned, integerPart, Format, high, text, octet, number, bits}
+use Rattle.field_format.specs.Format.{unsigned, integer_part, Format, high, text, octet, number, bits}
 use Rattle.ucp_messages.specs.declared.Report.{Report}
 
 -- offset 0: ID; 1: alert, address type; 2: address; 5: latitude, signed; 8: longitude, signed; 11: altitude,
 -- miscellaneous; 13: NIC, NACp; 14: speed, vertical rate, signed, track; 18: emitter; 19: callsign; 27: emergency, spare
-abbrev pub reportFormat : ℕ → Format Report
-reportFormat id = record {
+abbrev pub report_format : ℕ → Format Report
+report_format id = record {
   head = id ∷ [];
   items =
       high
@@ -14,8 +14,8 @@ reportFormat id = record {
       ∷ bits 4 (λ r. r.address_type)
       ∷ [])
       ∷ high (bits 24 (λ r. r.address) ∷ [])
-      ∷ high (number integerPart 24 (λ r. r.latitude) ∷ [])
-      ∷ high (number integerPart 24 (λ r. r.longitude) ∷ [])
+      ∷ high (number integer_part 24 (λ r. r.latitude) ∷ [])
+      ∷ high (number integer_part 24 (λ r. r.longitude) ∷ [])
       ∷ high
       (bits 12 (λ r. r.altitude)
       ∷ bits 4 (λ r. r.miscellaneous)
@@ -26,7 +26,7 @@ reportFormat id = record {
       ∷ [])
       ∷ high
       (bits 12 (λ r. r.speed)
-      ∷ number integerPart 12 (λ r. r.vertical_rate)
+      ∷ number integer_part 12 (λ r. r.vertical_rate)
       ∷ number unsigned 8 (λ r. r.track)
       ∷ [])
       ∷ octet (λ r. r.emitter)

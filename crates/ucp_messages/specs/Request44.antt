@@ -4,8 +4,8 @@ use Rattle.field_format.specs.Format.{Format, octet}
 use Rattle.ucp_messages.specs.declared.Request.{Request}
 
 -- offset 0: ID; 1: version; 2: requested message ID
-abbrev pub requestFormat : Format Request
-requestFormat = record {
+abbrev pub request_format : Format Request
+request_format = record {
   head = 44 ∷ 2 ∷ [];
   items =
       octet (λ q. q.requested_id)

@@ -8,22 +8,22 @@ use Rattle.ucp_messages.specs.declared.report_10.Position.{Position}
 use Rattle.ucp_messages.specs.declared.report_10.Four.{Four}
 
 -- ---- runs of fields as octets
-abbrev pub heightOf : ℕ → ℕ → Two
-heightOf altitude miscellaneous =
+abbrev pub height_of : ℕ → ℕ → Two
+height_of altitude miscellaneous =
     let n = altitude * 16 + miscellaneous in
     record { high = n / 256; low = n % 256 }
 
-abbrev pub threeOf : ℕ → Three
-threeOf n = record { high = n / 65536; middle = n % 65536 / 256; low = n % 65536 % 256 }
+abbrev pub three_of : ℕ → Three
+three_of n = record { high = n / 65536; middle = n % 65536 / 256; low = n % 65536 % 256 }
 
 abbrev pub position_of : ℤ → ℤ → Position
 position_of latitude longitude = record {
-  latitude = threeOf (complement 8388608 latitude);
-  longitude = threeOf (complement 8388608 longitude);
+  latitude = three_of (complement 8388608 latitude);
+  longitude = three_of (complement 8388608 longitude);
 }
 
-abbrev pub motionOf : ℕ → ℤ → ℕ → Four
-motionOf speed rate track =
+abbrev pub motion_of : ℕ → ℤ → ℕ → Four
+motion_of speed rate track =
     let n = speed * 1048576 + (complement 2048 rate * 256 + track) in
     record {
       high = n / 16777216;

@@ -1,9 +1,9 @@
 // Message 45, Control.
 ghost use Rattle.std.specs.Prelude.{◌≡◌, length, get_or};
-ghost use Rattle.field_format.specs.Format.{valueIn, body_of, fits, Fitting};
+ghost use Rattle.field_format.specs.Format.{value_in, body_of, fits, Fitting};
 ghost use Rattle.ucp_messages.specs.Kinds.{StartsWith};
 ghost use Rattle.ucp_messages.specs.Messages.{Reads};
-ghost use Rattle.ucp_messages.specs.Control45.{controlFormat};
+ghost use Rattle.ucp_messages.specs.Control45.{control_format};
 ghost use Rattle.ucp_answers.specs.Writes.{WritesBody};
 
 use super::{Control, Message, Read};
@@ -11,7 +11,7 @@ use output_writing::Written;
 
 fn fields(body: &[u8]) -> Control
     requires { length body.now ≡ 18 }
-    ensures { result ≡ valueIn controlFormat body.now }
+    ensures { result ≡ value_in control_format body.now }
 {
     let state = field_layout::octet(body, 2);
     let from_6 = state % 128;
@@ -54,7 +54,7 @@ pub fn read(body: &[u8]) -> Read
 
 // Whether each field is in its range.
 fn in_range(control: Control) -> bool
-    ensures { result ≡ controlFormat.ranges control }
+    ensures { result ≡ control_format.ranges control }
 {
     let identity = field_layout::text_octets(control.identity);
     field_codes::is_squawk(control.squawk) & field_texts::is_padded(&identity)
@@ -62,15 +62,15 @@ fn in_range(control: Control) -> bool
 
 // Whether it also has no more bits than the body has for it.
 fn fits(control: Control) -> bool
-    ensures { result ≡ fits controlFormat control }
+    ensures { result ≡ fits control_format control }
 {
     in_range(control) & (control.air_ground < 4)
 }
 
 // Bits 7 to 0 of the octet at 2.
 fn state(control: Control) -> u8
-    requires { Fitting controlFormat control }
-    ensures { result ≡ get_or (body_of controlFormat control) 2 0 }
+    requires { Fitting control_format control }
+    ensures { result ≡ get_or (body_of control_format control) 2 0 }
 {
     let es_enabled = field_layout::bit(control.es_enabled);
     let mode_s = field_layout::bit(control.mode_s);
@@ -83,8 +83,8 @@ fn state(control: Control) -> u8
 }
 
 fn octets(control: Control) -> [u8; 18]
-    requires { Fitting controlFormat control }
-    ensures { result ≡ body_of controlFormat control }
+    requires { Fitting control_format control }
+    ensures { result ≡ body_of control_format control }
 {
     let state = state(control);
     let altitude = field_signed::bits_32(control.altitude);
@@ -114,7 +114,7 @@ fn octets(control: Control) -> [u8; 18]
 }
 
 pub fn write(control: Control, output: &mut [u8]) -> Written
-    ensures { WritesBody (fits controlFormat control) (body_of controlFormat control) output.old result output.new }
+    ensures { WritesBody (fits control_format control) (body_of control_format control) output.old result output.new }
 {
     if !fits(control) {
         return Written::Refused(refusals::FIELD);

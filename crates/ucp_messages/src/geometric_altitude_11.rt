@@ -1,9 +1,9 @@
 // Message 11, Ownship geometric altitude.
 ghost use Rattle.std.specs.Prelude.{◌≡◌, length};
-ghost use Rattle.field_format.specs.Format.{valueIn, body_of, fits};
+ghost use Rattle.field_format.specs.Format.{value_in, body_of, fits};
 ghost use Rattle.ucp_messages.specs.Kinds.{StartsWith};
 ghost use Rattle.ucp_messages.specs.Messages.{Reads};
-ghost use Rattle.ucp_messages.specs.GeometricAltitude11.{geometricFormat};
+ghost use Rattle.ucp_messages.specs.GeometricAltitude11.{geometric_format};
 ghost use Rattle.ucp_answers.specs.Writes.{WritesBody};
 
 use super::{GeometricAltitude, Message, Read};
@@ -11,7 +11,7 @@ use output_writing::Written;
 
 fn fields(body: &[u8]) -> GeometricAltitude
     requires { length body.now ≡ 5 }
-    ensures { result ≡ valueIn geometricFormat body.now }
+    ensures { result ≡ value_in geometric_format body.now }
 {
     GeometricAltitude {
         altitude: field_signed::signed_16(field_layout::big_16(body, 1)),
@@ -31,7 +31,7 @@ pub fn read(body: &[u8]) -> Read
 }
 
 fn octets(geometric: GeometricAltitude) -> [u8; 5]
-    ensures { result ≡ body_of geometricFormat geometric }
+    ensures { result ≡ body_of geometric_format geometric }
 {
     let altitude = field_signed::bits_16(geometric.altitude);
     let metrics = geometric.metrics;
@@ -45,7 +45,7 @@ fn octets(geometric: GeometricAltitude) -> [u8; 5]
 }
 
 pub fn write(geometric: GeometricAltitude, output: &mut [u8]) -> Written
-    ensures { WritesBody (fits geometricFormat geometric) (body_of geometricFormat geometric) output.old result output.new }
+    ensures { WritesBody (fits geometric_format geometric) (body_of geometric_format geometric) output.old result output.new }
 {
     let body = octets(geometric);
     ucp_answers::put(&body, output)

@@ -1,9 +1,9 @@
 // Message 0, Heartbeat.
 ghost use Rattle.std.specs.Prelude.{◌≡◌, length};
-ghost use Rattle.field_format.specs.Format.{valueIn, body_of, fits};
+ghost use Rattle.field_format.specs.Format.{value_in, body_of, fits};
 ghost use Rattle.ucp_messages.specs.Kinds.{StartsWith};
 ghost use Rattle.ucp_messages.specs.Messages.{Reads};
-ghost use Rattle.ucp_messages.specs.Heartbeat0.{heartbeatFormat};
+ghost use Rattle.ucp_messages.specs.Heartbeat0.{heartbeat_format};
 ghost use Rattle.ucp_answers.specs.Writes.{WritesBody};
 
 use super::{Heartbeat, Message, Read};
@@ -11,7 +11,7 @@ use output_writing::Written;
 
 fn fields(body: &[u8]) -> Heartbeat
     requires { length body.now ≡ 7 }
-    ensures { result ≡ valueIn heartbeatFormat body.now }
+    ensures { result ≡ value_in heartbeat_format body.now }
 {
     Heartbeat {
         status_1: field_layout::octet(body, 1),
@@ -33,7 +33,7 @@ pub fn read(body: &[u8]) -> Read
 }
 
 fn octets(heartbeat: Heartbeat) -> [u8; 7]
-    ensures { result ≡ body_of heartbeatFormat heartbeat }
+    ensures { result ≡ body_of heartbeat_format heartbeat }
 {
     let time_stamp = heartbeat.time_stamp;
     let counts = heartbeat.counts;
@@ -49,7 +49,7 @@ fn octets(heartbeat: Heartbeat) -> [u8; 7]
 }
 
 pub fn write(heartbeat: Heartbeat, output: &mut [u8]) -> Written
-    ensures { WritesBody (fits heartbeatFormat heartbeat) (body_of heartbeatFormat heartbeat) output.old result output.new }
+    ensures { WritesBody (fits heartbeat_format heartbeat) (body_of heartbeat_format heartbeat) output.old result output.new }
 {
     let body = octets(heartbeat);
     ucp_answers::put(&body, output)

@@ -1,9 +1,9 @@
 // Message 117, Initialization.
 ghost use Rattle.std.specs.Prelude.{◌≡◌, length};
-ghost use Rattle.field_format.specs.Format.{valueIn, body_of, fits, Fitting};
+ghost use Rattle.field_format.specs.Format.{value_in, body_of, fits, Fitting};
 ghost use Rattle.ucp_messages.specs.Kinds.{StartsWith};
 ghost use Rattle.ucp_messages.specs.Messages.{Reads};
-ghost use Rattle.ucp_messages.specs.Initialization117.{initializationFormat};
+ghost use Rattle.ucp_messages.specs.Initialization117.{initialization_format};
 ghost use Rattle.ucp_answers.specs.Writes.{WritesBody};
 
 use super::{Initialization, Message, Read};
@@ -11,7 +11,7 @@ use output_writing::Written;
 
 fn fields(body: &[u8]) -> Initialization
     requires { length body.now ≡ 19 }
-    ensures { result ≡ valueIn initializationFormat body.now }
+    ensures { result ≡ value_in initialization_format body.now }
 {
     let offsets = field_layout::octet(body, 18);
     Initialization {
@@ -49,7 +49,7 @@ pub fn read(body: &[u8]) -> Read
 
 // Whether each field is in its range.
 fn in_range(initialization: Initialization) -> bool
-    ensures { result ≡ initializationFormat.ranges initialization }
+    ensures { result ≡ initialization_format.ranges initialization }
 {
     let callsign = field_layout::text_octets(initialization.callsign);
     field_codes::is_emitter(initialization.emitter)
@@ -59,7 +59,7 @@ fn in_range(initialization: Initialization) -> bool
 
 // Whether it also has no more bits than the body has for it.
 fn fits(initialization: Initialization) -> bool
-    ensures { result ≡ fits initializationFormat initialization }
+    ensures { result ≡ fits initialization_format initialization }
 {
     in_range(initialization)
         & (initialization.address < 16777216)
@@ -68,8 +68,8 @@ fn fits(initialization: Initialization) -> bool
 }
 
 fn octets(initialization: Initialization) -> [u8; 19]
-    requires { Fitting initializationFormat initialization }
-    ensures { result ≡ body_of initializationFormat initialization }
+    requires { Fitting initialization_format initialization }
+    ensures { result ≡ body_of initialization_format initialization }
 {
     let address = initialization.address;
     let text = initialization.callsign;
@@ -97,7 +97,7 @@ fn octets(initialization: Initialization) -> [u8; 19]
 }
 
 pub fn write(initialization: Initialization, output: &mut [u8]) -> Written
-    ensures { WritesBody (fits initializationFormat initialization) (body_of initializationFormat initialization) output.old result output.new }
+    ensures { WritesBody (fits initialization_format initialization) (body_of initialization_format initialization) output.old result output.new }
 {
     if !fits(initialization) {
         return Written::Refused(refusals::FIELD);

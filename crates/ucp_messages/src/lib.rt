@@ -11,8 +11,8 @@ pub mod uplink_7;
 
 ghost use Rattle.std.specs.Prelude.{◌≡◌, length, get_or};
 ghost use Rattle.ucp_answers.specs.Writes.{WritesBody};
-ghost use Rattle.ucp_messages.specs.Kinds.{isKnown, knownIds, NoneOf, NamedBy};
-ghost use Rattle.ucp_messages.specs.Messages.{Reads, GivesPayload, messageFits, messageBody};
+ghost use Rattle.ucp_messages.specs.Kinds.{is_known, known_ids, NoneOf, NamedBy};
+ghost use Rattle.ucp_messages.specs.Messages.{Reads, GivesPayload, message_fits, message_body};
 
 use field_layout::Text;
 use output_writing::Written;
@@ -134,7 +134,7 @@ pub enum Message {
     Initialization(Initialization),
 }
 
-// A message reader's answer. `readerAnswer` of specs/Messages.antt gives the paper's number and values of each case.
+// A message reader's answer. `reader_answer` of specs/Messages.antt gives the paper's number and values of each case.
 #[derive(Drop)]
 pub enum Read {
     // The body is this message. Of an uplink, the payload is the body without its first octet.
@@ -163,7 +163,7 @@ pub fn kind_of(id: u8) -> Kind
 
 // Whether a kind is a known one.
 pub fn is_known(kind: Kind) -> bool
-    ensures { result ≡ isKnown kind }
+    ensures { result ≡ is_known kind }
 {
     match kind {
         Kind::Heartbeat => true,
@@ -188,7 +188,7 @@ fn read_nothing(body: &[u8]) -> Read
 
 // Nor is one with an ID that no kind has.
 fn read_unknown(body: &[u8]) -> Read
-    requires { NoneOf knownIds (get_or body.now 0 0) }
+    requires { NoneOf known_ids (get_or body.now 0 0) }
     ensures { Reads body.now result }
 {
     Read::Refused(refusals::UNKNOWN_ID)
@@ -230,7 +230,7 @@ pub fn uplink_payload(body: &[u8]) -> &[u8]
 // Writes a message's body at the start of output. Only an uplink takes the payload. Refusals: 13, a field outside its range or
 // too wide for its bits; 8, an output shorter than the body. On a refusal nothing is written.
 pub fn write_message(message: Message, payload: &[u8], output: &mut [u8]) -> Written
-    ensures { WritesBody (messageFits message payload.now) (messageBody message payload.now) output.old result output.new }
+    ensures { WritesBody (message_fits message payload.now) (message_body message payload.now) output.old result output.new }
 {
     match message {
         Message::Heartbeat(heartbeat) => heartbeat_0::write(heartbeat, output),

@@ -1,11 +1,11 @@
 // Messages 10 and 20, Ownship and Traffic report: they differ in the ID alone.
 ghost use Rattle.std.specs.Prelude.{◌≡◌, length, ◌+◌, ◌*◌, ◌<◌};
 ghost use Rattle.field_signed.specs.Signed.{complement};
-ghost use Rattle.field_format.specs.Format.{valueIn, body_of, fits, Fitting};
+ghost use Rattle.field_format.specs.Format.{value_in, body_of, fits, Fitting};
 ghost use Rattle.ucp_messages.specs.Kinds.{StartsWith};
 ghost use Rattle.ucp_messages.specs.Messages.{Reads};
-ghost use Rattle.ucp_messages.specs.Report10.{reportFormat};
-ghost use Rattle.ucp_messages.specs.Steps.{heightOf, threeOf, position_of, motionOf};
+ghost use Rattle.ucp_messages.specs.Report10.{report_format};
+ghost use Rattle.ucp_messages.specs.Steps.{height_of, three_of, position_of, motion_of};
 ghost use Rattle.ucp_answers.specs.Writes.{WritesBody};
 
 use super::{Message, Read, Report};
@@ -13,7 +13,7 @@ use output_writing::Written;
 
 fn fields(body: &[u8]) -> Report
     requires { length body.now ≡ 28 }
-    ensures { result ≡ valueIn (reportFormat 10) body.now }
+    ensures { result ≡ value_in (report_format 10) body.now }
 {
     let first = field_layout::octet(body, 1);
     let height = field_layout::big_16(body, 11);
@@ -64,7 +64,7 @@ pub fn read_traffic(body: &[u8]) -> Read
 
 // Whether each field has no more bits than the body has for it.
 fn fits(report: Report) -> bool
-    ensures { result ≡ fits (reportFormat 10) report }
+    ensures { result ≡ fits (report_format 10) report }
 {
     let latitude = field_signed::holds_24(report.latitude);
     let longitude = field_signed::holds_24(report.longitude);
@@ -102,7 +102,7 @@ struct Two {
 
 fn height_of(altitude: u16, miscellaneous: u8) -> Two
     requires { (altitude < 4096) × (miscellaneous < 16) }
-    ensures { result ≡ heightOf altitude miscellaneous }
+    ensures { result ≡ height_of altitude miscellaneous }
 {
     let height = altitude * 16 + miscellaneous as u16;
     Two {
@@ -120,7 +120,7 @@ struct Three {
 
 fn three_of(number: u32) -> Three
     requires { number < 16777216 }
-    ensures { result ≡ threeOf number }
+    ensures { result ≡ three_of number }
 {
     Three {
         high: (number / 65536) as u8,
@@ -155,7 +155,7 @@ struct Four {
 
 fn motion_of(speed: u16, vertical_rate: i16, track: u8) -> Four
     requires { (speed < 4096) × (complement 2048 vertical_rate < 4096) }
-    ensures { result ≡ motionOf speed vertical_rate track }
+    ensures { result ≡ motion_of speed vertical_rate track }
 {
     let rate = field_signed::bits_12(vertical_rate) as u32;
     let motion = speed as u32 * 1048576 + (rate * 256 + track as u32);
@@ -168,8 +168,8 @@ fn motion_of(speed: u16, vertical_rate: i16, track: u8) -> Four
 }
 
 fn octets(id: u8, report: Report) -> [u8; 28]
-    requires { Fitting (reportFormat id) report }
-    ensures { result ≡ body_of (reportFormat id) report }
+    requires { Fitting (report_format id) report }
+    ensures { result ≡ body_of (report_format id) report }
 {
     let address = three_of(report.address);
     let position = position_of(report.latitude, report.longitude);
@@ -208,7 +208,7 @@ fn octets(id: u8, report: Report) -> [u8; 28]
 }
 
 fn write(id: u8, report: Report, output: &mut [u8]) -> Written
-    ensures { WritesBody (fits (reportFormat id) report) (body_of (reportFormat id) report) output.old result output.new }
+    ensures { WritesBody (fits (report_format id) report) (body_of (report_format id) report) output.old result output.new }
 {
     if !fits(report) {
         return Written::Refused(refusals::FIELD);
@@ -219,13 +219,13 @@ fn write(id: u8, report: Report, output: &mut [u8]) -> Written
 
 // Two writers rather than one that takes the ID: no other can then be written.
 pub fn write_ownship(report: Report, output: &mut [u8]) -> Written
-    ensures { WritesBody (fits (reportFormat 10) report) (body_of (reportFormat 10) report) output.old result output.new }
+    ensures { WritesBody (fits (report_format 10) report) (body_of (report_format 10) report) output.old result output.new }
 {
     write(10, report, output)
 }
 
 pub fn write_traffic(report: Report, output: &mut [u8]) -> Written
-    ensures { WritesBody (fits (reportFormat 20) report) (body_of (reportFormat 20) report) output.old result output.new }
+    ensures { WritesBody (fits (report_format 20) report) (body_of (report_format 20) report) output.old result output.new }
 {
     write(20, report, output)
 }

@@ -1,9 +1,9 @@
 // Message 44, Message Request.
 ghost use Rattle.std.specs.Prelude.{◌≡◌, length};
-ghost use Rattle.field_format.specs.Format.{valueIn, body_of, fits};
+ghost use Rattle.field_format.specs.Format.{value_in, body_of, fits};
 ghost use Rattle.ucp_messages.specs.Kinds.{StartsWith};
 ghost use Rattle.ucp_messages.specs.Messages.{Reads};
-ghost use Rattle.ucp_messages.specs.Request44.{requestFormat};
+ghost use Rattle.ucp_messages.specs.Request44.{request_format};
 ghost use Rattle.ucp_answers.specs.Writes.{WritesBody};
 
 use super::{Message, Read, Request};
@@ -11,7 +11,7 @@ use output_writing::Written;
 
 fn fields(body: &[u8]) -> Request
     requires { length body.now ≡ 3 }
-    ensures { result ≡ valueIn requestFormat body.now }
+    ensures { result ≡ value_in request_format body.now }
 {
     Request {
         requested_id: field_layout::octet(body, 2),
@@ -33,13 +33,13 @@ pub fn read(body: &[u8]) -> Read
 }
 
 fn octets(request: Request) -> [u8; 3]
-    ensures { result ≡ body_of requestFormat request }
+    ensures { result ≡ body_of request_format request }
 {
     [44, 2, request.requested_id]
 }
 
 pub fn write(request: Request, output: &mut [u8]) -> Written
-    ensures { WritesBody (fits requestFormat request) (body_of requestFormat request) output.old result output.new }
+    ensures { WritesBody (fits request_format request) (body_of request_format request) output.old result output.new }
 {
     let body = octets(request);
     ucp_answers::put(&body, output)

@@ -1,6 +1,6 @@
 // Message 7, Uplink: the payload stays in the caller's slice.
 ghost use Rattle.std.specs.Prelude.{◌≡◌};
-ghost use Rattle.ucp_messages.specs.Uplink7.{uplinkFits, uplinkBody};
+ghost use Rattle.ucp_messages.specs.Uplink7.{uplink_fits, uplink_body};
 ghost use Rattle.ucp_messages.specs.Kinds.{StartsWith};
 ghost use Rattle.ucp_messages.specs.Messages.{Reads};
 ghost use Rattle.ucp_answers.specs.Writes.{WritesBody};
@@ -20,7 +20,7 @@ pub(crate) fn read(body: &[u8]) -> Read
 }
 
 pub fn write(payload: &[u8], output: &mut [u8]) -> Written
-    ensures { WritesBody (uplinkFits payload.now) (uplinkBody payload.now) output.old result output.new }
+    ensures { WritesBody (uplink_fits payload.now) (uplink_body payload.now) output.old result output.new }
 {
     if payload.len() != 435 {
         return Written::Refused(refusals::FIELD);

@@ -10,24 +10,24 @@ pub data ReceiverAnswer : Type 0 where
   refusal : ℕ → ReceiverAnswer
   body : ℕ → ReceiverAnswer
 
-abbrev pub receiverAnswer : Answer → ReceiverAnswer
-receiverAnswer Nothing = nothing
-receiverAnswer (Refused number) = refusal number
-receiverAnswer (Delivered octets) = body octets
+abbrev pub receiver_answer : Answer → ReceiverAnswer
+receiver_answer Nothing = nothing
+receiver_answer (Refused number) = refusal number
+receiver_answer (Delivered octets) = body octets
 
-abbrev pub answerFor : Verdict → ReceiverAnswer
-answerFor silent = nothing
-answerFor (refused number) = refusal number
-answerFor (delivered octets) = body (length octets)
+abbrev pub answer_for : Verdict → ReceiverAnswer
+answer_for silent = nothing
+answer_for (refused number) = refusal number
+answer_for (delivered octets) = body (length octets)
 
 -- the verdict that an answer stands for, while these octets hold the body
-abbrev pub verdictOf : Answer → List ℕ → Verdict
-verdictOf Nothing store = silent
-verdictOf (Refused number) store = refused number
-verdictOf (Delivered octets) store = delivered (take octets store)
+abbrev pub verdict_of : Answer → List ℕ → Verdict
+verdict_of Nothing store = silent
+verdict_of (Refused number) store = refused number
+verdict_of (Delivered octets) store = delivered (take octets store)
 
 -- a body is put at the start of the output; a refusal, and a call without an answer, change nothing in it
-abbrev pub outputAtFlag : Verdict → List ℕ → List ℕ
-outputAtFlag silent output = output
-outputAtFlag (refused number) output = output
-outputAtFlag (delivered octets) output = octets ++ drop (length octets) output
+abbrev pub output_at_flag : Verdict → List ℕ → List ℕ
+output_at_flag silent output = output
+output_at_flag (refused number) output = output
+output_at_flag (delivered octets) output = octets ++ drop (length octets) output

@@ -3,11 +3,11 @@
 use Rattle.std.specs.Prelude.{◌≡◌, ℕ, ◌+◌, cond, List, length, replicate, ◌==◌, nat_lt, slice_set}
 use Rattle.refusals.specs.Numbers as because
 use Rattle.ucp_frame.specs.Frame.{flag, escape}
-use Rattle.ucp_frame.specs.Stretch.{Verdict, silent, refused, storeOctets}
-use Rattle.ucp_receiver.specs.Answers.{receiverAnswer, answerFor, outputAtFlag}
-use Rattle.ucp_receiver.specs.Closing.{closedStretch}
+use Rattle.ucp_frame.specs.Stretch.{Verdict, silent, refused, store_octets}
+use Rattle.ucp_receiver.specs.Answers.{receiver_answer, answer_for, output_at_flag}
+use Rattle.ucp_receiver.specs.Closing.{closed_stretch}
 use Rattle.ucp_receiver.specs.declared.Counts.{Counts}
-use Rattle.ucp_receiver.specs.Account.{zeroCounts, countedFlag, countedSkipped, countedOpen, repeated}
+use Rattle.ucp_receiver.specs.Account.{zero_counts, counted_flag, counted_skipped, counted_open, repeated}
 use Rattle.ucp_receiver.specs.declared.Phase.{Phase}
 use Rattle.ucp_receiver.specs.declared.Phase.TheVariants.{Hunting, Reading, Escape, BadEscape, TooLong}
 use Rattle.ucp_receiver.specs.declared.Rest.{Rest}
@@ -22,84 +22,84 @@ pub record State : Type 0 where
 abbrev pub state_of : Rest → List ℕ → State
 state_of rest store = record { rest = rest; store = store }
 
-abbrev pub noOctets : List ℕ
-noOctets = replicate storeOctets 0
+abbrev pub no_octets : List ℕ
+no_octets = replicate store_octets 0
 
 -- at the start, and after every flag
-abbrev pub freshRest : Rest
-freshRest = record { phase = Hunting; stored = 0 }
+abbrev pub fresh_rest : Rest
+fresh_rest = record { phase = Hunting; stored = 0 }
 
-abbrev pub freshRecord : Record
-freshRecord = record { rest = freshRest; counts = zeroCounts }
+abbrev pub fresh_record : Record
+fresh_record = record { rest = fresh_rest; counts = zero_counts }
 
-abbrev pub flagRest : Rest
-flagRest = record { phase = Reading; stored = 0 }
+abbrev pub flag_rest : Rest
+flag_rest = record { phase = Reading; stored = 0 }
 
 abbrev pub fresh : State
-fresh = record { rest = freshRest; store = noOctets }
+fresh = record { rest = fresh_rest; store = no_octets }
 
-abbrev pub afterFlag : State
-afterFlag = record { rest = flagRest; store = noOctets }
+abbrev pub after_flag : State
+after_flag = record { rest = flag_rest; store = no_octets }
 
 -- ---- an octet other than the flag
 
-abbrev pub inPhase : Phase → State → State
-inPhase p s = record { rest = record { phase = p; stored = s.rest.stored }; store = s.store }
+abbrev pub in_phase : Phase → State → State
+in_phase p s = record { rest = record { phase = p; stored = s.rest.stored }; store = s.store }
 
 -- an unstuffed octet is stored behind the others; the 439th is a fault
 unfoldable pub storing : ℕ → State → State
 storing x s =
-    cond (nat_lt s.rest.stored storeOctets)
+    cond (nat_lt s.rest.stored store_octets)
     (record { rest = record { phase = Reading; stored = s.rest.stored + 1 }; store = slice_set s.store s.rest.stored x })
-    (inPhase TooLong s)
+    (in_phase TooLong s)
 
-abbrev pub advancedIn : Phase → ℕ → State → State
-advancedIn Hunting x s = s
-advancedIn Reading x s = cond (x == escape) (inPhase Escape s) (storing x s)
-advancedIn Escape x s = cond (x == 0x5E) (storing flag s) (cond (x == 0x5D) (storing escape s) (inPhase BadEscape s))
-advancedIn BadEscape x s = s
-advancedIn TooLong x s = s
+abbrev pub advanced_in : Phase → ℕ → State → State
+advanced_in Hunting x s = s
+advanced_in Reading x s = cond (x == escape) (in_phase Escape s) (storing x s)
+advanced_in Escape x s = cond (x == 0x5E) (storing flag s) (cond (x == 0x5D) (storing escape s) (in_phase BadEscape s))
+advanced_in BadEscape x s = s
+advanced_in TooLong x s = s
 
 -- ---- the flag
 
 abbrev pub closed_in : Phase → State → ℕ → Verdict
 closed_in Hunting s room = silent
-closed_in Reading s room = closedStretch s.rest.stored s.store room
-closed_in Escape s room = refused because.escapeBeforeFlag
-closed_in BadEscape s room = refused because.badEscape
-closed_in TooLong s room = refused because.tooLong
+closed_in Reading s room = closed_stretch s.rest.stored s.store room
+closed_in Escape s room = refused because.escape_before_flag
+closed_in BadEscape s room = refused because.bad_escape
+closed_in TooLong s room = refused because.too_long
 
 -- ---- one octet
 
-unfoldable pub stateAfter : State → ℕ → State
-stateAfter s x = cond (x == flag) afterFlag (advancedIn s.rest.phase x s)
+unfoldable pub state_after : State → ℕ → State
+state_after s x = cond (x == flag) after_flag (advanced_in s.rest.phase x s)
 
-unfoldable pub verdictDue : State → ℕ → ℕ → Verdict
-verdictDue s x room = cond (x == flag) (closed_in s.rest.phase s room) silent
+unfoldable pub verdict_due : State → ℕ → ℕ → Verdict
+verdict_due s x room = cond (x == flag) (closed_in s.rest.phase s room) silent
 
 -- ---- the byte account
 
 -- at an octet other than the flag, by the phase that it meets
-abbrev pub countedOctet : Phase → Counts → Counts
-countedOctet Hunting = countedSkipped
-countedOctet Reading = countedOpen
-countedOctet Escape = countedOpen
-countedOctet BadEscape = countedOpen
-countedOctet TooLong = countedOpen
+abbrev pub counted_octet : Phase → Counts → Counts
+counted_octet Hunting = counted_skipped
+counted_octet Reading = counted_open
+counted_octet Escape = counted_open
+counted_octet BadEscape = counted_open
+counted_octet TooLong = counted_open
 
 -- at n such octets, each in this phase
-abbrev pub countedBy : Phase → ℕ → Counts → Counts
-countedBy p n c = repeated (countedOctet p) n c
+abbrev pub counted_by : Phase → ℕ → Counts → Counts
+counted_by p n c = repeated (counted_octet p) n c
 
-unfoldable pub countsAfter : Counts → State → ℕ → ℕ → Counts
-countsAfter c s x room = cond (x == flag) (countedFlag (closed_in s.rest.phase s room) c) (countedOctet s.rest.phase c)
+unfoldable pub counts_after : Counts → State → ℕ → ℕ → Counts
+counts_after c s x room = cond (x == flag) (counted_flag (closed_in s.rest.phase s room) c) (counted_octet s.rest.phase c)
 
 -- ---- the call
 
 -- one call, whole: the record, the octet and the output as at entry; what is given back, the store and the output as at return
 pub record Receives (receiver : Record) (store : List ℕ) (octet : ℕ) (output : List ℕ)
-    (given : Received) (storeAfter outputThen : List ℕ) : Type 0 where
-  pub state : state_of given.receiver.rest storeAfter ≡ stateAfter (state_of receiver.rest store) octet
-  pub account : given.receiver.counts ≡ countsAfter receiver.counts (state_of receiver.rest store) octet (length output)
-  pub answers : receiverAnswer given.answer ≡ answerFor (verdictDue (state_of receiver.rest store) octet (length output))
-  pub puts : outputThen ≡ outputAtFlag (verdictDue (state_of receiver.rest store) octet (length output)) output
+    (given : Received) (store_after output_then : List ℕ) : Type 0 where
+  pub state : state_of given.receiver.rest store_after ≡ state_after (state_of receiver.rest store) octet
+  pub account : given.receiver.counts ≡ counts_after receiver.counts (state_of receiver.rest store) octet (length output)
+  pub answers : receiver_answer given.answer ≡ answer_for (verdict_due (state_of receiver.rest store) octet (length output))
+  pub puts : output_then ≡ output_at_flag (verdict_due (state_of receiver.rest store) octet (length output)) output

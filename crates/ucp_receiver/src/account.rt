@@ -1,13 +1,13 @@
 // The byte account: what a flag, and octets other than the flag, add to it.
 ghost use Rattle.std.specs.Prelude.{◌≡◌, ℕ, ◌%◌, ◌^◌, List};
-ghost use Rattle.ucp_receiver.specs.Answers.{verdictOf};
-ghost use Rattle.ucp_receiver.specs.Account.{zeroCounts, countedFlag, countedSkipped, countedOpen, repeated};
+ghost use Rattle.ucp_receiver.specs.Answers.{verdict_of};
+ghost use Rattle.ucp_receiver.specs.Account.{zero_counts, counted_flag, counted_skipped, counted_open, repeated};
 
 use super::{Answer, Counts};
 
 // At the start.
 pub(crate) fn zero_counts() -> Counts
-    ensures { result ≡ zeroCounts }
+    ensures { result ≡ zero_counts }
 {
     Counts {
         flags: 0,
@@ -20,7 +20,7 @@ pub(crate) fn zero_counts() -> Counts
 
 // At a flag, by the answer.
 pub(crate) fn count_flag(counts: Counts, answer: Answer) -> Counts
-    ensures { (store : List ℕ) → result ≡ countedFlag (verdictOf answer store) counts }
+    ensures { (store : List ℕ) → result ≡ counted_flag (verdict_of answer store) counts }
 {
     let flags = std::num::wrapping_add_u32(counts.flags, 1);
     match answer {
@@ -57,7 +57,7 @@ fn rounded(n: usize) -> u32
 
 // n octets before the first flag.
 pub(crate) fn count_skipped(counts: Counts, n: usize) -> Counts
-    ensures { result ≡ repeated countedSkipped n counts }
+    ensures { result ≡ repeated counted_skipped n counts }
 {
     Counts {
         flags: counts.flags,
@@ -70,7 +70,7 @@ pub(crate) fn count_skipped(counts: Counts, n: usize) -> Counts
 
 // n octets behind a flag.
 pub(crate) fn count_open(counts: Counts, n: usize) -> Counts
-    ensures { result ≡ repeated countedOpen n counts }
+    ensures { result ≡ repeated counted_open n counts }
 {
     Counts {
         flags: counts.flags,

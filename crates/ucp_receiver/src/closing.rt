@@ -1,8 +1,8 @@
 // The flag that closes a stretch without a fault: the answer that is due by the stored octets, and the body put out where it is
 // one.
 ghost use Rattle.std.specs.Prelude.{◌≡◌, ◌+◌, ◌*◌, ◌<◌, ◌≤◌, ◌++◌, length, take, drop, slice_index};
-ghost use Rattle.ucp_frame.specs.Stretch.{atFlag};
-ghost use Rattle.ucp_receiver.specs.Closing.{closedStretch, Closes};
+ghost use Rattle.ucp_frame.specs.Stretch.{at_flag};
+ghost use Rattle.ucp_receiver.specs.Closing.{closed_stretch, Closes};
 ghost use Rattle.ucp_receiver.specs.Steps.{Judges};
 
 use super::{Answer, Store};
@@ -24,7 +24,7 @@ fn check_sent(store: &[u8], at: usize) -> u16
 // Refusals 4, 5 and 6 in their order, or how long the body is that is due.
 fn judge(store: &[u8], stored: usize, room: usize) -> Answer
     requires { stored ≤ length store.now }
-    ensures { Judges result store.now room (atFlag (take stored store.now) room) }
+    ensures { Judges result store.now room (at_flag (take stored store.now) room) }
 {
     if stored < 3 {
         return Answer::Refused(refusals::TOO_SHORT);
@@ -43,7 +43,7 @@ fn judge(store: &[u8], stored: usize, room: usize) -> Answer
 
 // A stretch without a fault up to its flag. `stored` is over 438 in no record that a fresh one leads to.
 fn judge_stretch(store: &Store, stored: usize, room: usize) -> Answer
-    ensures { Judges result store.now room (closedStretch stored store.now room) }
+    ensures { Judges result store.now room (closed_stretch stored store.now room) }
 {
     if stored == 0 {
         return Answer::Nothing;
@@ -68,7 +68,7 @@ fn deliver(store: &[u8], n: usize, output: &mut [u8])
 
 // The answer at the flag, with the body put out where one is due.
 pub(crate) fn close_stretch(store: &Store, stored: usize, output: &mut [u8]) -> Answer
-    ensures { Closes result store.now output.old output.new (closedStretch stored store.now (length output.old)) }
+    ensures { Closes result store.now output.old output.new (closed_stretch stored store.now (length output.old)) }
 {
     let answer = judge_stretch(store, stored, output.len());
     match answer {

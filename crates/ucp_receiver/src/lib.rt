@@ -46,7 +46,7 @@ pub struct Received {
     pub answer: Answer,
 }
 
-// The receiver's answer to a call. `receiverAnswer` of specs/Answers.antt gives the paper's number and values of each case.
+// The receiver's answer to a call. `receiver_answer` of specs/Answers.antt gives the paper's number and values of each case.
 #[derive(Drop)]
 pub enum Answer {
     // No answer is due.

@@ -2,7 +2,7 @@
 // comes back by value.
 ghost use Rattle.std.specs.Prelude.{◌≡◌, length};
 ghost use Rattle.ucp_receiver.specs.Closing.{Closes};
-ghost use Rattle.ucp_receiver.specs.Octet.{Receives, storing, advancedIn, closed_in, countedBy, freshRecord, state_of};
+ghost use Rattle.ucp_receiver.specs.Octet.{Receives, storing, advanced_in, closed_in, counted_by, fresh_record, state_of};
 ghost use Rattle.ucp_receiver.specs.Steps.{Advances};
 
 use super::{Answer, Counts, Phase, Received, Record, Rest, Store};
@@ -30,7 +30,7 @@ fn put(rest: Rest, store: &mut Store, octet: u8) -> Rest
 
 // The octet behind an escape.
 fn unescape(rest: Rest, store: &mut Store, octet: u8) -> Rest
-    ensures { state_of result store.new ≡ advancedIn Phase.Escape octet (state_of rest store.old) }
+    ensures { state_of result store.new ≡ advanced_in Phase.Escape octet (state_of rest store.old) }
 {
     if octet == 0x5E {
         put(rest, store, 0x7E)
@@ -46,7 +46,7 @@ fn unescape(rest: Rest, store: &mut Store, octet: u8) -> Rest
 
 // Any octet other than the flag.
 fn advance(rest: Rest, store: &mut Store, octet: u8) -> Rest
-    ensures { state_of result store.new ≡ advancedIn rest.phase octet (state_of rest store.old) }
+    ensures { state_of result store.new ≡ advanced_in rest.phase octet (state_of rest store.old) }
 {
     let phase = rest.phase;
     match phase {
@@ -88,7 +88,7 @@ fn close(rest: Rest, store: &Store, output: &mut [u8]) -> Answer
 
 // n octets other than the flag, by the phase that they meet.
 pub(crate) fn count_octets(counts: Counts, phase: Phase, n: usize) -> Counts
-    ensures { result ≡ countedBy phase n counts }
+    ensures { result ≡ counted_by phase n counts }
 {
     match phase {
         Phase::Hunting => super::account::count_skipped(counts, n),
@@ -151,7 +151,7 @@ pub fn receive(receiver: Record, store: &mut Store, octet: u8, output: &mut [u8]
 // ---- the record at the start: this, and the store [0; 438]
 
 pub fn fresh_record() -> Record
-    ensures { result ≡ freshRecord }
+    ensures { result ≡ fresh_record }
 {
     Record {
         rest: Rest {

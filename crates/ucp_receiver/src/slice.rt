@@ -1,9 +1,9 @@
 // The receiver by the slice: what `receive` does octet by octet, up to and including the octet that brings the next answer.
-ghost use Rattle.ucp_frame.specs.Stretch.{storeOctets};
+ghost use Rattle.ucp_frame.specs.Stretch.{store_octets};
 ghost use Rattle.std.specs.Prelude.{◌≡◌, ℕ, ◌+◌, ◌<◌, ◌≤◌, List, length};
 ghost use Rattle.ucp_receiver.specs.Octet.{Receives};
 ghost use Rattle.ucp_receiver.specs.Slice.{Takes};
-ghost use Rattle.ucp_receiver.specs.Steps.{PutsPlain, NoFlag, Ignores, Passes, isAnswer, Turns};
+ghost use Rattle.ucp_receiver.specs.Steps.{PutsPlain, NoFlag, Ignores, Passes, is_answer, Turns};
 
 use super::{Answer, Phase, Received, Record, Rest, Store, Taken};
 
@@ -16,8 +16,8 @@ struct Passed {
 
 // How many octets there is room for in the store and that the slice has.
 fn most_plain(stored: usize, line: &[u8], from: usize) -> usize
-    requires { (stored ≤ storeOctets) × (from ≤ length line.now) }
-    ensures { (stored + result ≤ storeOctets) × (from + result ≤ length line.now) }
+    requires { (stored ≤ store_octets) × (from ≤ length line.now) }
+    ensures { (stored + result ≤ store_octets) × (from + result ≤ length line.now) }
 {
     let room = super::STORE_OCTETS - stored;
     let left = line.len() - from;
@@ -26,7 +26,7 @@ fn most_plain(stored: usize, line: &[u8], from: usize) -> usize
 
 // The first of these octets, eight at a time, up to eight of which one may be a flag or an escape: how many.
 fn put_words(store: &mut Store, stored: usize, line: &[u8], from: usize, most: usize) -> usize
-    requires { (stored + most ≤ storeOctets) × (from + most ≤ length line.now) }
+    requires { (stored + most ≤ store_octets) × (from + most ≤ length line.now) }
     ensures { (result ≤ most) × PutsPlain store.old stored line.now from result store.new }
 {
     let mut n = 0;
@@ -45,7 +45,7 @@ fn put_words(store: &mut Store, stored: usize, line: &[u8], from: usize, most: u
 // Octets that are neither flag nor escape are stored as they are, up to the first other one: how many. Apart from the step
 // of `receive`, so that its loop is short.
 fn put_plain(store: &mut Store, stored: usize, line: &[u8], from: usize) -> usize
-    requires { (stored ≤ storeOctets) × (from ≤ length line.now) }
+    requires { (stored ≤ store_octets) × (from ≤ length line.now) }
     ensures { PutsPlain store.old stored line.now from result store.new }
 {
     let most = most_plain(stored, line, from);
@@ -178,7 +178,7 @@ fn turn(receiver: Record, store: &mut Store, line: &[u8], from: usize, output: &
 }
 
 fn answered(answer: Answer) -> bool
-    ensures { result ≡ isAnswer answer }
+    ensures { result ≡ is_answer answer }
 {
     match answer {
         Answer::Nothing => false,

@@ -5,38 +5,38 @@ use Prim.Native.Nat.{ℕ, zero, suc, ◌-◌, ◌/◌, ◌%◌, ◌<◌, ◌≤�
 use native.Mathlib.Nat.{add-zero}
 use native.Mathlib.Omega.{arith}
 use lib.Pow.{shr-shr}
-use Rattle.field_words.specs.Words.{octetsUp}
+use Rattle.field_words.specs.Words.{octets_up}
 use Rattle.ucp_frame.specs.Frame.{escaped, stuffed}
-use Rattle.ucp_frame.proofs.Stuffing.{stuffed-append}
+use Rattle.ucp_frame.proofs.Stuffing.{stuffed_append}
 use Rattle.output_writing.proofs.ToPut.{ToPut}
 
 -- four octets, and four
-pub number-halves : (word : ℕ) → stuffed (octetsUp 8 word) ≡ stuffed (octetsUp 4 word) ++ stuffed (octetsUp 4 (word / 4294967296))
-unfolding octetsUp
-number-halves word =
+pub number_halves : (word : ℕ) → stuffed (octets_up 8 word) ≡ stuffed (octets_up 4 word) ++ stuffed (octets_up 4 (word / 4294967296))
+unfolding octets_up
+number_halves word =
     let upper : word / 256 / 256 / 256 / 256 ≡ word / 4294967296 =
     ap (λ (n : ℕ). n / 256 / 256) (shr-shr word 8 8) ∙ ap (λ (n : ℕ). n / 256) (shr-shr word 16 8) ∙ shr-shr word 24 8 in
-    stuffed-append (octetsUp 4 word) (octetsUp 4 (word / 256 / 256 / 256 / 256))
-    ∙ ap (λ (n : ℕ). stuffed (octetsUp 4 word) ++ stuffed (octetsUp 4 n)) upper
+    stuffed_append (octets_up 4 word) (octets_up 4 (word / 256 / 256 / 256 / 256))
+    ∙ ap (λ (n : ℕ). stuffed (octets_up 4 word) ++ stuffed (octets_up 4 n)) upper
 
 -- one octet, and the others
-pub number-first : (left word : ℕ) → 0 < left
-    → stuffed (octetsUp left word) ≡ escaped (word % 256) ++ stuffed (octetsUp (left - 1) (word / 256))
-unfolding stuffed octetsUp
-number-first zero word h = absurd (omega arith)
-number-first (suc n) word h =
+pub number_first : (left word : ℕ) → 0 < left
+    → stuffed (octets_up left word) ≡ escaped (word % 256) ++ stuffed (octets_up (left - 1) (word / 256))
+unfolding stuffed octets_up
+number_first zero word h = absurd (omega arith)
+number_first (suc n) word h =
     let e : suc n - 1 ≡ n = omega arith in
-    ap (λ (k : ℕ). escaped (word % 256) ++ stuffed (octetsUp k (word / 256))) (sym e)
+    ap (λ (k : ℕ). escaped (word % 256) ++ stuffed (octets_up k (word / 256))) (sym e)
 
 module _ {output : List ℕ} {at end : ℕ} {final : List ℕ} (left word : ℕ)
-    (t : ToPut output at (stuffed (octetsUp left word)) end final) where
-  pub number-octet : 0 < left
-      → ToPut output at (escaped (word % 256) ++ stuffed (octetsUp (left - 1) (word / 256))) end final
-  number-octet h = rw (number-first left word h) at t
+    (t : ToPut output at (stuffed (octets_up left word)) end final) where
+  pub number_octet : 0 < left
+      → ToPut output at (escaped (word % 256) ++ stuffed (octets_up (left - 1) (word / 256))) end final
+  number_octet h = rw (number_first left word h) at t
 
-  pub number-none : left ≤ 0 → (at ≡ end) × (output ≡ final)
-  unfolding stuffed octetsUp
-  number-none h =
+  pub number_none : left ≤ 0 → (at ≡ end) × (output ≡ final)
+  unfolding stuffed octets_up
+  number_none h =
       let z : left ≡ 0 = omega arith in
       let n : ToPut output at [] end final = rw z at t in
       (sym (add-zero at) ∙ n.ends, n.gives)

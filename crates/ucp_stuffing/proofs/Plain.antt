@@ -8,7 +8,7 @@ use native.Mathlib.Nat.{mod-lt, div-add-mod'}
 use lib.Dec.{eqb}
 use lib.Bits.{bit_and, bit_xor, and_block, xor_block, and_le_r, and_lt, xor_lt}
 use Rattle.crc_polynomial.proofs.Linear.{up_from, everywhere}
-use Rattle.field_words.specs.Words.{octetsUp}
+use Rattle.field_words.specs.Words.{octets_up}
 use Rattle.ucp_frame.specs.Frame.{escaped, stuffed}
 
 -- an octet, k times
@@ -28,8 +28,8 @@ sums a b x y = omega arith
 none : (a b : ℕ) → a * 256 + b ≡ 0 → (a ≡ 0) × (b ≡ 0)
 none a b e = (omega arith, omega arith)
 
-test-step : (k word : ℕ) → test (suc k) word ≡ test k (word / 256) * 256 + one (word % 256)
-test-step k word =
+test_step : (k word : ℕ) → test (suc k) word ≡ test k (word / 256) * 256 + one (word % 256)
+test_step k word =
     let q = word / 256 in
     let o = word % 256 in
     let ho : o < 256 = mod-lt word (omega arith) in
@@ -50,21 +50,21 @@ test-step k word =
 abbrev kept : ℕ → List ℕ
 kept octet = cond (eqb (one octet) 0) (escaped octet) (octet ∷ [])
 
-octets-computed : up_from kept 256 0 ≡ up_from (λ octet. octet ∷ []) 256 0
+octets_computed : up_from kept 256 0 ≡ up_from (λ octet. octet ∷ []) 256 0
 unfolding escaped
-octets-computed = refl
+octets_computed = refl
 
-octet-plain : (octet : ℕ) → octet < 256 → one octet ≡ 0 → escaped octet ≡ octet ∷ []
-octet-plain octet h z =
+octet_plain : (octet : ℕ) → octet < 256 → one octet ≡ 0 → escaped octet ≡ octet ∷ []
+octet_plain octet h z =
     subst (λ (n : ℕ). cond (eqb n 0) (escaped octet) (octet ∷ []) ≡ octet ∷ []) z
-    (everywhere kept (λ octet. octet ∷ []) 256 octets-computed octet h)
+    (everywhere kept (λ octet. octet ∷ []) 256 octets_computed octet h)
 
-pub plain : (k word : ℕ) → test k word ≡ 0 → stuffed (octetsUp k word) ≡ octetsUp k word
-unfolding stuffed octetsUp
+pub plain : (k word : ℕ) → test k word ≡ 0 → stuffed (octets_up k word) ≡ octets_up k word
+unfolding stuffed octets_up
 plain zero word e = refl
 plain (suc k) word e =
-    let z = none (test k (word / 256)) (one (word % 256)) (sym (test-step k word) ∙ e) in
-    ap₂ (λ (xs ys : List ℕ). xs ++ ys) (octet-plain (word % 256) (mod-lt word (omega arith)) z.1) (plain k (word / 256) z.0)
+    let z = none (test k (word / 256)) (one (word % 256)) (sym (test_step k word) ∙ e) in
+    ap₂ (λ (xs ys : List ℕ). xs ++ ys) (octet_plain (word % 256) (mod-lt word (omega arith)) z.1) (plain k (word / 256) z.0)
 
-pub near-lt : (word : ℕ) → bit_and word 0x7F7F7F7F7F7F7F7F + 0x0303030303030303 < 0x10000000000000000
-near-lt word = omega (arith, and_le_r word 0x7F7F7F7F7F7F7F7F)
+pub near_lt : (word : ℕ) → bit_and word 0x7F7F7F7F7F7F7F7F + 0x0303030303030303 < 0x10000000000000000
+near_lt word = omega (arith, and_le_r word 0x7F7F7F7F7F7F7F7F)

@@ -1,8 +1,8 @@
 // Stuffing: octets put on the line, a flag and an escape among them each as an escape and another octet. The frame writer and the receiver
 // share it.
 ghost use Rattle.std.specs.Prelude.{◌≡◌, true, ◌||◌, ◌++◌, ◌+◌, ◌≤◌, eqb, length, drop};
-ghost use Rattle.field_words.specs.Words.{octetsUp};
-ghost use Rattle.ucp_frame.specs.Frame.{flag, escape, escaped, stuffed, longestBody};
+ghost use Rattle.field_words.specs.Words.{octets_up};
+ghost use Rattle.ucp_frame.specs.Frame.{flag, escape, escaped, stuffed, longest_body};
 ghost use Rattle.output_writing.specs.Puts.{Puts};
 
 // Whether an octet is escaped: the flag is, and the escape itself.
@@ -14,7 +14,7 @@ pub fn is_escaped(octet: u8) -> bool
 
 // None of the eight octets needs an escape where it says so. It may say no for octets of 7F: its caller then stuffs octet by octet.
 pub fn is_plain(word: u64) -> bool
-    ensures { result ≡ true → stuffed (octetsUp 8 word) ≡ octetsUp 8 word }
+    ensures { result ≡ true → stuffed (octets_up 8 word) ≡ octets_up 8 word }
 {
     // In each octet the top bit becomes 1 where the other seven are 7D or more, and that counts where it was 0 before.
     let near = (word & 0x7F7F7F7F7F7F7F7F) + 0x0303030303030303;
@@ -30,7 +30,7 @@ pub fn escaped_length(octet: u8) -> usize
 
 // How many octets a body takes on the line, stuffed.
 pub fn stuffed_length(body: &[u8]) -> usize
-    requires { length body.now ≤ longestBody }
+    requires { length body.now ≤ longest_body }
     ensures { result ≡ length (stuffed body.now) }
 {
     let mut count = 0;
@@ -44,7 +44,7 @@ pub fn stuffed_length(body: &[u8]) -> usize
 
 // The same of the octets from start on, one by one.
 fn tail_length(body: &[u8], start: usize) -> usize
-    requires { (length body.now ≤ longestBody) × (start ≤ length body.now) }
+    requires { (length body.now ≤ longest_body) × (start ≤ length body.now) }
     ensures { result ≡ length (stuffed (drop start body.now)) }
 {
     let mut count = 0;
@@ -58,7 +58,7 @@ fn tail_length(body: &[u8], start: usize) -> usize
 
 // How many octets eight take on the line.
 fn word_length(word: u64) -> usize
-    ensures { result ≡ length (stuffed (octetsUp 8 word)) }
+    ensures { result ≡ length (stuffed (octets_up 8 word)) }
 {
     if is_plain(word) {
         8
@@ -69,7 +69,7 @@ fn word_length(word: u64) -> usize
 
 // The same, octet by octet.
 fn word_length_counted(word: u64) -> usize
-    ensures { result ≡ length (stuffed (octetsUp 8 word)) }
+    ensures { result ≡ length (stuffed (octets_up 8 word)) }
 {
     let mut count = 0;
     let mut word = word;
@@ -84,8 +84,8 @@ fn word_length_counted(word: u64) -> usize
 
 // Puts eight octets, stuffed, at a place of output, and gives the next place: at once where none needs an escape.
 pub fn put_eight(output: &mut [u8], at: usize, word: u64) -> usize
-    requires { at + length (stuffed (octetsUp 8 word)) ≤ length output.old }
-    ensures { Puts output.old at (stuffed (octetsUp 8 word)) result output.new }
+    requires { at + length (stuffed (octets_up 8 word)) ≤ length output.old }
+    ensures { Puts output.old at (stuffed (octets_up 8 word)) result output.new }
 {
     if is_plain(word) {
         field_words::put_64(output, at, word);
@@ -98,8 +98,8 @@ pub fn put_eight(output: &mut [u8], at: usize, word: u64) -> usize
 
 // Puts the four lowest octets of a number, stuffed, at a place of output, and gives the next place.
 fn put_octets(output: &mut [u8], at: usize, word: u64) -> usize
-    requires { at + length (stuffed (octetsUp 4 word)) ≤ length output.old }
-    ensures { Puts output.old at (stuffed (octetsUp 4 word)) result output.new }
+    requires { at + length (stuffed (octets_up 4 word)) ≤ length output.old }
+    ensures { Puts output.old at (stuffed (octets_up 4 word)) result output.new }
 {
     let mut at = at;
     let mut word = word;

@@ -4,28 +4,28 @@ use mathlib.Core.List.{List, [], ◌++◌, append-nil}
 use Prim.Native.Nat.{ℕ, ◌<◌}
 use native.Mathlib.Nat.{zero-add}
 use lib.ListN.{length, get_or, take, drop}
-use Rattle.crc_polynomial.specs.Polynomial.{bitsOfOctets, divided}
-use Rattle.crc_gdl90.proofs.Head.{take_none, take-one, take-two}
+use Rattle.crc_polynomial.specs.Polynomial.{bits_of_octets, divided}
+use Rattle.crc_gdl90.proofs.Head.{take_none, take_one, take_two}
 use Rattle.ucp_frame.specs.Frame.{escaped, stuffed}
-use Rattle.ucp_writer.specs.Steps.{frameRest}
+use Rattle.ucp_writer.specs.Steps.{frame_rest}
 use Rattle.ucp_writer.proofs.Rest.{rest_part}
 
-pub stuffed-none : (n : ℕ) (body : List ℕ) → n ≡ 0 → stuffed (take n body) ≡ []
+pub stuffed_none : (n : ℕ) (body : List ℕ) → n ≡ 0 → stuffed (take n body) ≡ []
 unfolding stuffed
-stuffed-none n body e = ap stuffed (take_none n body e)
+stuffed_none n body e = ap stuffed (take_none n body e)
 
-pub stuffed-one : (n : ℕ) (body : List ℕ) → n ≡ 1 → 0 < length body → stuffed (take n body) ≡ escaped (get_or body 0 0)
+pub stuffed_one : (n : ℕ) (body : List ℕ) → n ≡ 1 → 0 < length body → stuffed (take n body) ≡ escaped (get_or body 0 0)
 unfolding stuffed
-stuffed-one n body e h = ap stuffed (take-one n body e h) ∙ append-nil (escaped (get_or body 0 0))
+stuffed_one n body e h = ap stuffed (take_one n body e h) ∙ append-nil (escaped (get_or body 0 0))
 
-pub stuffed-two : (n : ℕ) (body : List ℕ) → n ≡ 2 → 1 < length body
+pub stuffed_two : (n : ℕ) (body : List ℕ) → n ≡ 2 → 1 < length body
     → stuffed (take n body) ≡ escaped (get_or body 0 0) ++ escaped (get_or body 1 0)
 unfolding stuffed
-stuffed-two n body e h =
-    ap stuffed (take-two n body e h) ∙ ap (λ (l : List ℕ). escaped (get_or body 0 0) ++ l) (append-nil (escaped (get_or body 1 0)))
+stuffed_two n body e h =
+    ap stuffed (take_two n body e h) ∙ ap (λ (l : List ℕ). escaped (get_or body 0 0) ++ l) (append-nil (escaped (get_or body 1 0)))
 
-pub rest-head : (k : ℕ) (body : List ℕ)
-    → frameRest 0 body ≡ stuffed (take k body) ++ frameRest (divided 0 (bitsOfOctets (take k body))) (drop k body)
-rest-head k body =
+pub rest_head : (k : ℕ) (body : List ℕ)
+    → frame_rest 0 body ≡ stuffed (take k body) ++ frame_rest (divided 0 (bits_of_octets (take k body))) (drop k body)
+rest_head k body =
     rest_part k 0 body 0 (take k body) refl
-    ∙ ap (λ (n : ℕ). stuffed (take k body) ++ frameRest (divided 0 (bitsOfOctets (take k body))) (drop n body)) (zero-add k)
+    ∙ ap (λ (n : ℕ). stuffed (take k body) ++ frame_rest (divided 0 (bits_of_octets (take k body))) (drop n body)) (zero-add k)

@@ -1,16 +1,16 @@
 -- What the steps of the frame writer do to the output. Assumes nothing.
 use Rattle.std.specs.Prelude.{◌≡◌, List, [], ◌∷◌, ◌++◌, ℕ, ◌+◌, ◌/◌, ◌%◌, ◌≤◌, length, take}
 use Rattle.std.proofs.lemmas.List.Edits.{sets}
-use Rattle.crc_polynomial.specs.Polynomial.{bitsOfOctets, divided}
+use Rattle.crc_polynomial.specs.Polynomial.{bits_of_octets, divided}
 use Rattle.ucp_frame.specs.Frame.{flag, stuffed}
 
 -- a frame's end: its check, low octet first, stuffed, and the flag
-unfoldable pub frameEnd : ℕ → List ℕ
-frameEnd check = stuffed (check % 256 ∷ check / 256 ∷ []) ++ flag ∷ []
+unfoldable pub frame_end : ℕ → List ℕ
+frame_end check = stuffed (check % 256 ∷ check / 256 ∷ []) ++ flag ∷ []
 
 -- what is left of a frame where the octets xs of its body are, and the check of those before is known
-unfoldable pub frameRest : ℕ → List ℕ → List ℕ
-frameRest check xs = stuffed xs ++ frameEnd (divided check (bitsOfOctets xs))
+unfoldable pub frame_rest : ℕ → List ℕ → List ℕ
+frame_rest check xs = stuffed xs ++ frame_end (divided check (bits_of_octets xs))
 
 -- the first octets of a buffer, stuffed behind its first place, end at a place that it has
 pub record Moves (buffer : List ℕ) (octets end : ℕ) : Type 0 where

@@ -2,18 +2,18 @@
 use Rattle.std.specs.Prelude.{◌≡◌, List, ◌++◌, ◌⊎◌, ℕ, ◌≤◌, ◌<◌, length, take, drop}
 use Rattle.output_writing.specs.declared.Written.{Written}
 use Rattle.output_writing.specs.Writing.{Writing}
-use Rattle.ucp_frame.specs.Frame.{frame, longestBody, longestFrame}
-use Rattle.ucp_writer.specs.Room.{frameDue}
+use Rattle.ucp_frame.specs.Frame.{frame, longest_body, longest_frame}
+use Rattle.ucp_writer.specs.Room.{frame_due}
 
 -- one call, whole: the body and the output as at entry, the answer, and the output as at return
 abbrev pub WritesFrame : List ℕ → List ℕ → Written → List ℕ → Type 0
-WritesFrame body output = Writing (frameDue body output) (frame body) output
+WritesFrame body output = Writing (frame_due body output) (frame body) output
 
 -- one call that makes of the first octets of a buffer their frame, whole: the buffer as at entry, how many octets the body has; how
 -- many the frame has, and the buffer as at return: the frame, and behind it what was there. A body of no or too many octets is left
 pub record FramesInPlace (before : List ℕ) (octets given : ℕ) (after : List ℕ) : Type 0 where
-  pub frames : 1 ≤ octets → octets ≤ longestBody
+  pub frames : 1 ≤ octets → octets ≤ longest_body
       → (given ≡ length (frame (take octets before))) × (after ≡ frame (take octets before) ++ drop given before)
-  pub leaves : (octets ≡ 0) ⊎ (longestBody < octets) → (given ≡ 0) × (after ≡ before)
+  pub leaves : (octets ≡ 0) ⊎ (longest_body < octets) → (given ≡ 0) × (after ≡ before)
   -- the buffer is one for any frame
-  pub size : length before ≡ longestFrame
+  pub size : length before ≡ longest_frame

@@ -2,13 +2,13 @@
 // body, so that none is overwritten before it is read.
 ghost use Rattle.std.specs.Prelude.{◌≡◌, ◌++◌, ◌+◌, ◌≤◌, length, take};
 ghost use Rattle.std.proofs.lemmas.List.Edits.{sets};
-ghost use Rattle.ucp_frame.specs.Frame.{stuffed, frame, longestBody, longestFrame};
+ghost use Rattle.ucp_frame.specs.Frame.{stuffed, frame, longest_body, longest_frame};
 ghost use Rattle.ucp_writer.specs.Writes.{FramesInPlace};
 ghost use Rattle.ucp_writer.specs.Steps.{Moves, ToMove};
 
 // Makes of the first octets of buffer their frame, where a body may have so many: how many octets the frame has, else 0.
 pub fn frame_front(buffer: &mut [u8], octets: usize) -> usize
-    requires { length buffer.old ≡ longestFrame }
+    requires { length buffer.old ≡ longest_frame }
     ensures { FramesInPlace buffer.old octets result buffer.new }
 {
     if octets == 0 {

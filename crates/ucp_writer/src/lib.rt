@@ -4,7 +4,7 @@ pub mod room;
 
 ghost use Rattle.std.specs.Prelude.{◌≡◌, ◌++◌, ◌+◌, ◌-◌, ◌%◌, ◌<◌, ◌≤◌, length, take, drop};
 ghost use Rattle.ucp_frame.specs.Frame.{stuffed, frame};
-ghost use Rattle.ucp_writer.specs.Steps.{frameEnd, frameRest};
+ghost use Rattle.ucp_writer.specs.Steps.{frame_end, frame_rest};
 ghost use Rattle.output_writing.specs.Puts.{Puts};
 ghost use Rattle.ucp_writer.specs.Writes.{WritesFrame, FramesInPlace};
 
@@ -59,8 +59,8 @@ fn put_head(body: &[u8], output: &mut [u8], octets: usize) -> usize
 // Puts what is left of a frame at a place of output: the octets of body from start on, an even number of them, and the end.
 // The check is that of the octets before.
 pub fn fill_words(body: &[u8], output: &mut [u8], start: usize, check: u16, at: usize) -> usize
-    requires { (start ≤ length body.now) × ((length body.now - start) % 2 ≡ 0) × (at + length (frameRest check (drop start body.now)) ≤ length output.old) }
-    ensures { Puts output.old at (frameRest check (drop start body.now)) result output.new }
+    requires { (start ≤ length body.now) × ((length body.now - start) % 2 ≡ 0) × (at + length (frame_rest check (drop start body.now)) ≤ length output.old) }
+    ensures { Puts output.old at (frame_rest check (drop start body.now)) result output.new }
 {
     let mut check = check;
     let mut at = at;
@@ -76,8 +76,8 @@ pub fn fill_words(body: &[u8], output: &mut [u8], start: usize, check: u16, at: 
 
 // The same, two octets at a time.
 fn fill_pairs(body: &[u8], output: &mut [u8], start: usize, check: u16, at: usize) -> usize
-    requires { (start ≤ length body.now) × ((length body.now - start) % 2 ≡ 0) × (at + length (frameRest check (drop start body.now)) ≤ length output.old) }
-    ensures { Puts output.old at (frameRest check (drop start body.now)) result output.new }
+    requires { (start ≤ length body.now) × ((length body.now - start) % 2 ≡ 0) × (at + length (frame_rest check (drop start body.now)) ≤ length output.old) }
+    ensures { Puts output.old at (frame_rest check (drop start body.now)) result output.new }
 {
     let mut check = check;
     let mut at = at;
@@ -94,8 +94,8 @@ fn fill_pairs(body: &[u8], output: &mut [u8], start: usize, check: u16, at: usiz
 
 // Ends a frame at a place of output: its check, low octet first, stuffed, and the flag. Gives the place behind it.
 fn close(output: &mut [u8], at: usize, check: u16) -> usize
-    requires { at + length (frameEnd check) ≤ length output.old }
-    ensures { Puts output.old at (frameEnd check) result output.new }
+    requires { at + length (frame_end check) ≤ length output.old }
+    ensures { Puts output.old at (frame_end check) result output.new }
 {
     let next = ucp_stuffing::put(output, at, (check % 256) as u8);
     let last = ucp_stuffing::put(output, next, (check / 256) as u8);

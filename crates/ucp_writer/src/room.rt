@@ -1,11 +1,11 @@
 // Whether a body may become a frame in an output: tested before anything is written.
 ghost use Rattle.std.specs.Prelude.{◌≡◌, ◌≤◌, length};
-ghost use Rattle.ucp_frame.specs.Frame.{frame, longestBody};
-ghost use Rattle.ucp_writer.specs.Room.{frameDue, refusalNumber};
+ghost use Rattle.ucp_frame.specs.Frame.{frame, longest_body};
+ghost use Rattle.ucp_writer.specs.Room.{frame_due, refusal_number};
 
 // The refusal that is due: 7, a body of 0 or more than 436 octets; 8, an output shorter than the frame; 0, none.
 pub fn refusal(body: &[u8], output: &[u8]) -> u8
-    ensures { result ≡ refusalNumber (frameDue body.now output.now) }
+    ensures { result ≡ refusal_number (frame_due body.now output.now) }
 {
     let n = body.len();
     if n == 0 {
@@ -27,7 +27,7 @@ pub fn refusal(body: &[u8], output: &[u8]) -> u8
 
 // How many octets the frame of body has.
 fn frame_length(body: &[u8]) -> usize
-    requires { length body.now ≤ longestBody }
+    requires { length body.now ≤ longest_body }
     ensures { result ≡ length (frame body.now) }
 {
     let check = crc_gdl90::frame_check(body);

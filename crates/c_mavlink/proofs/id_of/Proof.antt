@@ -2,7 +2,7 @@
 use mathlib.Core.Path.{sym, ap, ◌∙◌}
 use native.Mathlib.Omega.{arith}
 use Rattle.mavlink_frame.proofs.reader.Tests.{other_length, short}
-use Rattle.c_mavlink.specs.Ids.{refusalBeforeCheck, idNumbers}
+use Rattle.c_mavlink.specs.Ids.{refusal_before_check, id_numbers}
 use Rattle.c_mavlink.proofs.Ids.{named}
 use borrow.Author.Rules.{rules}
 use Rattle.c_mavlink.proofs.id_of.Statement.{statement}
@@ -11,13 +11,13 @@ use Rattle.c_mavlink.proofs.id_of.Tie as tie
 returns : tie.Need-returns
 returns c =
     let a = c.before.before.before.before.before.args in
-    c.refused.ensures ∙ sym (ap (λ f. idNumbers (refusalBeforeCheck f) a.input.now) (other_length a.kind a.input.now c.before.if1.true))
+    c.refused.ensures ∙ sym (ap (λ f. id_numbers (refusal_before_check f) a.input.now) (other_length a.kind a.input.now c.before.if1.true))
 
 returns-2 : tie.Need-returns-2
 returns-2 c =
     let a = c.before.before.before.before.before.before.args in
     c.refused2.ensures
-    ∙ sym (ap (λ f. idNumbers (refusalBeforeCheck f) a.input.now) (short a.kind a.input.now c.before.before.if1.false (omega (arith, c.before.before.if1.false, c.before.if2.true))))
+    ∙ sym (ap (λ f. id_numbers (refusal_before_check f) a.input.now) (short a.kind a.input.now c.before.before.if1.false (omega (arith, c.before.before.if1.false, c.before.if2.true))))
 
 cast-t10 : tie.Need-overflow-cast-t10
 cast-t10 c = omega (arith, c.shared-slice-known3.given 5)

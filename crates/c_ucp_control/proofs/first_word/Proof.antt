@@ -4,7 +4,7 @@ use mathlib.Core.Path.{sym, ap, ◌∙◌}
 use mathlib.Core.List.{List}
 use Prim.Native.Nat.{ℕ}
 use lib.ListN.{take, drop}
-use Rattle.c_ucp_control.proofs.Held.{body-found}
+use Rattle.c_ucp_control.proofs.Held.{body_found}
 use borrow.Author.Rules.{rules}
 use Rattle.c_ucp_control.proofs.first_word.Statement.{statement}
 use Rattle.c_ucp_control.proofs.first_word.Tie as tie
@@ -14,7 +14,7 @@ returns c =
     let k = c.before.before.before.before.before.before.before.before.before in
     let s = k.before in
     c.word_of.ensures
-    ∙ sym (ap (λ (b : List ℕ). take 8 (drop 2 b)) (body-found s.args.message.now s.requires.0 (λ i. (k.shared-slice-known.given i).fits) c.before.before.before.before.before.before.before.before.state.ensures))
+    ∙ sym (ap (λ (b : List ℕ). take 8 (drop 2 b)) (body_found s.args.message.now s.requires.0 (λ i. (k.shared-slice-known.given i).fits) c.before.before.before.before.before.before.before.before.state.ensures))
 
 pub first-word-spec : {M : Type 1} → statement M
 first-word-spec =

@@ -4,14 +4,14 @@ use Prim.Native.Nat.{◌+◌, ◌*◌, ◌/◌}
 use native.Mathlib.Omega.{arith}
 use lib.Bits.{bit_and, and_le_r}
 use Rattle.crc_polynomial.proofs.Linear.{up_from, everywhere}
-use Rattle.field_words.specs.Words.{octetsUp}
-use Rattle.c_ucp_control.specs.Steps.{stateFields}
+use Rattle.field_words.specs.Words.{octets_up}
+use Rattle.c_ucp_control.specs.Steps.{state_fields}
 use borrow.Author.Rules.{rules}
 use Rattle.c_ucp_control.proofs.flags.Statement.{statement}
 use Rattle.c_ucp_control.proofs.flags.Tie as tie
 
-computed : up_from (λ s. octetsUp 8 (bit_and (s * 0x1008020100804) 0x1030101010100 + s / 128)) 256 0 ≡ up_from stateFields 256 0
-unfolding octetsUp
+computed : up_from (λ s. octets_up 8 (bit_and (s * 0x1008020100804) 0x1030101010100 + s / 128)) 256 0 ≡ up_from state_fields 256 0
+unfolding octets_up
 computed = refl
 
 add-result : tie.Need-overflow-add-result
@@ -19,7 +19,7 @@ add-result c = omega (arith, and_le_r (c.args.state * 0x1008020100804) 0x1030101
 
 returns : tie.Need-returns
 returns c =
-    everywhere (λ s. octetsUp 8 (bit_and (s * 0x1008020100804) 0x1030101010100 + s / 128)) stateFields 256 computed
+    everywhere (λ s. octets_up 8 (bit_and (s * 0x1008020100804) 0x1030101010100 + s / 128)) state_fields 256 computed
     c.args.state c.ranges.state.fits
 
 pub flags-spec : {M : Type 1} → statement M

@@ -3,7 +3,7 @@ use mathlib.Core.Path.{◌∙◌, ap}
 use mathlib.Core.Bool.{Bool, ◌&&◌}
 use lib.Dec.{ltb}
 use lib.ListN.{get_or}
-use Rattle.field_codes.specs.Codes.{isSquawk}
+use Rattle.field_codes.specs.Codes.{is_squawk}
 use borrow.Author.Rules.{rules}
 use Rattle.c_ucp_control.proofs.numbers_fit.Statement.{statement}
 use Rattle.c_ucp_control.proofs.numbers_fit.Tie as tie
@@ -11,7 +11,7 @@ use Rattle.c_ucp_control.proofs.numbers_fit.Tie as tie
 returns : tie.Need-returns
 returns c =
     ap (λ (a : Bool). ltb (get_or c.before.before.before.before.args.message.now 5 0) 4 && a)
-    (c.is-squawk.ensures ∙ ap isSquawk c.before.little-16.ensures)
+    (c.is_squawk_lem.ensures ∙ ap is_squawk c.before.little-16.ensures)
 
 pub numbers-fit-spec : {M : Type 1} → statement M
 numbers-fit-spec =

@@ -3,8 +3,8 @@ use mathlib.Core.Path.{◌∙◌}
 use native.Mathlib.Omega.{arith}
 use lib.ListN.{set, length-set}
 use lib.Seq.{sets}
-use Rattle.field_words.proofs.Digits.{eight-from}
-use Rattle.c_ucp_control.proofs.Held.{body-put}
+use Rattle.field_words.proofs.Digits.{eight_from}
+use Rattle.c_ucp_control.proofs.Held.{body_put}
 use borrow.Author.Rules.{rules}
 use Rattle.c_ucp_control.proofs.put.Statement.{statement}
 use Rattle.c_ucp_control.proofs.put.Tie as tie
@@ -26,10 +26,10 @@ returns c =
     let s = k10.before.before.before in
     let m = s.args.message.now in
     let output = s.args.output.now in
-    let numbers = k7.before.little-64.ensures ∙ eight-from m 8 (omega (arith, s.requires.0)) in
-    let identity = k3.little-642.ensures ∙ eight-from m 15 (omega (arith, s.requires.0)) in
+    let numbers = k7.before.little-64.ensures ∙ eight_from m 8 (omega (arith, s.requires.0)) in
+    let identity = k3.little-642.ensures ∙ eight_from m 15 (omega (arith, s.requires.0)) in
     let first = k7.put-64.ensures ∙ (λ i. sets (set (set (set output 0 45) 1 1) 2 k10.state.result) 3 (numbers i)) in
-    body-put m s.requires.0 (λ i. (k10.before.before.shared-slice-known.given i).fits) output k10.state.ensures s.requires.2
+    body_put m s.requires.0 (λ i. (k10.before.before.shared-slice-known.given i).fits) output k10.state.ensures s.requires.2
     (c.before.before.put-642.ensures ∙ (λ i. sets (first i) 10 (identity i)))
 
 pub put_spec : {M : Type 1} → statement M

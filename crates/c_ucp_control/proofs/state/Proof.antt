@@ -6,11 +6,11 @@ use Prim.Native.Nat.{ℕ, ◌+◌, ◌*◌, ◌/◌, ◌%◌, ◌<◌, ◌≤◌
 use native.Mathlib.Omega.{arith}
 use lib.ListN.{length, get_or}
 use Rattle.field_layout.specs.Steps.{little32}
-use Rattle.field_layout.proofs.Elements.{by-elements}
-use Rattle.field_words.specs.Words.{octetsUp}
+use Rattle.field_layout.proofs.Elements.{by_elements}
+use Rattle.field_words.specs.Words.{octets_up}
 use Rattle.field_format.specs.Format.{body_of}
 use Rattle.c_lent.specs.Structs.{held}
-use Rattle.c_ucp_control.specs.Struct.{controlStruct, controlState}
+use Rattle.c_ucp_control.specs.Struct.{control_struct, control_state}
 use Rattle.c_ucp_control.specs.Steps.{marks}
 use Rattle.c_ucp_control.proofs.Marks.{worth, few, gathered}
 use borrow.Author.Rules.{rules}
@@ -28,21 +28,21 @@ mod-small x h = omega arith
 
 -- the struct's octets, what was made of the number that the first four are, and the two bits
 module _ (message : List ℕ) (whole : length message ≡ 24) (small : (i : ℕ) → get_or message i 0 < 256) (yes ident baro : ℕ)
-    (marked : yes ≡ marks (octetsUp 4 (little32 message 0))) (i4 : ident ≡ worth (get_or message 4 0) * 8)
+    (marked : yes ≡ marks (octets_up 4 (little32 message 0))) (i4 : ident ≡ worth (get_or message 4 0) * 8)
     (i6 : baro ≡ worth (get_or message 6 0) * 1) where
   abbrev at : ℕ → ℕ
   at k = get_or message k 0
 
-  four : octetsUp 4 (little32 message 0) ≡ at 0 ∷ at 1 ∷ at 2 ∷ at 3 ∷ []
-  unfolding octetsUp
+  four : octets_up 4 (little32 message 0) ≡ at 0 ∷ at 1 ∷ at 2 ∷ at 3 ∷ []
+  unfolding octets_up
   four =
       let n2 = at 3 * 256 + at 2 in
       let n1 = n2 * 256 + at 1 in
       let n0 : little32 message 0 ≡ n1 * 256 + at 0 = omega arith in
-      ap (octetsUp 4) n0
-      ∙ ap₂ (λ (x n : ℕ). x ∷ octetsUp 3 n) (low n1 (at 0) (small 0)) (others n1 (at 0) (small 0))
-      ∙ ap₂ (λ (x n : ℕ). at 0 ∷ x ∷ octetsUp 2 n) (low n2 (at 1) (small 1)) (others n2 (at 1) (small 1))
-      ∙ ap₂ (λ (x n : ℕ). at 0 ∷ at 1 ∷ x ∷ octetsUp 1 n) (low (at 3) (at 2) (small 2)) (others (at 3) (at 2) (small 2))
+      ap (octets_up 4) n0
+      ∙ ap₂ (λ (x n : ℕ). x ∷ octets_up 3 n) (low n1 (at 0) (small 0)) (others n1 (at 0) (small 0))
+      ∙ ap₂ (λ (x n : ℕ). at 0 ∷ x ∷ octets_up 2 n) (low n2 (at 1) (small 1)) (others n2 (at 1) (small 1))
+      ∙ ap₂ (λ (x n : ℕ). at 0 ∷ at 1 ∷ x ∷ octets_up 1 n) (low (at 3) (at 2) (small 2)) (others (at 3) (at 2) (small 2))
       ∙ ap (λ (x : ℕ). at 0 ∷ at 1 ∷ at 2 ∷ x ∷ []) (mod-small (at 3) (small 3))
 
   high_is : yes / 128 * 0x80402010 / 16777216 % 256
@@ -59,22 +59,22 @@ module _ (message : List ℕ) (whole : length message ≡ 24) (small : (i : ℕ)
   sum_fits : at 5 ≤ 3 → sum ≤ 255
   sum_fits h = omega (arith, placed, few (at 0), few (at 1), few (at 2), few (at 3), few (at 4), few (at 6))
 
-  sum_is : sum ≡ controlState (held controlStruct message)
+  sum_is : sum ≡ control_state (held control_struct message)
   unfolding body_of held
-  sum_is = placed ∙ ap (λ (xs : List ℕ). controlState (held controlStruct xs)) (sym (by-elements 24 message whole))
+  sum_is = placed ∙ ap (λ (xs : List ℕ). control_state (held control_struct xs)) (sym (by_elements 24 message whole))
 
 add-result-3 : tie.Need-overflow-add-result-3
 add-result-3 c =
     let k = c.before.before.before.before.before.before.before in
     let s = k.before in
-    let marked = c.before.before.before.before.before.marked.ensures ∙ ap (λ (w : ℕ). marks (octetsUp 4 w)) c.before.before.before.before.before.before.little-32.ensures in
+    let marked = c.before.before.before.before.before.marked.ensures ∙ ap (λ (w : ℕ). marks (octets_up 4 w)) c.before.before.before.before.before.before.little-32.ensures in
     omega (arith, sum_fits s.args.message.now s.requires.0 (λ i. (k.shared-slice-known.given i).fits) _ _ _ marked c.before.before.before.bit.ensures.0 c.before.bit2.ensures.0 (omega arith))
 
 returns : tie.Need-returns
 returns c =
     let k = c.before.before.before.before.before.before.before in
     let s = k.before in
-    let marked = c.before.before.before.before.before.marked.ensures ∙ ap (λ (w : ℕ). marks (octetsUp 4 w)) c.before.before.before.before.before.before.little-32.ensures in
+    let marked = c.before.before.before.before.before.marked.ensures ∙ ap (λ (w : ℕ). marks (octets_up 4 w)) c.before.before.before.before.before.before.little-32.ensures in
     sum_is s.args.message.now s.requires.0 (λ i. (k.shared-slice-known.given i).fits) _ _ _ marked c.before.before.before.bit.ensures.0 c.before.bit2.ensures.0
 
 pub state-spec : {M : Type 1} → statement M

@@ -3,31 +3,31 @@ use mathlib.Core.Path.{◌≡◌, ◌∙◌, ap₂}
 use mathlib.Core.Bool.{◌&&◌}
 use native.Mathlib.Omega.{arith}
 use Rattle.field_format.specs.Format.{fits}
-use Rattle.ucp_messages.specs.Control45.{controlFormat}
-use Rattle.c_lent.proofs.Writers.{fitting, not-fitting, no_field, no_room, written}
+use Rattle.ucp_messages.specs.Control45.{control_format}
+use Rattle.c_lent.proofs.Writers.{fitting, not_fitting, no_field, no_room, written}
 use Rattle.c_lent.specs.Structs.{held}
-use Rattle.c_ucp_control.specs.Struct.{controlStruct}
-use Rattle.c_ucp_control.proofs.Held.{body-length, held_small, held-range}
+use Rattle.c_ucp_control.specs.Struct.{control_struct}
+use Rattle.c_ucp_control.proofs.Held.{body_length, held_small, held_range}
 use borrow.Author.Rules.{rules}
 use Rattle.c_ucp_control.proofs.write.Statement.{statement}
 use Rattle.c_ucp_control.proofs.write.Tie as tie
 
 tested : (c : tie.After-is-padded-at)
-    → (c.before.numbers_fit.result && c.is-padded-at.result) ≡ fits controlFormat (held controlStruct c.before.before.before.before.args.message.now)
+    → (c.before.numbers_fit.result && c.is-padded-at.result) ≡ fits control_format (held control_struct c.before.before.before.before.args.message.now)
 tested c =
     let s = c.before.before.before.before in
-    ap₂ ◌&&◌ c.before.numbers_fit.ensures c.is-padded-at.ensures ∙ held-range s.args.message.now s.requires
+    ap₂ ◌&&◌ c.before.numbers_fit.ensures c.is-padded-at.ensures ∙ held_range s.args.message.now s.requires
 
 returns : tie.Need-returns
 returns c =
     let a = c.before.before.before.before.before.args in
-    no_field controlFormat (held controlStruct a.message.now) a.output.now (not-fitting (tested c.before) c.if1.true)
+    no_field control_format (held control_struct a.message.now) a.output.now (not_fitting (tested c.before) c.if1.true)
 
 returns-2 : tie.Need-returns-2
 returns-2 c =
     let a = c.before.before.before.before.before.before.args in
-    no_room controlFormat (held controlStruct a.message.now) a.output.now (fitting (tested c.before.before) c.before.if1.false)
-    (omega (arith, body-length (held controlStruct a.message.now)))
+    no_room control_format (held control_struct a.message.now) a.output.now (fitting (tested c.before.before) c.before.if1.false)
+    (omega (arith, body_length (held control_struct a.message.now)))
 
 put-requires : tie.Need-put-requires
 put-requires c κs =
@@ -37,8 +37,8 @@ put-requires c κs =
 returns-3 : tie.Need-returns-3
 returns-3 c =
     let a = c.before.before.before.before.before.before.before.before.before.before.args in
-    written controlFormat (held controlStruct a.message.now) a.output.now (fitting (tested c.before.before.before.before.before.before) c.before.before.before.before.before.if1.false)
-    (body-length (held controlStruct a.message.now)) (omega arith) c.before.before.put.ensures
+    written control_format (held control_struct a.message.now) a.output.now (fitting (tested c.before.before.before.before.before.before) c.before.before.before.before.before.if1.false)
+    (body_length (held control_struct a.message.now)) (omega arith) c.before.before.put.ensures
 
 pub write_spec : {M : Type 1} → statement M
 write_spec =

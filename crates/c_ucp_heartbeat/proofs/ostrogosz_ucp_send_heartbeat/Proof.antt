@@ -1,10 +1,10 @@
 -- `ostrogosz_ucp_send_heartbeat` meets its contract: its two halves make up a send. Assumes nothing.
 use native.Mathlib.Omega.{arith}
-use Rattle.ucp_messages.specs.Heartbeat0.{heartbeatFormat}
+use Rattle.ucp_messages.specs.Heartbeat0.{heartbeat_format}
 use Rattle.c_lent.specs.Structs.{held}
-use Rattle.c_lent.proofs.Sends.{struct-sends}
-use Rattle.c_ucp_heartbeat.specs.Struct.{heartbeatStruct}
-use Rattle.c_ucp_heartbeat.proofs.Stored.{body-length}
+use Rattle.c_lent.proofs.Sends.{struct_sends}
+use Rattle.c_ucp_heartbeat.specs.Struct.{heartbeat_struct}
+use Rattle.c_ucp_heartbeat.proofs.Stored.{body_length}
 use borrow.Author.Rules.{rules}
 use Rattle.c_ucp_heartbeat.proofs.ostrogosz_ucp_send_heartbeat.Statement.{statement}
 use Rattle.c_ucp_heartbeat.proofs.ostrogosz_ucp_send_heartbeat.Tie as tie
@@ -12,8 +12,8 @@ use Rattle.c_ucp_heartbeat.proofs.ostrogosz_ucp_send_heartbeat.Tie as tie
 returns : tie.Need-returns
 returns c =
     let a = c.before.before.before.before.args in
-    let m = held heartbeatStruct a.message.now in
-    struct-sends heartbeatFormat m a.buffer.now (omega (arith, body-length m)) (omega (arith, body-length m)) c.before.before.write.ensures
+    let m = held heartbeat_struct a.message.now in
+    struct_sends heartbeat_format m a.buffer.now (omega (arith, body_length m)) (omega (arith, body_length m)) c.before.before.write.ensures
     c.before.before.write.auto.1.0 c.frame-written.ensures
 
 pub ostrogosz-ucp-send-heartbeat-spec : {M : Type 1} → statement M

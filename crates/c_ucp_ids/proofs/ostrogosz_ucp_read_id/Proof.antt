@@ -1,17 +1,17 @@
 -- `ostrogosz_ucp_read_id` meets its contract, by its three ways. Assumes nothing.
 use native.Mathlib.Omega.{arith}
 use borrow.Author.Tests.{not-true, not-false}
-use Rattle.c_ucp_ids.proofs.Ids.{no-octet, unknown-id, known-id}
+use Rattle.c_ucp_ids.proofs.Ids.{no_octet, unknown_id, known_id}
 use borrow.Author.Rules.{rules}
 use Rattle.c_ucp_ids.proofs.ostrogosz_ucp_read_id.Statement.{statement}
 use Rattle.c_ucp_ids.proofs.ostrogosz_ucp_read_id.Tie as tie
 
 returns : tie.Need-returns
-returns c = no-octet _ c.if1.true
+returns c = no_octet _ c.if1.true
 
 returns-2 : tie.Need-returns-2
 returns-2 c =
-    unknown-id _ c.before.before.before.before.if1.false c.before.before.kind-of.result c.before.before.kind-of.ensures c.before.is_Known.ensures
+    unknown_id _ c.before.before.before.before.if1.false c.before.before.kind_of.result c.before.before.kind_of.ensures c.before.is_Known.ensures
     (not-true _ c.if2.true)
 
 cast-t9 : tie.Need-overflow-cast-t9
@@ -19,7 +19,7 @@ cast-t9 c = omega (arith, (c.before.before.before.shared-slice-known2.given 0).f
 
 returns-3 : tie.Need-returns-3
 returns-3 c =
-    known-id _ c.before.before.before.before.if1.false c.before.before.kind-of.result c.before.before.kind-of.ensures c.before.is_Known.ensures
+    known_id _ c.before.before.before.before.if1.false c.before.before.kind_of.result c.before.before.kind_of.ensures c.before.is_Known.ensures
     (not-false _ c.if2.false)
 
 pub ostrogosz-ucp-read-id-spec : {M : Type 1} → statement M

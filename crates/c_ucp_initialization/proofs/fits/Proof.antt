@@ -3,7 +3,7 @@ use mathlib.Core.Path.{sym, ◌∙◌}
 use mathlib.Core.Bool.{◌&&◌}
 use lib.Dec.{ltb}
 use lib.ListN.{get_or}
-use Rattle.c_ucp_initialization.proofs.Stored.{held-range, small}
+use Rattle.c_ucp_initialization.proofs.Stored.{held_range, small}
 use borrow.Author.Rules.{rules}
 use Rattle.c_ucp_initialization.proofs.fits.Statement.{statement}
 use Rattle.c_ucp_initialization.proofs.fits.Tie as tie
@@ -22,7 +22,7 @@ returns c =
     && ltb (k2.little-32.ensures i) 16777216
     && ltb (get_or m 19 0) 8
     && ltb (get_or m 20 0) 32)
-    ∙ held-range m s.requires
+    ∙ held_range m s.requires
     in
     (is, λ t. small m s.requires (sym is ∙ t))
 

@@ -4,8 +4,8 @@ use Prim.Native.Nat.{◌+◌, ◌*◌}
 use native.Mathlib.Omega.{arith}
 use lib.ListN.{length, get_or, set, length-set}
 use lib.Seq.{sets}
-use Rattle.field_words.proofs.Digits.{eight-from}
-use Rattle.c_ucp_initialization.proofs.Stored.{body-put}
+use Rattle.field_words.proofs.Digits.{eight_from}
+use Rattle.c_ucp_initialization.proofs.Stored.{body_put}
 use borrow.Author.Rules.{rules}
 use Rattle.c_ucp_initialization.proofs.put.Statement.{statement}
 use Rattle.c_ucp_initialization.proofs.put.Tie as tie
@@ -23,9 +23,9 @@ returns c =
     let k14 = k11.before.before.before in
     let s = k14.before in
     let m = s.args.message.now in
-    let callsign = k7.little-64.ensures ∙ eight-from m 9 (omega (arith, s.requires.0)) in
+    let callsign = k7.little-64.ensures ∙ eight_from m 9 (omega (arith, s.requires.0)) in
     let text = k6.put-64.ensures ∙ (λ i. sets (k11.put_first.ensures i) 8 (callsign i)) in
-    body-put m s.requires.0 (λ i. (k14.shared-slice-known.given i).fits) s.requires.1 s.args.output.now s.requires.2
+    body_put m s.requires.0 (λ i. (k14.shared-slice-known.given i).fits) s.requires.1 s.args.output.now s.requires.2
     (λ i. set (set (set (text i) 16 (get_or m 17 0)) 17 (get_or m 18 0)) 18 (get_or m 19 0 * 32 + get_or m 20 0))
 
 pub put_spec : {M : Type 1} → statement M

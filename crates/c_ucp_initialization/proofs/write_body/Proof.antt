@@ -1,11 +1,11 @@
 -- `c_ucp_initialization::write_body` meets its contract, by its three ways. Assumes nothing.
 use borrow.Author.Tests.{not-false}
 use native.Mathlib.Omega.{arith}
-use Rattle.ucp_messages.specs.Initialization117.{initializationFormat}
-use Rattle.c_lent.proofs.Writers.{fitting, not-fitting, no_field, no_room, written}
+use Rattle.ucp_messages.specs.Initialization117.{initialization_format}
+use Rattle.c_lent.proofs.Writers.{fitting, not_fitting, no_field, no_room, written}
 use Rattle.c_lent.specs.Structs.{held}
-use Rattle.c_ucp_initialization.specs.Struct.{initializationStruct}
-use Rattle.c_ucp_initialization.proofs.Stored.{body-length}
+use Rattle.c_ucp_initialization.specs.Struct.{initialization_struct}
+use Rattle.c_ucp_initialization.proofs.Stored.{body_length}
 use borrow.Author.Rules.{rules}
 use Rattle.c_ucp_initialization.proofs.write_body.Statement.{statement}
 use Rattle.c_ucp_initialization.proofs.write_body.Tie as tie
@@ -13,15 +13,15 @@ use Rattle.c_ucp_initialization.proofs.write_body.Tie as tie
 returns : tie.Need-returns
 returns c =
     let a = c.before.before.before.before.args in
-    no_field initializationFormat (held initializationStruct a.message.now) a.output.now
-    (not-fitting c.before.fits2.ensures.0 c.if1.true)
+    no_field initialization_format (held initialization_struct a.message.now) a.output.now
+    (not_fitting c.before.fits2.ensures.0 c.if1.true)
 
 returns-2 : tie.Need-returns-2
 returns-2 c =
     let a = c.before.before.before.before.before.args in
-    no_room initializationFormat (held initializationStruct a.message.now) a.output.now
+    no_room initialization_format (held initialization_struct a.message.now) a.output.now
     (fitting c.before.before.fits2.ensures.0 c.before.if1.false)
-    (omega (arith, body-length (held initializationStruct a.message.now)))
+    (omega (arith, body_length (held initialization_struct a.message.now)))
 
 put-requires : tie.Need-put-requires
 put-requires c κs =
@@ -31,9 +31,9 @@ returns-3 : tie.Need-returns-3
 returns-3 c =
     let k7 = c.before.before.before.before.before.before.before in
     let a = k7.before.before.before.args in
-    written initializationFormat (held initializationStruct a.message.now) a.output.now
+    written initialization_format (held initialization_struct a.message.now) a.output.now
     (fitting k7.fits2.ensures.0 c.before.before.before.before.before.before.if1.false)
-    (body-length (held initializationStruct a.message.now)) (omega arith) c.before.before.put.ensures
+    (body_length (held initialization_struct a.message.now)) (omega arith) c.before.before.put.ensures
 
 pub write-body-spec : {M : Type 1} → statement M
 write-body-spec =

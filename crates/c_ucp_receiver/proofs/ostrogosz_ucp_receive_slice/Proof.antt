@@ -7,7 +7,7 @@ use Rattle.c_ucp_receiver.proofs.ostrogosz_ucp_receive_slice.Tie as tie
 returns : tie.Need-returns
 returns c =
     let written = c.before.before in
-    takes _ _ _ _ _ written.put-line.ensures c.before.kind-of.ensures c.value_of_lem.ensures _ _ _ _ _ _ _
+    takes _ _ _ _ _ written.put-line.ensures c.before.kind_of.ensures c.value_of_lem.ensures _ _ _ _ _ _ _
     written.before.before.before.before.before.taken-by.ensures.took
 
 pub ostrogosz-ucp-receive-slice-spec : {M : Type 1} → statement M

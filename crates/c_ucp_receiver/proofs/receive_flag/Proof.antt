@@ -7,7 +7,7 @@ use Rattle.c_ucp_receiver.proofs.receive_flag.Tie as tie
 returns : tie.Need-returns
 returns c =
     let written = c.before.before in
-    receives _ _ _ _ _ written.put-line.ensures c.before.kind-of.ensures c.value_of_lem.ensures _ _ _ _ _ _
+    receives _ _ _ _ _ written.put-line.ensures c.before.kind_of.ensures c.value_of_lem.ensures _ _ _ _ _ _
     written.before.before.before.before.before.received-by.ensures.received
 
 pub receive-flag-spec : {M : Type 1} → statement M

@@ -1,5 +1,5 @@
 -- `c_ucp_receiver::taken_by` meets its contract: what fits before the call fits behind it. Assumes nothing.
-use Rattle.c_ucp_receiver.proofs.Bounds.{fitting-slice}
+use Rattle.c_ucp_receiver.proofs.Bounds.{fitting_slice}
 use Rattle.std.proofs.Common.{rules}
 use Rattle.c_ucp_receiver.proofs.taken_by.Statement.{statement}
 use Rattle.c_ucp_receiver.proofs.taken_by.Tie as tie
@@ -8,7 +8,7 @@ returns : tie.Need-returns
 returns c =
     let called = c.before.before in
     let e = called.before.before.before.record-in.ensures in
-    fitting-slice _ _ _ _ _ _ _ (rw e.0 at e.1) (rw e.0 at called.receive-slice.ensures)
+    fitting_slice _ _ _ _ _ _ _ (rw e.0 at e.1) (rw e.0 at called.receive-slice.ensures)
 
 pub taken-by-spec : {M : Type 1} → statement M
 taken-by-spec =

@@ -5,7 +5,7 @@ use Prim.Native.Nat.{ℕ}
 use lib.Dec.{ltb}
 use lib.ListN.{get_or}
 use Rattle.field_signed.specs.Signed.{signed, holds}
-use Rattle.c_ucp_report.proofs.Held.{in-range, small}
+use Rattle.c_ucp_report.proofs.Held.{in_range, small}
 use borrow.Author.Rules.{rules}
 use Rattle.c_ucp_report.proofs.fits.Statement.{statement}
 use Rattle.c_ucp_report.proofs.fits.Tie as tie
@@ -39,7 +39,7 @@ returns c =
     && rate i
     && ltb (get_or m 36 0) 16
     && ltb (get_or m 37 0) 16)
-    ∙ in-range m s.requires
+    ∙ in_range m s.requires
     in
     (is, λ t. small m s.requires (λ i. (k15.before.shared-slice-known.given i).fits) (sym is ∙ t))
 

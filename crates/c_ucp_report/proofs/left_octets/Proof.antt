@@ -3,8 +3,8 @@ use mathlib.Core.Path.{◌∙◌}
 use mathlib.Core.List.{[], ◌∷◌}
 use Prim.Native.Nat.{◌/◌, ◌%◌, ◌<◌}
 use native.Mathlib.Omega.{arith}
-use Rattle.c_ucp_report.proofs.Words.{turned-eight}
-use Rattle.c_ucp_report.proofs.Numbers.{octet-lt, halves_lt}
+use Rattle.c_ucp_report.proofs.Words.{turned_eight}
+use Rattle.c_ucp_report.proofs.Numbers.{octet_lt, halves_lt}
 use borrow.Author.Rules.{rules}
 use Rattle.c_ucp_report.proofs.left_octets.Statement.{statement}
 use Rattle.c_ucp_report.proofs.left_octets.Tie as tie
@@ -33,9 +33,9 @@ returns c =
     let l = c.before.before.little-322.result % 16777216 in
     let f_lt : c.before.before.before.before.halves.result < 256 = halves_lt first z.alert z.kind in
     let a_lt : c.before.before.before.little-32.result < 16777216 = omega (arith, z.address) in
-    let (a0, a1, a2) = octet-lt a a_lt in
-    let (l0, l1, l2) = octet-lt l (omega arith) in
-    turned-eight c.before.left_word.result c.turned.result (l % 65536 % 256) (l % 65536 / 256) (l / 65536)
+    let (a0, a1, a2) = octet_lt a a_lt in
+    let (l0, l1, l2) = octet_lt l (omega arith) in
+    turned_eight c.before.left_word.result c.turned.result (l % 65536 % 256) (l % 65536 / 256) (l / 65536)
     (a % 65536 % 256) (a % 65536 / 256) (a / 65536) f id l2 l1 l0 a2 a1 a0 f_lt id-lt c.before.left_word.ensures
     c.turned.ensures
     ∙ (λ i. id

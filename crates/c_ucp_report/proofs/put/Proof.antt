@@ -3,8 +3,8 @@ use mathlib.Core.Path.{◌≡◌, ◌∙◌}
 use native.Mathlib.Omega.{arith}
 use lib.ListN.{length, get_or, set, length-set}
 use lib.Seq.{sets}
-use Rattle.field_words.proofs.Digits.{eight-from}
-use Rattle.c_ucp_report.proofs.Held.{body-put}
+use Rattle.field_words.proofs.Digits.{eight_from}
+use Rattle.c_ucp_report.proofs.Held.{body_put}
 use borrow.Author.Rules.{rules}
 use Rattle.c_ucp_report.proofs.put.Statement.{statement}
 use Rattle.c_ucp_report.proofs.put.Tie as tie
@@ -28,11 +28,11 @@ returns c =
     let s = k13.before.before.before.before in
     let m = s.args.message.now in
     let numbers = k13.put-numbers.ensures in
-    let callsign = k6.little-64.ensures ∙ eight-from m 28 (omega (arith, s.requires.0)) in
+    let callsign = k6.little-64.ensures ∙ eight_from m 28 (omega (arith, s.requires.0)) in
     let others = k5.put-64.ensures
     ∙ (λ i. sets (set (set (set (numbers i) 16 (get_or m 24 0)) 17 (get_or m 26 0)) 18 (get_or m 27 0)) 19 (callsign i))
     in
-    body-put m s.requires.0 (λ i. (k13.before.before.before.shared-slice-known.given i).fits) s.args.id s.requires.1 s.args.output.now s.requires.2
+    body_put m s.requires.0 (λ i. (k13.before.before.before.shared-slice-known.given i).fits) s.args.id s.requires.1 s.args.output.now s.requires.2
     (λ i. set (others i) 27 (c.halves.ensures i))
 
 pub put_spec : {M : Type 1} → statement M

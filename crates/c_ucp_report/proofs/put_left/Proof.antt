@@ -1,7 +1,7 @@
 -- `c_ucp_report::put_left` meets its contract, number by number. Assumes nothing.
 use mathlib.Core.Path.{◌∙◌, ap}
 use lib.Seq.{sets}
-use Rattle.c_ucp_report.specs.Steps.{halvesOf, wide24, fourOf}
+use Rattle.c_ucp_report.specs.Steps.{halves_of, wide24, four_of}
 use borrow.Author.Rules.{rules}
 use Rattle.c_ucp_report.proofs.put_left.Statement.{statement}
 use Rattle.c_ucp_report.proofs.put_left.Tie as tie
@@ -16,9 +16,9 @@ returns c =
     let left = k14.left.ensures in
     let latitude = k13.extended-24.ensures ∙ ap wide24 left.1 in
     let o = k14.before.before.before.args.message.now in
-    let first = k10.put-halves.ensures ∙ (λ i. sets o 0 (halvesOf (k11.octet.ensures i))) in
-    let second = k6.put_32.ensures ∙ (λ i. sets (first i) 4 (fourOf (left.0 i))) in
-    c.before.before.put-322.ensures ∙ (λ i. sets (second i) 8 (fourOf (latitude i)))
+    let first = k10.put-halves.ensures ∙ (λ i. sets o 0 (halves_of (k11.octet.ensures i))) in
+    let second = k6.put_32.ensures ∙ (λ i. sets (first i) 4 (four_of (left.0 i))) in
+    c.before.before.put-322.ensures ∙ (λ i. sets (second i) 8 (four_of (latitude i)))
 
 pub put-left-spec : {M : Type 1} → statement M
 put-left-spec =

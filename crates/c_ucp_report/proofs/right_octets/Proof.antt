@@ -4,8 +4,8 @@ use mathlib.Core.List.{[], ◌∷◌}
 use Prim.Native.Nat.{ℕ, ◌+◌, ◌*◌, ◌/◌, ◌%◌, ◌<◌}
 use native.Mathlib.Omega.{arith}
 use lib.ListN.{get_or}
-use Rattle.c_ucp_report.proofs.Words.{turned-eight}
-use Rattle.c_ucp_report.proofs.Numbers.{octet-lt, halves_lt, two-lt}
+use Rattle.c_ucp_report.proofs.Words.{turned_eight}
+use Rattle.c_ucp_report.proofs.Numbers.{octet_lt, halves_lt, two_lt}
 use borrow.Author.Rules.{rules}
 use Rattle.c_ucp_report.proofs.right_octets.Statement.{statement}
 use Rattle.c_ucp_report.proofs.right_octets.Tie as tie
@@ -49,10 +49,10 @@ returns c =
     let i_lt : c.before.before.before.before.before.halves.result < 256 = halves_lt integrity z.nic z.nacp in
     let h-lt : c.before.before.before.before.before.before.before.before.height-of.result < 65536 = omega (arith, height, z.altitude, z.miscellaneous) in
     let v-lt : c.before.before.motion-of.result < 65536 = omega (arith, motion, z.speed) in
-    let (g0, g1, g2) = octet-lt g (omega arith) in
-    let (h0, h1) = two-lt h h-lt in
-    let (v0, v1) = two-lt v v-lt in
-    turned-eight c.before.right-word.result c.turned.result (v % 256) (v / 256) i (h % 256) (h / 256)
+    let (g0, g1, g2) = octet_lt g (omega arith) in
+    let (h0, h1) = two_lt h h-lt in
+    let (v0, v1) = two_lt v v-lt in
+    turned_eight c.before.right-word.result c.turned.result (v % 256) (v / 256) i (h % 256) (h / 256)
     (g % 65536 % 256) (g % 65536 / 256) (g / 65536) v1 v0 i_lt h1 h0 g2 g1 g0 c.before.right-word.ensures c.turned.ensures
     ∙ (λ j. longitude j % 16777216 / 65536
     ∷ longitude j % 16777216 % 65536 / 256

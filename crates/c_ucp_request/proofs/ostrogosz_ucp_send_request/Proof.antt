@@ -1,10 +1,10 @@
 -- `ostrogosz_ucp_send_request` meets its contract: its two halves make up a send. Assumes nothing.
 use native.Mathlib.Omega.{arith}
-use Rattle.ucp_messages.specs.Request44.{requestFormat}
+use Rattle.ucp_messages.specs.Request44.{request_format}
 use Rattle.c_lent.specs.Structs.{held}
-use Rattle.c_lent.proofs.Sends.{struct-sends}
-use Rattle.c_ucp_request.specs.Struct.{requestStruct}
-use Rattle.c_ucp_request.proofs.Stored.{body-length}
+use Rattle.c_lent.proofs.Sends.{struct_sends}
+use Rattle.c_ucp_request.specs.Struct.{request_struct}
+use Rattle.c_ucp_request.proofs.Stored.{body_length}
 use borrow.Author.Rules.{rules}
 use Rattle.c_ucp_request.proofs.ostrogosz_ucp_send_request.Statement.{statement}
 use Rattle.c_ucp_request.proofs.ostrogosz_ucp_send_request.Tie as tie
@@ -12,8 +12,8 @@ use Rattle.c_ucp_request.proofs.ostrogosz_ucp_send_request.Tie as tie
 returns : tie.Need-returns
 returns c =
     let a = c.before.before.before.before.args in
-    let m = held requestStruct a.message.now in
-    struct-sends requestFormat m a.buffer.now (omega (arith, body-length m)) (omega (arith, body-length m)) c.before.before.write.ensures
+    let m = held request_struct a.message.now in
+    struct_sends request_format m a.buffer.now (omega (arith, body_length m)) (omega (arith, body_length m)) c.before.before.write.ensures
     c.before.before.write.auto.1.0 c.frame-written.ensures
 
 pub ostrogosz-ucp-send-request-spec : {M : Type 1} → statement M

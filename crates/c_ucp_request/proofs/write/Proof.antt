@@ -1,10 +1,10 @@
 -- `c_ucp_request::write` meets its contract, by its two ways. Assumes nothing.
 use native.Mathlib.Omega.{arith}
-use Rattle.ucp_messages.specs.Request44.{requestFormat}
+use Rattle.ucp_messages.specs.Request44.{request_format}
 use Rattle.c_lent.proofs.Writers.{no_room, written}
 use Rattle.c_lent.specs.Structs.{held}
-use Rattle.c_ucp_request.specs.Struct.{requestStruct}
-use Rattle.c_ucp_request.proofs.Stored.{body-length, always-fits}
+use Rattle.c_ucp_request.specs.Struct.{request_struct}
+use Rattle.c_ucp_request.proofs.Stored.{body_length, always_fits}
 use borrow.Author.Rules.{rules}
 use Rattle.c_ucp_request.proofs.write.Statement.{statement}
 use Rattle.c_ucp_request.proofs.write.Tie as tie
@@ -12,12 +12,12 @@ use Rattle.c_ucp_request.proofs.write.Tie as tie
 returns : tie.Need-returns
 returns c =
     let a = c.before.before.args in
-    no_room requestFormat (held requestStruct a.message.now) a.output.now (always-fits (held requestStruct a.message.now)) (omega (arith, body-length (held requestStruct a.message.now)))
+    no_room request_format (held request_struct a.message.now) a.output.now (always_fits (held request_struct a.message.now)) (omega (arith, body_length (held request_struct a.message.now)))
 
 returns-2 : tie.Need-returns-2
 returns-2 c =
     let a = c.before.before.before.before.before.before.before.args in
-    written requestFormat (held requestStruct a.message.now) a.output.now (always-fits (held requestStruct a.message.now)) (body-length (held requestStruct a.message.now)) (omega arith) c.before.before.put.ensures
+    written request_format (held request_struct a.message.now) a.output.now (always_fits (held request_struct a.message.now)) (body_length (held request_struct a.message.now)) (omega arith) c.before.before.put.ensures
 
 pub write_spec : {M : Type 1} → statement M
 write_spec = tie.close (tie.spec returns (λ c κs. search rules) (λ c. search rules) returns-2)

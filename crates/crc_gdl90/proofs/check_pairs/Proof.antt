@@ -4,15 +4,15 @@ use mathlib.Core.Path.{◌≡◌, refl, sym, ap, ◌∙◌}
 use Prim.Native.Nat.{ℕ, ◌+◌, ◌-◌, ◌%◌, ◌<◌, ◌≤◌}
 use native.Mathlib.Omega.{arith}
 use lib.ListN.{length, drop}
-use Rattle.crc_polynomial.specs.Polynomial.{bitsOfOctets, divided}
-use Rattle.crc_gdl90.proofs.Step.{pair-first, none_left}
+use Rattle.crc_polynomial.specs.Polynomial.{bits_of_octets, divided}
+use Rattle.crc_gdl90.proofs.Step.{pair_first, none_left}
 use borrow.Author.Rules.{rules}
 use Rattle.crc_gdl90.proofs.check_pairs.Statement.{statement}
 use Rattle.crc_gdl90.proofs.check_pairs.Tie as tie
 
 abbrev invariant-loop : tie.invariant-loop
 invariant-loop body start check check₀ i₀ check' i =
-    (i ≤ length body) × ((length body - i) % 2 ≡ 0) × (divided check' (bitsOfOctets (drop i body)) ≡ divided check (bitsOfOctets (drop start body)))
+    (i ≤ length body) × ((length body - i) % 2 ≡ 0) × (divided check' (bits_of_octets (drop i body)) ≡ divided check (bits_of_octets (drop start body)))
 
 abbrev decreases-loop : tie.decreases-loop
 decreases-loop body start check check₀ i₀ check' i = length body - i
@@ -27,8 +27,8 @@ loop-again c =
     let second : l.i + 1 < length body = omega arith in (
       omega arith,
       omega arith,
-      ap (λ (r : ℕ). divided r (bitsOfOctets (drop (l.i + 2) body))) c.next-check-pair.ensures.0
-          ∙ sym (pair-first l.check body l.i second)
+      ap (λ (r : ℕ). divided r (bits_of_octets (drop (l.i + 2) body))) c.next-check-pair.ensures.0
+          ∙ sym (pair_first l.check body l.i second)
           ∙ l.invariant.2,
     )
 

@@ -4,15 +4,15 @@ use mathlib.Core.Path.{◌≡◌, refl, sym, ap, ◌∙◌}
 use Prim.Native.Nat.{ℕ, ◌+◌, ◌-◌, ◌%◌, ◌<◌, ◌≤◌}
 use native.Mathlib.Omega.{arith}
 use lib.ListN.{length, drop}
-use Rattle.crc_polynomial.specs.Polynomial.{bitsOfOctets, divided}
-use Rattle.crc_gdl90.proofs.Eight.{part-first}
+use Rattle.crc_polynomial.specs.Polynomial.{bits_of_octets, divided}
+use Rattle.crc_gdl90.proofs.Eight.{part_first}
 use borrow.Author.Rules.{rules}
 use Rattle.crc_gdl90.proofs.check_words.Statement.{statement}
 use Rattle.crc_gdl90.proofs.check_words.Tie as tie
 
 abbrev invariant-loop : tie.invariant-loop
 invariant-loop body start check check₀ i₀ check' i =
-    (i ≤ length body) × ((length body - i) % 2 ≡ 0) × (divided check' (bitsOfOctets (drop i body)) ≡ divided check (bitsOfOctets (drop start body)))
+    (i ≤ length body) × ((length body - i) % 2 ≡ 0) × (divided check' (bits_of_octets (drop i body)) ≡ divided check (bits_of_octets (drop start body)))
 
 abbrev decreases-loop : tie.decreases-loop
 decreases-loop body start check check₀ i₀ check' i = length body - i
@@ -27,8 +27,8 @@ loop-again c =
     let few : l.i + 8 ≤ length body = omega arith in (
       few,
       omega arith,
-      ap (λ (r : ℕ). divided r (bitsOfOctets (drop (l.i + 8) body))) c.next-check-eight.ensures.0
-          ∙ sym (part-first 8 l.check body l.i _ c.before.big-64.ensures)
+      ap (λ (r : ℕ). divided r (bits_of_octets (drop (l.i + 8) body))) c.next-check-eight.ensures.0
+          ∙ sym (part_first 8 l.check body l.i _ c.before.big-64.ensures)
           ∙ l.invariant.2,
     )
 

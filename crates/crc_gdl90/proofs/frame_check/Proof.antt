@@ -3,22 +3,22 @@
 use mathlib.Core.Path.{◌≡◌, refl, sym, ap, ◌∙◌}
 use Prim.Native.Nat.{ℕ, ◌+◌, ◌-◌, ◌<◌, ◌≤◌}
 use lib.ListN.{length, drop}
-use Rattle.crc_polynomial.specs.Polynomial.{bitsOfOctets, divided}
-use Rattle.crc_gdl90.specs.Check.{frameCheck}
-use Rattle.crc_gdl90.proofs.Step.{octet-first, none_left}
+use Rattle.crc_polynomial.specs.Polynomial.{bits_of_octets, divided}
+use Rattle.crc_gdl90.specs.Check.{frame_check}
+use Rattle.crc_gdl90.proofs.Step.{octet_first, none_left}
 use borrow.Author.Rules.{rules}
 use Rattle.crc_gdl90.proofs.frame_check.Statement.{statement}
 use Rattle.crc_gdl90.proofs.frame_check.Tie as tie
 
 abbrev invariant-loop : tie.invariant-loop
 invariant-loop body table check₀ i₀ check i =
-    (i ≤ length body) × (check < 65536) × (divided check (bitsOfOctets (drop i body)) ≡ frameCheck body)
+    (i ≤ length body) × (check < 65536) × (divided check (bits_of_octets (drop i body)) ≡ frame_check body)
 
 abbrev decreases-loop : tie.decreases-loop
 decreases-loop body table check₀ i₀ check i = length body - i
 
 loop-holds : tie.Need-loop-init invariant-loop decreases-loop
-unfolding frameCheck
+unfolding frame_check
 loop-holds c = (search rules, search rules, refl)
 
 loop-again : tie.Need-loop-preserved invariant-loop decreases-loop
@@ -27,8 +27,8 @@ loop-again c =
     let body = c.before.before.before.before.before.before.before.args.body.now in (
       search rules,
       search rules,
-      ap (λ (r : ℕ). divided r (bitsOfOctets (drop (l.i + 1) body))) c.next-check.ensures.0
-          ∙ sym (octet-first l.check body l.i c.before.before.before.loop-test.true)
+      ap (λ (r : ℕ). divided r (bits_of_octets (drop (l.i + 1) body))) c.next-check.ensures.0
+          ∙ sym (octet_first l.check body l.i c.before.before.before.loop-test.true)
           ∙ l.invariant.2,
     )
 

@@ -4,13 +4,13 @@ use Prim.Native.Nat.{ℕ, ◌+◌, ◌*◌, ◌/◌, ◌%◌}
 use native.Mathlib.Omega.{arith}
 use lib.Bits.{bit_xor}
 use borrow.Author.Rules.{rules}
-use Rattle.crc_gdl90.specs.Steps.{byTable}
+use Rattle.crc_gdl90.specs.Steps.{by_table}
 use Rattle.crc_gdl90.proofs.Step.{table_step}
 use Rattle.crc_gdl90.proofs.next_check.Statement.{statement}
 use Rattle.crc_gdl90.proofs.next_check.Tie as tie
 
 returns : tie.Need-returns
-unfolding byTable
+unfolding by_table
 returns c =
     let a = c.before.args in
     let f = c.before.ranges in (

@@ -1,14 +1,14 @@
 -- `crc_gdl90::next_check_octet` meets its contract, by the law of the table's entries. Assumes nothing.
 use mathlib.Core.Path.{refl}
-use Rattle.crc_gdl90.specs.Steps.{byShifts}
-use Rattle.crc_gdl90.proofs.Steps.{shifts-is}
+use Rattle.crc_gdl90.specs.Steps.{by_shifts}
+use Rattle.crc_gdl90.proofs.Steps.{shifts_is}
 use borrow.Author.Rules.{rules}
 use Rattle.crc_gdl90.proofs.next_check_octet.Statement.{statement}
 use Rattle.crc_gdl90.proofs.next_check_octet.Tie as tie
 
 returns : tie.Need-returns
-unfolding byShifts
-returns c = (shifts-is c.args.check c.args.octet c.ranges.check.fits c.ranges.octet.fits, refl)
+unfolding by_shifts
+returns c = (shifts_is c.args.check c.args.octet c.ranges.check.fits c.ranges.octet.fits, refl)
 
 pub next-check-octet-spec : {M : Type 1} → statement M
 next-check-octet-spec = tie.close (tie.spec returns)

@@ -5,8 +5,8 @@ use mathlib.Core.List.{[], ◌∷◌, ◌++◌}
 use Prim.Native.Nat.{ℕ, ◌+◌, ◌-◌, ◌<◌, ◌≤◌}
 use native.Mathlib.Omega.{arith}
 use lib.ListN.{length, drop}
-use Rattle.crc_x25.specs.Check.{x25From}
-use Rattle.crc_x25.proofs.Step.{pair-next, end-from, octet-last}
+use Rattle.crc_x25.specs.Check.{x25_from}
+use Rattle.crc_x25.proofs.Step.{pair_next, end_from, octet_last}
 use borrow.Author.Rules.{rules}
 use Rattle.crc_x25.proofs.check_rest.Statement.{statement}
 use Rattle.crc_x25.proofs.check_rest.Tie as tie
@@ -15,7 +15,7 @@ abbrev invariant-loop : tie.invariant-loop
 invariant-loop octets start check extra check₀ i₀ check' i =
     (i ≤ length octets)
     × (check' < 65536)
-    × (x25From check' (drop i (octets ++ extra ∷ [])) ≡ x25From check (drop start (octets ++ extra ∷ [])))
+    × (x25_from check' (drop i (octets ++ extra ∷ [])) ≡ x25_from check (drop start (octets ++ extra ∷ [])))
 
 abbrev decreases-loop : tie.decreases-loop
 decreases-loop octets start check extra check₀ i₀ check' i = length octets - i
@@ -30,8 +30,8 @@ loop-again c =
     let two : l.i + 1 < length a.octets.now = omega arith in (
       search rules,
       search rules,
-      ap (λ (n : ℕ). x25From n (drop (l.i + 2) (a.octets.now ++ a.extra ∷ []))) c.next-pair.ensures
-          ∙ sym (pair-next l.check a.octets.now a.extra l.i two)
+      ap (λ (n : ℕ). x25_from n (drop (l.i + 2) (a.octets.now ++ a.extra ∷ []))) c.next-pair.ensures
+          ∙ sym (pair_next l.check a.octets.now a.extra l.i two)
           ∙ l.invariant.2,
     )
 
@@ -40,14 +40,14 @@ returns c =
     let l = c.before.before.before.before.loop in
     let a = c.before.before.before.before.before.before.args in
     let e : l.i + 1 ≡ length a.octets.now = omega arith in
-    c.next-pair2.ensures ∙ ap (x25From l.check) (sym (end-from 0 a.octets.now a.extra l.i e)) ∙ l.invariant.2
+    c.next-pair2.ensures ∙ ap (x25_from l.check) (sym (end_from 0 a.octets.now a.extra l.i e)) ∙ l.invariant.2
 
 returns-2 : tie.Need-returns-2 invariant-loop decreases-loop
 returns-2 c =
     let l = c.before.before.before.loop in
     let a = c.before.before.before.before.before.args in
     let e : l.i ≡ length a.octets.now = omega arith in
-    c.next-octet.ensures ∙ sym (octet-last l.check a.octets.now a.extra l.i e) ∙ l.invariant.2
+    c.next-octet.ensures ∙ sym (octet_last l.check a.octets.now a.extra l.i e) ∙ l.invariant.2
 
 pub check-rest-spec : {M : Type 1} → statement M
 check-rest-spec =

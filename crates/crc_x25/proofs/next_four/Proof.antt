@@ -1,10 +1,10 @@
 -- `crc_x25::next_four` meets its contract: the octets that met the check stand behind four zeros in the word. Assumes nothing.
 use mathlib.Core.Path.{ap, ◌∙◌}
 use lib.Bits.{bit_xor}
-use Rattle.field_words.specs.Words.{octetsUp}
+use Rattle.field_words.specs.Words.{octets_up}
 use Rattle.field_words.proofs.Pairs.{double}
-use Rattle.crc_x25.specs.Check.{x25From}
-use Rattle.crc_x25.proofs.Step.{above-zeros, zeros-passed, met-first}
+use Rattle.crc_x25.specs.Check.{x25_from}
+use Rattle.crc_x25.proofs.Step.{above_zeros, zeros_passed, met_first}
 use borrow.Author.Rules.{rules}
 use Rattle.crc_x25.proofs.next_four.Statement.{statement}
 use Rattle.crc_x25.proofs.next_four.Tie as tie
@@ -15,9 +15,9 @@ returns c =
     let a = c.before.args in
     let met = bit_xor a.word a.check in
     c.next-eight.ensures
-    ∙ ap (x25From 0) (above-zeros met)
-    ∙ zeros-passed (octetsUp 4 met)
-    ∙ met-first 1 a.check a.word c.before.ranges.check.fits
+    ∙ ap (x25_from 0) (above_zeros met)
+    ∙ zeros_passed (octets_up 4 met)
+    ∙ met_first 1 a.check a.word c.before.ranges.check.fits
 
 pub next-four-spec : {M : Type 1} → statement M
 next-four-spec = tie.close (tie.spec (λ c κs. search rules) returns)

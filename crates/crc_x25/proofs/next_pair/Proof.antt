@@ -3,7 +3,7 @@ use Prim.Native.Nat.{◌+◌, ◌*◌, ◌<◌}
 use native.Mathlib.Omega.{arith}
 use lib.Bits.{bit_xor}
 use borrow.Author.Rules.{rules}
-use Rattle.crc_x25.proofs.Shifts.{paired, paired-lt}
+use Rattle.crc_x25.proofs.Shifts.{paired, paired_lt}
 use Rattle.crc_x25.proofs.Step.{pair_step, pair_lt}
 use Rattle.crc_x25.proofs.next_pair.Statement.{statement}
 use Rattle.crc_x25.proofs.next_pair.Reads as reads
@@ -28,7 +28,7 @@ mul-q-4 c = omega (arith, met c)
 
 cast-result : tie.Need-overflow-cast-result
 unfolding paired
-cast-result c = record { fits = paired-lt (bit_xor c.args.check (c.args.second * 256 + c.args.first)) }
+cast-result c = record { fits = paired_lt (bit_xor c.args.check (c.args.second * 256 + c.args.first)) }
 
 returns : tie.Need-returns
 unfolding paired

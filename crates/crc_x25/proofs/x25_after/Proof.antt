@@ -5,8 +5,8 @@ use mathlib.Core.List.{[], ◌∷◌, ◌++◌}
 use Prim.Native.Nat.{ℕ, ◌+◌, ◌-◌, ◌<◌, ◌≤◌}
 use native.Mathlib.Omega.{arith}
 use lib.ListN.{length, drop}
-use Rattle.crc_x25.specs.Check.{x25From}
-use Rattle.crc_x25.proofs.Step.{eight-next}
+use Rattle.crc_x25.specs.Check.{x25_from}
+use Rattle.crc_x25.proofs.Step.{eight_next}
 use borrow.Author.Rules.{rules}
 use Rattle.crc_x25.proofs.x25_after.Statement.{statement}
 use Rattle.crc_x25.proofs.x25_after.Tie as tie
@@ -15,7 +15,7 @@ abbrev invariant-loop : tie.invariant-loop
 invariant-loop check octets extra check₀ i₀ check' i =
     (i ≤ length octets)
     × (check' < 65536)
-    × (x25From check' (drop i (octets ++ extra ∷ [])) ≡ x25From check (octets ++ extra ∷ []))
+    × (x25_from check' (drop i (octets ++ extra ∷ [])) ≡ x25_from check (octets ++ extra ∷ []))
 
 abbrev decreases-loop : tie.decreases-loop
 decreases-loop check octets extra check₀ i₀ check' i = length octets - i
@@ -30,8 +30,8 @@ loop-again c =
     let few : l.i + 8 ≤ length a.octets.now = omega arith in (
       few,
       search rules,
-      ap (λ (n : ℕ). x25From n (drop (l.i + 8) (a.octets.now ++ a.extra ∷ []))) c.next-eight.ensures
-          ∙ sym (eight-next l.check a.octets.now a.extra l.i _ few c.before.little-64.ensures)
+      ap (λ (n : ℕ). x25_from n (drop (l.i + 8) (a.octets.now ++ a.extra ∷ []))) c.next-eight.ensures
+          ∙ sym (eight_next l.check a.octets.now a.extra l.i _ few c.before.little-64.ensures)
           ∙ l.invariant.2,
     )
 

@@ -2,19 +2,19 @@
 use mathlib.Core.Path.{◌≡◌, refl, ap, ◌∙◌}
 use mathlib.Core.List.{◌∷◌}
 use Prim.Native.Nat.{ℕ, ◌*◌, ◌%◌, ◌^◌}
-use Rattle.field_words.specs.Words.{octetsUp}
+use Rattle.field_words.specs.Words.{octets_up}
 use Rattle.field_words.proofs.Digits.{lows, below}
-use Rattle.crc_x25.specs.Check.{x25From}
-use Rattle.crc_x25.proofs.Step.{zero-before}
+use Rattle.crc_x25.specs.Check.{x25_from}
+use Rattle.crc_x25.proofs.Step.{zero_before}
 use borrow.Author.Rules.{rules}
 use Rattle.crc_x25.proofs.x25_seven.Statement.{statement}
 use Rattle.crc_x25.proofs.x25_seven.Tie as tie
 
-moved : (word : ℕ) → octetsUp 8 (word * 256 % 2 ^ 64) ≡ 0 ∷ octetsUp 7 word
+moved : (word : ℕ) → octets_up 8 (word * 256 % 2 ^ 64) ≡ 0 ∷ octets_up 7 word
 moved word = lows 8 (word * 256) ∙ below 7 (word * 256) word refl
 
 returns : tie.Need-returns
-returns c = c.next-eight.ensures ∙ ap (x25From 0x3078) (moved c.before.args.word) ∙ zero-before (octetsUp 7 c.before.args.word)
+returns c = c.next-eight.ensures ∙ ap (x25_from 0x3078) (moved c.before.args.word) ∙ zero_before (octets_up 7 c.before.args.word)
 
 pub x25-seven-spec : {M : Type 1} → statement M
 x25-seven-spec = tie.close (tie.spec (λ c κs. search rules) returns)

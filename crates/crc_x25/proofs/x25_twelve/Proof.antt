@@ -1,9 +1,9 @@
 -- `crc_x25::x25_twelve` meets its contract: the four octets stand behind four zeros in the first word. Assumes nothing.
 use mathlib.Core.Path.{ap, ◌∙◌}
 use Prim.Native.Nat.{ℕ}
-use Rattle.field_words.specs.Words.{octetsUp}
-use Rattle.crc_x25.specs.Check.{x25From}
-use Rattle.crc_x25.proofs.Step.{above-zeros, four-before, after}
+use Rattle.field_words.specs.Words.{octets_up}
+use Rattle.crc_x25.specs.Check.{x25_from}
+use Rattle.crc_x25.proofs.Step.{above_zeros, four_before, after}
 use borrow.Author.Rules.{rules}
 use Rattle.crc_x25.proofs.x25_twelve.Statement.{statement}
 use Rattle.crc_x25.proofs.x25_twelve.Tie as tie
@@ -12,9 +12,9 @@ returns : tie.Need-returns
 returns c =
     let a = c.before.before.args in
     c.next-eight2.ensures
-    ∙ ap (λ (n : ℕ). x25From n (octetsUp 8 a.word))
-    (c.before.next-eight.ensures ∙ ap (x25From 0xEC2A) (above-zeros a.first) ∙ four-before (octetsUp 4 a.first))
-    ∙ after (octetsUp 4 a.first) (octetsUp 8 a.word)
+    ∙ ap (λ (n : ℕ). x25_from n (octets_up 8 a.word))
+    (c.before.next-eight.ensures ∙ ap (x25_from 0xEC2A) (above_zeros a.first) ∙ four_before (octets_up 4 a.first))
+    ∙ after (octets_up 4 a.first) (octets_up 8 a.word)
 
 pub x25-twelve-spec : {M : Type 1} → statement M
 x25-twelve-spec = tie.close (tie.spec (λ c κs. search rules) (λ c κs. search rules) returns)

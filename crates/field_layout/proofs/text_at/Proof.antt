@@ -5,7 +5,7 @@ use Rattle.field_layout.proofs.text_at.Tie as tie
 
 returns : tie.Need-returns
 returns c = λ i. record {
-  c0 = c.before.before.before.before.before.before.before.octet-at.ensures i;
+  c0 = c.before.before.before.before.before.before.before.octet_at.ensures i;
   c1 = c.before.before.before.before.before.before.octet-at2.ensures i;
   c2 = c.before.before.before.before.before.octet-at3.ensures i;
   c3 = c.before.before.before.before.octet-at4.ensures i;

@@ -1,17 +1,17 @@
 -- `field_signed::signed_16` meets its contract. Assumes nothing.
 use native.Mathlib.Omega.{arith}
 use borrow.Author.Rules.{rules}
-use Rattle.field_signed.proofs.Negative.{narrow-fits, narrowed-back}
+use Rattle.field_signed.proofs.Negative.{narrow_fits, narrowed_back}
 use Rattle.field_signed.proofs.signed_16.Statement.{statement}
 use Rattle.field_signed.proofs.signed_16.Tie as tie
 
 narrowed-requires : tie.Need-narrowed-requires
 narrowed-requires c κs =
-    narrow-fits 32768 c.before.args.bits (omega arith) (omega arith) c.to-signed.result c.to-signed.ensures
+    narrow_fits 32768 c.before.args.bits (omega arith) (omega arith) c.to-signed.result c.to-signed.ensures
 
 returns : tie.Need-returns
 returns c =
-    narrowed-back 32768 c.before.before.args.bits (omega arith) (omega arith) c.before.to-signed.result
+    narrowed_back 32768 c.before.before.args.bits (omega arith) (omega arith) c.before.to-signed.result
     c.narrowed.result c.before.to-signed.ensures c.narrowed.ensures
 
 pub signed-16-spec : {M : Type 1} → statement M

@@ -6,14 +6,14 @@ use lib.Signed.{mag}
 use mir.Syntax.{w32}
 use mir.ValLaws.{to_z-of_z}
 use Rattle.field_signed.specs.Signed.{complement}
-use Rattle.field_signed.proofs.Negative.{below-zero, from_zero}
+use Rattle.field_signed.proofs.Negative.{below_zero, from_zero}
 use Rattle.field_signed.proofs.to_bits.Statement.{statement}
 use Rattle.field_signed.proofs.to_bits.Tie as tie
 
 returns : tie.Need-returns
 returns c =
     let a = c.before.before.before.args in
-    let below = below-zero a.number c.before.before.before.ranges.number c.before.if1.true in
+    let below = below_zero a.number c.before.before.before.ranges.number c.before.if1.true in
     c.negative-bits.ensures
     ∙ ap (λ (n : ℕ). a.half * 2 - suc n)
     (c.before.before.magnitude.ensures ∙ ap mag (to_z-of_z w32 a.number c.before.before.before.ranges.number))

@@ -1,6 +1,6 @@
 -- `io_streams::put_behind` meets its contract. Assumes nothing.
 use Rattle.std.proofs.Common.{sym, refl, arith, length-take-le, rules}
-use Rattle.io_streams.proofs.Gathering.{fits-behind, in_place}
+use Rattle.io_streams.proofs.Gathering.{fits_behind, in_place}
 use Rattle.io_streams.proofs.put_behind.Statement.{statement}
 use Rattle.io_streams.proofs.put_behind.Tie as tie
 
@@ -16,7 +16,7 @@ add-t12 c = let s = c.before.before.before.before.before.before.before in omega 
 returns : tie.Need-returns
 returns c =
     let s = c.before.before.before.before.before.before.before in
-    fits-behind s.args.buffer.now s.args.waiting s.args.line.now s.requires.0 c.before.before.before.before.if1.true c.before.before.copy.ensures
+    fits_behind s.args.buffer.now s.args.waiting s.args.line.now s.requires.0 c.before.before.before.before.if1.true c.before.before.copy.ensures
 
 slice-reshare-prefix-write-out : tie.Need-slice-reshare-prefix-write-out
 slice-reshare-prefix-write-out c = c.before.before.before.requires.0

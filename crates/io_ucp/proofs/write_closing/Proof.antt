@@ -8,14 +8,14 @@ use lib.Dec.{leb}
 use lib.ListN.{length}
 use lib.Seq.{length-take-le}
 use Rattle.ucp_receiver.specs.declared.Counts.{Counts}
-use Rattle.text_ucp_listing.specs.Listing.{longestClosing}
+use Rattle.text_ucp_listing.specs.Listing.{longest_closing}
 use Rattle.text_ucp_listing.specs.Lists.{PutsClosingIf, PutsClosing}
 use borrow.Author.Rules.{rules}
 use Rattle.io_ucp.proofs.write_closing.Statement.{statement}
 use Rattle.io_ucp.proofs.write_closing.Tie as tie
 
 within : (before : List ℕ) (counts : Counts) (next : ℕ) (after : List ℕ) → PutsClosing before 0 counts next after → next ≤ length before
-within before counts next after = go (leb (0 + longestClosing) (length before))
+within before counts next after = go (leb (0 + longest_closing) (length before))
   where
     go : (b : Bool) → PutsClosingIf b before 0 counts next after → next ≤ length before
     go true e = e.within

@@ -1,7 +1,7 @@
 -- `line_explainer::explain_turn` meets its contract: what the block came to decides what follows. Assumes nothing.
 use Rattle.std.proofs.Common.{sym, length-take-le, rules}
-use Rattle.text_ucp_explanation.specs.Explanation.{everyExplanation}
-use Rattle.io_ucp.proofs.Runs.{turn-works}
+use Rattle.text_ucp_explanation.specs.Explanation.{every_explanation}
+use Rattle.io_ucp.proofs.Runs.{turn_works}
 use Rattle.line_explainer.proofs.explain_turn.Statement.{statement}
 use Rattle.line_explainer.proofs.explain_turn.Tie as tie
 
@@ -24,7 +24,7 @@ returns : tie.Need-returns
 returns c =
     let a = c.before.before.before.before.before.before.before.before.before.before.before.before.before.before.args in
     let d = c.before.before.before.before.before.before.explain-block in
-    turn-works everyExplanation a.receiver a.store.now a.block.now a.turn d.result _ c.before.before.follow.result d.ensures.0 d.ensures.1 c.before.before.follow.ensures
+    turn_works every_explanation a.receiver a.store.now a.block.now a.turn d.result _ c.before.before.follow.result d.ensures.0 d.ensures.1 c.before.before.follow.ensures
 
 pub explain-turn-spec : {M : Type 1} → statement M
 explain-turn-spec =

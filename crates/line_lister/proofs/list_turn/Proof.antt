@@ -1,7 +1,7 @@
 -- `line_lister::list_turn` meets its contract: what the block came to decides what follows. Assumes nothing.
 use Rattle.std.proofs.Common.{sym, length-take-le, rules}
-use Rattle.text_ucp_listing.specs.Lists.{everyLine}
-use Rattle.io_ucp.proofs.Runs.{turn-works}
+use Rattle.text_ucp_listing.specs.Lists.{every_line}
+use Rattle.io_ucp.proofs.Runs.{turn_works}
 use Rattle.line_lister.proofs.list_turn.Statement.{statement}
 use Rattle.line_lister.proofs.list_turn.Tie as tie
 
@@ -24,7 +24,7 @@ returns : tie.Need-returns
 returns c =
     let a = c.before.before.before.before.before.before.before.before.before.before.before.before.before.args in
     let d = c.before.before.before.before.before.before.list-block in
-    turn-works everyLine a.receiver a.store.now a.block.now a.turn d.result _ c.before.before.follow.result d.ensures.0 d.ensures.1 c.before.before.follow.ensures
+    turn_works every_line a.receiver a.store.now a.block.now a.turn d.result _ c.before.before.follow.result d.ensures.0 d.ensures.1 c.before.before.follow.ensures
 
 pub list-turn-spec : {M : Type 1} → statement M
 list-turn-spec =

@@ -1,6 +1,6 @@
 -- `mavlink_explainer::explain_input` meets its contract: each turn leaves fewer, and what is lent keeps its length. Assumes nothing.
 use Rattle.std.proofs.Common.{◌≡◌, ℕ, ◌≤◌, length, sym, refl, ◌∙◌, true≢false, arith, rules}
-use Rattle.io_streams.proofs.Turns.{Onward, reads-onward, turns-onward}
+use Rattle.io_streams.proofs.Turns.{Onward, reads_onward, turns_onward}
 use Rattle.mavlink_explainer.specs.Blocks.{FramesRun, first, later}
 use Rattle.mavlink_explainer.proofs.explain_input.Statement.{statement}
 use Rattle.mavlink_explainer.proofs.explain_input.Tie as tie
@@ -17,10 +17,10 @@ onward : (c : tie.After-explain-turn invariant-loop decreases-loop)
 onward c =
     let l = c.before.before.before.before.before.before.loop in
     let d = c.explain-turn.result in
-    turns-onward l.turn.left (length l.block) d.progress.left d.turn d.progress.input c.explain-turn.ensures.follows
+    turns_onward l.turn.left (length l.block) d.progress.left d.turn d.progress.input c.explain-turn.ensures.follows
 
 loop-holds : tie.Need-loop-init invariant-loop decreases-loop
-loop-holds c = let a = c.before.before.before.before.before.before.args in let t = c.before.before.first-turn in (refl, omega (arith, (reads-onward _ (length a.block.now) 0 t.result t.result.input t.ensures).within, t.auto.0), refl, first {block = t.new.0} {turn = t.result} (rw t.auto.0 t.ensures))
+loop-holds c = let a = c.before.before.before.before.before.before.args in let t = c.before.before.first-turn in (refl, omega (arith, (reads_onward _ (length a.block.now) 0 t.result t.result.input t.ensures).within, t.auto.0), refl, first {block = t.new.0} {turn = t.result} (rw t.auto.0 t.ensures))
 
 explain-turn-requires : tie.Need-explain-turn-requires invariant-loop decreases-loop
 explain-turn-requires c κs = (omega (arith, c.before.before.before.before.before.loop.invariant.2, c.before.before.before.before.before.before.before.before.before.before.before.before.requires), c.before.before.before.before.before.loop.invariant.1)

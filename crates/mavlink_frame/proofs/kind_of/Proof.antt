@@ -3,19 +3,19 @@ use mathlib.Core.Path.{◌≡◌, refl, sym, ap, ◌∙◌}
 use Prim.Native.Nat.{◌-◌, ◌≤◌}
 use borrow.Author.Rules.{rules}
 use lib.ListN.{drop, drop_of_length-le}
-use Rattle.mavlink_frame.specs.Frame.{kinds, kindAmong, mavlinkKind}
+use Rattle.mavlink_frame.specs.Frame.{kinds, kind_among, mavlink_kind}
 use Rattle.mavlink_frame.proofs.Search.{here, past}
 use Rattle.mavlink_frame.proofs.kind_of.Statement.{statement}
 use Rattle.mavlink_frame.proofs.kind_of.Tie as tie
 
 abbrev invariant-loop : tie.invariant-loop
-invariant-loop id kinds₀ i₀ i = (i ≤ 5) × (kindAmong (drop i kinds) id ≡ mavlinkKind id)
+invariant-loop id kinds₀ i₀ i = (i ≤ 5) × (kind_among (drop i kinds) id ≡ mavlink_kind id)
 
 abbrev decreases-loop : tie.decreases-loop
 decreases-loop id kinds₀ i₀ i = 5 - i
 
 loop-holds : tie.Need-loop-init invariant-loop decreases-loop
-unfolding mavlinkKind
+unfolding mavlink_kind
 loop-holds c = (search rules, refl)
 
 returns : tie.Need-returns invariant-loop decreases-loop
@@ -31,7 +31,7 @@ loop-again c =
 returns-2 : tie.Need-returns-2 invariant-loop decreases-loop
 returns-2 c =
     let l = c.before.loop in
-    ap (λ ks. kindAmong ks c.before.before.args.id) (sym (drop_of_length-le kinds c.loop-test.false)) ∙ l.invariant.1
+    ap (λ ks. kind_among ks c.before.before.args.id) (sym (drop_of_length-le kinds c.loop-test.false)) ∙ l.invariant.1
 
 pub kind-of-spec : {M : Type 1} → statement M
 kind-of-spec =

@@ -5,16 +5,16 @@ use Prim.Native.Nat.{ℕ}
 use native.Mathlib.Omega.{arith}
 use borrow.Author.Rules.{rules}
 use lib.ListN.{length, get_or}
-use Rattle.mavlink_messages.specs.FailureBits.{failureBits}
-use Rattle.mavlink_messages.specs.Failures.{FailureAnswer, bit, lowestOf, failuresIn, noFailures}
+use Rattle.mavlink_messages.specs.FailureBits.{failure_bits}
+use Rattle.mavlink_messages.specs.Failures.{FailureAnswer, bit, lowest_of, failures_in, no_failures}
 use Rattle.mavlink_messages.proofs.failures_of.Statement.{statement}
 use Rattle.mavlink_messages.proofs.failures_of.Tie as tie
 
 -- the figures of some bits
 abbrev figures : List ℕ → FailureAnswer
-figures bs = record { count = length bs; lowest = lowestOf bs }
+figures bs = record { count = length bs; lowest = lowest_of bs }
 
-none : (bs : List ℕ) → length bs ≡ 0 → figures bs ≡ noFailures
+none : (bs : List ℕ) → length bs ≡ 0 → figures bs ≡ no_failures
 none [] e = refl
 none (b ∷ bs) e = absurd (omega arith)
 
@@ -24,15 +24,15 @@ some [] e ne l = absurd (ne e)
 some (b ∷ bs) e ne l = λ i. record { count = e i; lowest = bit (l i) }
 
 returns : tie.Need-returns
-unfolding failuresIn
+unfolding failures_in
 returns c =
     c.no-failures.ensures
-    ∙ sym (none (failureBits c.before.before.before.args.status) (sym c.before.before.count-failures.ensures ∙ c.before.if1.true))
+    ∙ sym (none (failure_bits c.before.before.before.args.status) (sym c.before.before.count-failures.ensures ∙ c.before.if1.true))
 
 returns-2 : tie.Need-returns-2
-unfolding failuresIn
+unfolding failures_in
 returns-2 c =
-    some (failureBits c.before.before.before.args.status) c.before.before.count-failures.ensures c.before.if1.false
+    some (failure_bits c.before.before.before.args.status) c.before.before.count-failures.ensures c.before.if1.false
     c.lowest-failure.ensures
 
 pub failures-of-spec : {M : Type 1} → statement M

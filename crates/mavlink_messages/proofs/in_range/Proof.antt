@@ -4,7 +4,7 @@ use Rattle.mavlink_messages.proofs.in_range.Statement.{statement}
 use Rattle.mavlink_messages.proofs.in_range.Tie as tie
 
 returns-2 : tie.Need-returns-2
-returns-2 c = rw c.before.before.message.given.1 c.in-range.ensures
+returns-2 c = rw c.before.before.message.given.1 c.in_range.ensures
 
 returns-3 : tie.Need-returns-3
 returns-3 c = rw c.before.before.message2.given.1 c.in-range2.ensures

@@ -5,15 +5,15 @@ use denote.Enum.Declared.{tag_of}
 use types.Run.{OneOf, miss}
 use Rattle.mavlink_messages.specs.declared.Message.{Message}
 use Rattle.mavlink_messages.specs.declared.Message.TheVariants.{DataStream, Static, Dynamic, Status, Traffic}
-use Rattle.mavlink_messages.specs.Failures.{noFailures}
-use Rattle.mavlink_messages.specs.Messages.{failuresOf}
+use Rattle.mavlink_messages.specs.Failures.{no_failures}
+use Rattle.mavlink_messages.specs.Messages.{failures_of}
 use Rattle.mavlink_messages.specs.contracts.Message.{the_type}
 use borrow.Author.Rules.{rules}
 use Rattle.mavlink_messages.proofs.message_failures.Statement.{statement}
 use Rattle.mavlink_messages.proofs.message_failures.Tie as tie
 
 -- the tags of the kinds but the status
-none : (m : Message) → OneOf (0 ∷ 1 ∷ 2 ∷ 4 ∷ []) (tag_of the_type m) → noFailures ≡ failuresOf m
+none : (m : Message) → OneOf (0 ∷ 1 ∷ 2 ∷ 4 ∷ []) (tag_of the_type m) → no_failures ≡ failures_of m
 none (DataStream d) k = refl
 none (Static s) k = refl
 none (Dynamic d) k = refl

@@ -6,7 +6,7 @@ use Rattle.text_fields.proofs.put_long_code.Statement.{statement}
 use Rattle.text_fields.proofs.put_long_code.Tie as tie
 
 returns : tie.Need-returns
-returns c = rw (c.before.before.before.before.octet-at.ensures, c.before.before.before.octet-at2.ensures, c.before.before.octet-at3.ensures, to_z-of_z w32 c.before.before.before.before.before.before.args.n c.before.before.before.before.before.before.ranges.n) at c.put-long-value.ensures
+returns c = rw (c.before.before.before.before.octet_at.ensures, c.before.before.before.octet-at2.ensures, c.before.before.octet-at3.ensures, to_z-of_z w32 c.before.before.before.before.before.before.args.n c.before.before.before.before.before.before.ranges.n) at c.put-long-value.ensures
 
 pub put-long-code-spec : {M : Type 1} → statement M
 put-long-code-spec =

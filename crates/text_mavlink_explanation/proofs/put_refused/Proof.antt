@@ -1,11 +1,11 @@
 -- `text_mavlink_explanation::put_refused` meets its contract. Assumes nothing.
-use Rattle.text_mavlink_explanation.specs.Explanation.{frameLine}
+use Rattle.text_mavlink_explanation.specs.Explanation.{frame_line}
 use Rattle.text_output.proofs.Clipped.{then}
 use Rattle.text_mavlink_explanation.proofs.put_refused.Statement.{statement}
 use Rattle.text_mavlink_explanation.proofs.put_refused.Tie as tie
 
 returns : tie.Need-returns
-unfolding frameLine
+unfolding frame_line
 returns c = then c.before.before.put-refusal.ensures c.put-octet.ensures
 
 pub put-refused-spec : {M : Type 1} → statement M

@@ -2,19 +2,19 @@
 use mathlib.Core.Path.{refl}
 use native.Mathlib.Omega.{arith}
 use mir.Syntax.{w16, w32}
-use Rattle.text_fields.specs.Fields.{fieldsShown}
+use Rattle.text_fields.specs.Fields.{fields_shown}
 use Rattle.text_fields.specs.Templates.{filled}
 use Rattle.text_fields.proofs.Taken.{signed, put_as}
-use Rattle.text_mavlink_messages.specs.Dynamic202.{dynamicFields}
+use Rattle.text_mavlink_messages.specs.Dynamic202.{dynamic_fields}
 use Rattle.text_mavlink_messages.proofs.put_dynamic.Statement.{statement}
 use Rattle.text_mavlink_messages.proofs.put_dynamic.Tie as tie
 
 returns : tie.Need-returns
-unfolding fieldsShown filled
+unfolding fields_shown filled
 returns c =
     let m = c.before.before.before.before.before.before.before.before.before.before.before.before.before.before.before.before.before.args.message in
     let told = c.before.before.before.before.before.before.before.before.struct_told.given in
-    put_as c.put-fields.ensures (λ i. fieldsShown (dynamicFields (record { utc_time = m.utc_time; latitude = signed w32 m.latitude told.1.0.1 i; longitude = signed w32 m.longitude told.1.1.0.1 i; alt_pres = signed w32 m.alt_pres told.1.1.1.0.1 i; alt_gnss = signed w32 m.alt_gnss told.1.1.1.1.0.1 i; acc_horiz = m.acc_horiz; acc_vert = m.acc_vert; acc_vel = m.acc_vel; vel_vert = signed w16 m.vel_vert told.1.1.1.1.1.1.1.1.0.1 i; ns_vog = signed w16 m.ns_vog told.1.1.1.1.1.1.1.1.1.0.1 i; ew_vog = signed w16 m.ew_vog told.1.1.1.1.1.1.1.1.1.1.0.1 i; state = m.state; squawk = m.squawk; fix_type = m.fix_type; num_sats = m.num_sats; em_status = m.em_status; control = m.control })))
+    put_as c.put-fields.ensures (λ i. fields_shown (dynamic_fields (record { utc_time = m.utc_time; latitude = signed w32 m.latitude told.1.0.1 i; longitude = signed w32 m.longitude told.1.1.0.1 i; alt_pres = signed w32 m.alt_pres told.1.1.1.0.1 i; alt_gnss = signed w32 m.alt_gnss told.1.1.1.1.0.1 i; acc_horiz = m.acc_horiz; acc_vert = m.acc_vert; acc_vel = m.acc_vel; vel_vert = signed w16 m.vel_vert told.1.1.1.1.1.1.1.1.0.1 i; ns_vog = signed w16 m.ns_vog told.1.1.1.1.1.1.1.1.1.0.1 i; ew_vog = signed w16 m.ew_vog told.1.1.1.1.1.1.1.1.1.1.0.1 i; state = m.state; squawk = m.squawk; fix_type = m.fix_type; num_sats = m.num_sats; em_status = m.em_status; control = m.control })))
 
 pub put-dynamic-spec : {M : Type 1} → statement M
 put-dynamic-spec =

@@ -1,13 +1,13 @@
 -- `text_mavlink_messages::put_static` meets its contract: its template over its numbers is its fields. Assumes nothing.
 use mathlib.Core.Path.{refl}
 use native.Mathlib.Omega.{arith}
-use Rattle.text_fields.specs.Fields.{fieldsShown}
+use Rattle.text_fields.specs.Fields.{fields_shown}
 use Rattle.text_fields.specs.Templates.{filled}
 use Rattle.text_mavlink_messages.proofs.put_static.Statement.{statement}
 use Rattle.text_mavlink_messages.proofs.put_static.Tie as tie
 
 returns : tie.Need-returns
-unfolding fieldsShown filled
+unfolding fields_shown filled
 returns c = c.put-named.ensures
 
 pub put-static-spec : {M : Type 1} → statement M

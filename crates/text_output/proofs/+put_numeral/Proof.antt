@@ -7,7 +7,7 @@ use Prim.Native.Nat.{ℕ, ◌<◌}
 use borrow.Fn.Kinds.{In}
 use borrow.Fn.PlainCycle.{Measures, is, falls, and}
 use Rattle.text_output.proofs.Clipped.{then}
-use Rattle.text_output.proofs.Numerals.{no_digit, one-digit, last-digit, two_digits, pair-digits, last-small}
+use Rattle.text_output.proofs.Numerals.{no_digit, one_digit, last_digit, two_digits, pair_digits, last_small}
 use Rattle.text_output.proofs.put_numeral.Reads as put-numeral
 use Rattle.text_output.proofs.put_numeral.Kinds as put-numeral-kinds
 use Rattle.text_output.proofs.+put_numeral.Lts-put_numeral as put-numeral-lts
@@ -39,12 +39,12 @@ put-numeral-returns t c =
 put-numeral-digit-requires : (t : ℕ) → put-numeral-lts.Need-digit-requires (put-nothing-reads.Asked, put-nothing-reads.Learnt, digit-reads.Asked, digit-reads.Learnt, put-octet-reads.Asked, put-octet-reads.Learnt, quotient-reads.Asked, quotient-reads.Learnt, remainder-reads.Asked, remainder-reads.Learnt, put-two-reads.Asked, put-two-reads.Learnt, put-numeral-below t, put-numeral.Post) (put-numeral-at t) put-numeral.Post
 put-numeral-digit-requires t c κs =
     let s = c.before.before.before in
-    omega (arith, last-small s.args.padded s.args.n s.args.base c.before.if2.true, s.requires.1.1)
+    omega (arith, last_small s.args.padded s.args.n s.args.base c.before.if2.true, s.requires.1.1)
 
 put-numeral-returns-2 : (t : ℕ) → put-numeral-lts.Need-returns-2 (put-nothing-reads.Asked, put-nothing-reads.Learnt, digit-reads.Asked, digit-reads.Learnt, put-octet-reads.Asked, put-octet-reads.Learnt, quotient-reads.Asked, quotient-reads.Learnt, remainder-reads.Asked, remainder-reads.Learnt, put-two-reads.Asked, put-two-reads.Learnt, put-numeral-below t, put-numeral.Post) (put-numeral-at t) put-numeral.Post
 put-numeral-returns-2 t c =
     let s = c.before.before.before.before.before in
-    rw (one-digit s.args.padded s.args.base s.args.most s.args.n c.before.before.before.before.if1.false c.before.before.before.if2.true, ← c.before.digit.ensures) c.put-octet.ensures
+    rw (one_digit s.args.padded s.args.base s.args.most s.args.n c.before.before.before.before.if1.false c.before.before.before.if2.true, ← c.before.digit.ensures) c.put-octet.ensures
 
 put-numeral-quotient-requires : (t : ℕ) → put-numeral-lts.Need-quotient-requires (put-nothing-reads.Asked, put-nothing-reads.Learnt, digit-reads.Asked, digit-reads.Learnt, put-octet-reads.Asked, put-octet-reads.Learnt, quotient-reads.Asked, quotient-reads.Learnt, remainder-reads.Asked, remainder-reads.Learnt, put-two-reads.Asked, put-two-reads.Learnt, put-numeral-below t, put-numeral.Post) (put-numeral-at t) put-numeral.Post
 put-numeral-quotient-requires t c κs =
@@ -62,12 +62,12 @@ put-numeral-digit-requires-2 t c κs =
 put-numeral-returns-3 : (t : ℕ) → put-numeral-lts.Need-returns-3 (put-nothing-reads.Asked, put-nothing-reads.Learnt, digit-reads.Asked, digit-reads.Learnt, put-octet-reads.Asked, put-octet-reads.Learnt, quotient-reads.Asked, quotient-reads.Learnt, remainder-reads.Asked, remainder-reads.Learnt, put-two-reads.Asked, put-two-reads.Learnt, put-numeral-below t, put-numeral.Post) (put-numeral-at t) put-numeral.Post
 put-numeral-returns-3 t c =
     let s = c.before.before.before.before.before.before.before.before in
-    rw (last-digit s.args.padded s.args.base s.args.most s.args.n c.before.before.if3.true c.before.before.before.before.before.before.if2.false, ← c.before.before.before.before.remainder.ensures, ← c.before.before.before.digit2.ensures) c.put-octet2.ensures
+    rw (last_digit s.args.padded s.args.base s.args.most s.args.n c.before.before.if3.true c.before.before.before.before.before.before.if2.false, ← c.before.before.before.before.remainder.ensures, ← c.before.before.before.digit2.ensures) c.put-octet2.ensures
 
 put-numeral-digit-requires-3 : (t : ℕ) → put-numeral-lts.Need-digit-requires-3 (put-nothing-reads.Asked, put-nothing-reads.Learnt, digit-reads.Asked, digit-reads.Learnt, put-octet-reads.Asked, put-octet-reads.Learnt, quotient-reads.Asked, quotient-reads.Learnt, remainder-reads.Asked, remainder-reads.Learnt, put-two-reads.Asked, put-two-reads.Learnt, put-numeral-below t, put-numeral.Post) (put-numeral-at t) put-numeral.Post
 put-numeral-digit-requires-3 t c κs =
     let s = c.before.before.before.before.before.before.before.before in
-    omega (arith, last-small s.args.padded c.before.before.before.before.before.quotient.result s.args.base c.before.if4.true, s.requires.1.1)
+    omega (arith, last_small s.args.padded c.before.before.before.before.before.quotient.result s.args.base c.before.if4.true, s.requires.1.1)
 
 put-numeral-returns-4 : (t : ℕ) → put-numeral-lts.Need-returns-4 (put-nothing-reads.Asked, put-nothing-reads.Learnt, digit-reads.Asked, digit-reads.Learnt, put-octet-reads.Asked, put-octet-reads.Learnt, quotient-reads.Asked, quotient-reads.Learnt, remainder-reads.Asked, remainder-reads.Learnt, put-two-reads.Asked, put-two-reads.Learnt, put-numeral-below t, put-numeral.Post) (put-numeral-at t) put-numeral.Post
 put-numeral-returns-4 t c =
@@ -100,7 +100,7 @@ put-numeral-digit-requires-4 t c κs =
 put-numeral-returns-5 : (t : ℕ) → put-numeral-lts.Need-returns-5 (put-nothing-reads.Asked, put-nothing-reads.Learnt, digit-reads.Asked, digit-reads.Learnt, put-octet-reads.Asked, put-octet-reads.Learnt, quotient-reads.Asked, quotient-reads.Learnt, remainder-reads.Asked, remainder-reads.Learnt, put-two-reads.Asked, put-two-reads.Learnt, put-numeral-below t, put-numeral.Post) (put-numeral-at t) put-numeral.Post
 put-numeral-returns-5 t c =
     let s = c.before.before.before.before.before.before.before.before.before.before.before.before.before.before in
-    rw (pair-digits s.args.padded s.args.base s.args.most s.args.n c.before.before.before.before.before.before.before.before.before.before.before.before.before.if1.false c.before.before.before.before.before.before.before.before.if3.false c.before.before.before.before.before.before.before.before.before.before.before.before.if2.false (rw c.before.before.before.before.before.before.before.before.before.before.before.quotient.ensures at c.before.before.before.before.before.before.before.if4.false), ← c.before.before.before.before.before.before.before.before.before.before.before.quotient.ensures, ← c.before.before.before.before.before.before.before.before.before.before.remainder.ensures, ← c.before.before.before.before.before.before.before.before.before.digit2.ensures, ← c.before.before.before.before.before.quotient2.ensures, ← c.before.before.remainder2.ensures, ← c.before.digit4.ensures) (then c.before.before.before.before.put-numeral.ensures c.put-two2.ensures)
+    rw (pair_digits s.args.padded s.args.base s.args.most s.args.n c.before.before.before.before.before.before.before.before.before.before.before.before.before.if1.false c.before.before.before.before.before.before.before.before.if3.false c.before.before.before.before.before.before.before.before.before.before.before.before.if2.false (rw c.before.before.before.before.before.before.before.before.before.before.before.quotient.ensures at c.before.before.before.before.before.before.before.if4.false), ← c.before.before.before.before.before.before.before.before.before.before.before.quotient.ensures, ← c.before.before.before.before.before.before.before.before.before.before.remainder.ensures, ← c.before.before.before.before.before.before.before.before.before.digit2.ensures, ← c.before.before.before.before.before.quotient2.ensures, ← c.before.before.remainder2.ensures, ← c.before.digit4.ensures) (then c.before.before.before.before.put-numeral.ensures c.put-two2.ensures)
 
 pub +put-numeral-spec : {M : Type 1} → statement M
 +put-numeral-spec = close μ-put-numeral λ t. put-numeral-lts.spec (put-nothing-reads.Asked, put-nothing-reads.Learnt, digit-reads.Asked, digit-reads.Learnt, put-octet-reads.Asked, put-octet-reads.Learnt, quotient-reads.Asked, quotient-reads.Learnt, remainder-reads.Asked, remainder-reads.Learnt, put-two-reads.Asked, put-two-reads.Learnt, put-numeral-below t, put-numeral.Post)

@@ -3,14 +3,14 @@ use mathlib.Core.Path.{◌≡◌}
 use lib.IntN.{nat_abs}
 use mir.Syntax.{w64}
 use mir.ValLaws.{to_z-of_z}
-use Rattle.text_output.specs.Text.{fixedPoint}
+use Rattle.text_output.specs.Text.{fixed_point}
 use Rattle.text_output.proofs.Clipped.{then}
 use borrow.Author.Rules.{rules}
 use Rattle.text_output.proofs.put_fixed.Statement.{statement}
 use Rattle.text_output.proofs.put_fixed.Tie as tie
 
 returns : tie.Need-returns
-unfolding fixedPoint
+unfolding fixed_point
 returns c =
     let z = c.before.before.before.before.before.before.before.before.before.args.n in
     let f = c.before.before.before.before.before.before.before.before.before.ranges.n in

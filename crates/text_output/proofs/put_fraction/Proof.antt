@@ -3,23 +3,23 @@ use mathlib.Core.Path.{◌≡◌}
 use native.Mathlib.Omega.{arith}
 use Prim.Native.Nat.{ℕ}
 use Rattle.text_output.specs.Text.{fraction}
-use Rattle.text_output.proofs.Numerals.{no-places, some-places}
+use Rattle.text_output.proofs.Numerals.{no_places, some_places}
 use Rattle.text_output.proofs.Clipped.{then}
 use borrow.Author.Rules.{rules}
 use Rattle.text_output.proofs.put_fraction.Statement.{statement}
 use Rattle.text_output.proofs.put_fraction.Tie as tie
 
 returns : tie.Need-returns
-returns c = rw (no-places c.before.before.before.args.places c.before.before.before.args.n c.before.before.if1.true) c.put-nothing.ensures
+returns c = rw (no_places c.before.before.before.args.places c.before.before.before.args.n c.before.before.if1.true) c.put-nothing.ensures
 
 set-eight-requires : tie.Need-set-eight-requires
 set-eight-requires c κs = (search rules, omega (arith, c.before.before.if3.true))
 
 returns-2 : tie.Need-returns-2
-returns-2 c = rw (c.before.before.before.before.if2.true, ← c.before.seven-places.ensures) c.set-eight.ensures
+returns-2 c = rw (c.before.before.before.before.if2.true, ← c.before.seven_places.ensures) c.set-eight.ensures
 
 returns-3 : tie.Need-returns-3
-returns-3 c = rw (some-places c.before.before.before.before.before.before.args.places c.before.before.before.before.before.before.args.n c.before.before.before.before.before.if1.false) (then c.before.before.put-octet.ensures c.put-numeral.ensures)
+returns-3 c = rw (some_places c.before.before.before.before.before.before.args.places c.before.before.before.before.before.before.args.n c.before.before.before.before.before.if1.false) (then c.before.before.put-octet.ensures c.put-numeral.ensures)
 
 pub put-fraction-spec : {M : Type 1} → statement M
 put-fraction-spec =

@@ -1,6 +1,6 @@
 -- `text_output::set_eight` meets its contract. Assumes nothing.
 use native.Mathlib.Omega.{arith}
-use Rattle.field_words.specs.Words.{octetsUp}
+use Rattle.field_words.specs.Words.{octets_up}
 use borrow.Author.Rules.{rules}
 use Rattle.text_output.proofs.set_eight.Statement.{statement}
 use Rattle.text_output.proofs.set_eight.Tie as tie
@@ -9,7 +9,7 @@ put-64-requires : tie.Need-put-64-requires
 put-64-requires c κs = omega (arith, c.before.before.requires.0, c.before.before.requires.1)
 
 returns : tie.Need-returns
-unfolding octetsUp
+unfolding octets_up
 returns c =
     let p = c.before.before.before.before.before.requires in
     record { room = p.0; ends = omega (arith, p.1); leaves = c.before.before.put-64.ensures }

@@ -4,7 +4,7 @@ use Prim.Native.Nat.{ℕ}
 use native.Mathlib.Omega.{arith}
 use native.Mathlib.Numerals.{add-one}
 use lib.ListN.{length, set, length-set}
-use Rattle.text_output.proofs.Clipped.{clips-long, then}
+use Rattle.text_output.proofs.Clipped.{clips_long, then}
 use borrow.Author.Rules.{rules}
 use Rattle.text_output.proofs.set_two.Statement.{statement}
 use Rattle.text_output.proofs.set_two.Tie as tie

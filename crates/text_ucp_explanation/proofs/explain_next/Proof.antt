@@ -1,13 +1,13 @@
 -- `text_ucp_explanation::explain_next` meets its contract. Assumes nothing.
 use mathlib.Core.Path.{◌∙◌}
 use native.Mathlib.Omega.{arith}
-use Rattle.text_ucp_listing.proofs.Runs.{body-fits}
+use Rattle.text_ucp_listing.proofs.Runs.{body_fits}
 use Rattle.ucp_receiver.specs.Octet.{state_of}
-use Rattle.ucp_receiver.specs.Slice.{sliceRun}
-use Rattle.text_ucp_listing.specs.Listing.{bodyRoom}
-use Rattle.text_output.proofs.Clipped.{all-fits}
-use Rattle.text_ucp_explanation.proofs.Longest.{line-most}
-use Rattle.text_ucp_explanation.proofs.Verdicts.{verdict-answer, verdict-fits}
+use Rattle.ucp_receiver.specs.Slice.{slice_run}
+use Rattle.text_ucp_listing.specs.Listing.{body_room}
+use Rattle.text_output.proofs.Clipped.{all_fits}
+use Rattle.text_ucp_explanation.proofs.Longest.{line_most}
+use Rattle.text_ucp_explanation.proofs.Verdicts.{verdict_answer, verdict_fits}
 use Rattle.text_ucp_explanation.proofs.explain_next.Statement.{statement}
 use Rattle.text_ucp_explanation.proofs.explain_next.Tie as tie
 
@@ -15,17 +15,17 @@ put-answer-requires : tie.Need-put-answer-requires
 put-answer-requires c κs =
     let t = c.before.before.before.receive-slice in
     let long = c.before.before.before.before.receive-slice-arg2.given.0.1 in
-    (t.auto.1.1.1.0 ∙ long, body-fits _ _ _ _ _ _ _ t.ensures long t.auto.1.1.1.0)
+    (t.auto.1.1.1.0 ∙ long, body_fits _ _ _ _ _ _ _ t.ensures long t.auto.1.1.1.0)
 
 returns : tie.Need-returns
 returns c =
     let a = c.before.before.before.before.before.before.before.before.args in
     let t = c.before.before.before.before.receive-slice in
     let long = c.before.before.before.before.before.receive-slice-arg2.given.0.1 in
-    let v = (sliceRun (state_of a.receiver.rest a.store.now) a.receiver.counts a.line.now bodyRoom).verdict in
-    let few = line-most v (verdict-fits t.ensures long t.auto.1.1.1.0) in
-    let clips = rw (verdict-answer t.ensures long) at c.put-answer.ensures in
-    let ends = all-fits clips (omega (arith, few)) in
+    let v = (slice_run (state_of a.receiver.rest a.store.now) a.receiver.counts a.line.now body_room).verdict in
+    let few = line_most v (verdict_fits t.ensures long t.auto.1.1.1.0) in
+    let clips = rw (verdict_answer t.ensures long) at c.put-answer.ensures in
+    let ends = all_fits clips (omega (arith, few)) in
     record { long = long; takes = t.ensures; puts = record { ends = ends; leaves = clips.leaves }; within = omega (arith, few, ends) }
 
 pub explain-next-spec : {M : Type 1} → statement M

@@ -3,7 +3,7 @@ use mathlib.Core.Path.{sym}
 use native.Mathlib.Omega.{arith}
 use lib.Seq.{length-take-le}
 use Prim.Native.Nat.{◌≤◌}
-use Rattle.text_ucp_listing.specs.Listing.{bodyRoom}
+use Rattle.text_ucp_listing.specs.Listing.{body_room}
 use borrow.Author.Rules.{rules}
 use Rattle.text_ucp_explanation.proofs.put_answer.Statement.{statement}
 use Rattle.text_ucp_explanation.proofs.put_answer.Tie as tie
@@ -11,7 +11,7 @@ use Rattle.text_ucp_explanation.proofs.put_answer.Tie as tie
 slice-aggregate-put-body : tie.Need-slice-aggregate-put-body
 slice-aggregate-put-body c =
     let s = c.before.before.before.before.before.before in
-    let h : c.before.before.before.answer.given.0.0 ≤ bodyRoom = rw c.before.before.before.answer.given.1 at s.requires.1 in
+    let h : c.before.before.before.answer.given.0.0 ≤ body_room = rw c.before.before.before.answer.given.1 at s.requires.1 in
     sym (length-take-le _ _ (omega (arith, s.requires.0)))
 
 returns : tie.Need-returns

@@ -1,6 +1,6 @@
 -- `text_ucp_explanation::put_read` meets its contract. Assumes nothing.
 use mathlib.Core.Path.{refl}
-use Rattle.text_ucp_explanation.specs.Explanation.{readLine}
+use Rattle.text_ucp_explanation.specs.Explanation.{read_line}
 use Rattle.text_output.proofs.Clipped.{then}
 use Rattle.text_ucp_explanation.proofs.put_read.Statement.{statement}
 use Rattle.text_ucp_explanation.proofs.put_read.Tie as tie
@@ -9,7 +9,7 @@ slice-aggregate-put-word : tie.Need-slice-aggregate-put-word
 slice-aggregate-put-word c = refl
 
 returns : tie.Need-returns
-unfolding readLine
+unfolding read_line
 returns c = then c.before.before.before.before.before.before.put_word.ensures (then c.before.before.before.before.put-natural.ensures (then c.before.before.put-message.ensures c.put-octet.ensures))
 
 pub put-read-spec : {M : Type 1} → statement M

@@ -8,9 +8,9 @@ use lib.ListN.{length, length-set}
 use lib.Seq.{sets}
 use borrow.Fn.Kinds.{In}
 use borrow.Fn.PlainCycle.{Measures, is, falls, and}
-use Rattle.output_writing.proofs.ToPut.{ToPut, first-room, first-put}
+use Rattle.output_writing.proofs.ToPut.{ToPut, first_room, first_put}
 use Rattle.text_ucp_listing.specs.Listing.{decimal}
-use Rattle.text_ucp_listing.proofs.Decimal.{digit, digit_room, digit-put, digits-left}
+use Rattle.text_ucp_listing.proofs.Decimal.{digit, digit_room, digit_put, digits_left}
 use Rattle.text_ucp_listing.proofs.put_decimal.Reads as put-decimal
 use Rattle.text_ucp_listing.proofs.put_decimal.Kinds as put-decimal-kinds
 use Rattle.text_ucp_listing.proofs.+put_decimal.Lts-put_decimal as put-decimal-lts
@@ -50,7 +50,7 @@ put-decimal-returns : (t : ℕ) → put-decimal-lts.Need-returns (
 ) (put-decimal-at t) put-decimal.Post
 put-decimal-returns t c =
     let s = c.before.before in
-    digit-put s.args.text.now s.args.at s.args.n (omega arith) s.requires.1 c.if1.true
+    digit_put s.args.text.now s.args.at s.args.n (omega arith) s.requires.1 c.if1.true
 
 put-decimal-put-decimal-requires : (t : ℕ) → put-decimal-lts.Need-put-decimal-requires (
   put-decimal-below t,
@@ -58,7 +58,7 @@ put-decimal-put-decimal-requires : (t : ℕ) → put-decimal-lts.Need-put-decima
 ) (put-decimal-at t) put-decimal.Post
 put-decimal-put-decimal-requires t c κs =
     let s = c.before.before.before in
-    (omega (arith, s.requires.0), first-room (decimal (s.args.n / 10)) _ (digits-left s.args.text.now s.args.at s.args.n (omega arith) s.requires.1 c.before.if1.false))
+    (omega (arith, s.requires.0), first_room (decimal (s.args.n / 10)) _ (digits_left s.args.text.now s.args.at s.args.n (omega arith) s.requires.1 c.before.if1.false))
 
 -- the last digit is left to put
 last-left : (t : ℕ) (c : put-decimal-lts.After-put-decimal (put-decimal-below t, put-decimal.Post) (put-decimal-at t) put-decimal.Post)
@@ -67,8 +67,8 @@ last-left : (t : ℕ) (c : put-decimal-lts.After-put-decimal (put-decimal-below 
     (s.args.at + length (decimal s.args.n)) (sets s.args.text.now s.args.at (decimal s.args.n))
 last-left t c =
     let s = c.before.before.before.before in
-    first-put (decimal (s.args.n / 10)) (digit (s.args.n % 10) ∷ [])
-    (digits-left s.args.text.now s.args.at s.args.n (omega arith) s.requires.1 c.before.before.if1.false)
+    first_put (decimal (s.args.n / 10)) (digit (s.args.n % 10) ∷ [])
+    (digits_left s.args.text.now s.args.at s.args.n (omega arith) s.requires.1 c.before.before.if1.false)
     c.put-decimal.ensures
 
 put-decimal-slice-write-text-2 : (t : ℕ) → put-decimal-lts.Need-slice-write-text-2 (

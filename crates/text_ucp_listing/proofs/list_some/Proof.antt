@@ -8,8 +8,8 @@ use lib.Seq.{take_all}
 use Rattle.ucp_receiver.specs.Octet.{state_of}
 use Rattle.ucp_receiver.specs.Slice.{Takes}
 use Rattle.text_ucp_listing.specs.Lists.{lines}
-use Rattle.text_ucp_listing.proofs.Whole.{same-long}
-use Rattle.text_ucp_listing.proofs.Runs.{SoFar, none_so_far, more-so-far, body-fits, takes-within, slice-ends, text-full, all-so-far}
+use Rattle.text_ucp_listing.proofs.Whole.{same_long}
+use Rattle.text_ucp_listing.proofs.Runs.{SoFar, none_so_far, more_so_far, body_fits, takes_within, slice_ends, text_full, all_so_far}
 use borrow.Author.Rules.{rules}
 use Rattle.text_ucp_listing.proofs.list_some.Statement.{statement}
 use Rattle.text_ucp_listing.proofs.list_some.Tie as tie
@@ -22,7 +22,7 @@ abbrev decreases-loop : tie.decreases-loop
 decreases-loop store₀ room₀ line text₀ receiver₀ taken₀ at₀ store room text receiver taken at = length line - taken
 
 text-long : (c : tie.At-loop invariant-loop decreases-loop) → length c.loop.text ≡ length c.before.before.before.args.text.now
-text-long c = same-long c.loop.invariant.puts
+text-long c = same_long c.loop.invariant.puts
 
 -- what a turn takes, of the part of the line that is left
 took : (c : tie.After-receive-slice invariant-loop decreases-loop)
@@ -43,7 +43,7 @@ taken-within : (c : tie.After-receive-slice invariant-loop decreases-loop)
 taken-within c =
     let l = c.before.before.before.before.before.before.loop in
     let line = c.before.before.before.before.before.before.before.before.before.args.line.now in
-    let t = takes-within (took c) in
+    let t = takes_within (took c) in
     let left = length-drop l.taken line in
     (omega (arith, t.0, left), omega (arith, t.1 (omega (arith, left, c.before.before.before.before.before.loop-test.true))))
 
@@ -54,7 +54,7 @@ loop-holds c =
     none_so_far (state_of a.receiver.rest a.store.now) a.receiver.counts a.room.now a.line.now a.text.now
 
 sub-if1 : tie.Need-overflow-sub-if1 invariant-loop decreases-loop
-sub-if1 c = omega (arith, c.before.loop.invariant.ends, same-long c.before.loop.invariant.puts)
+sub-if1 c = omega (arith, c.before.loop.invariant.ends, same_long c.before.loop.invariant.puts)
 
 add-taken : tie.Need-overflow-add-taken invariant-loop decreases-loop
 add-taken c = omega (arith, taken-within c.before.before, c.before.before.before.before.before.before.before.before.before.before.before.well-formed)
@@ -62,7 +62,7 @@ add-taken c = omega (arith, taken-within c.before.before, c.before.before.before
 put-answer-requires : tie.Need-put-answer-requires invariant-loop decreases-loop
 put-answer-requires c κs =
     let t = c.before.before.before.before.before in
-    (omega (arith, text-long t.before.before.before.before.before.before, t.before.before.before.before.if1.false), t.receive-slice.auto.1.1.1.0 ∙ t.before.receive-slice-arg3.given.0.1, body-fits _ _ _ _ _ _ _ (took t) t.before.receive-slice-arg3.given.0.1 t.receive-slice.auto.1.1.1.0)
+    (omega (arith, text-long t.before.before.before.before.before.before, t.before.before.before.before.if1.false), t.receive-slice.auto.1.1.1.0 ∙ t.before.receive-slice-arg3.given.0.1, body_fits _ _ _ _ _ _ _ (took t) t.before.receive-slice-arg3.given.0.1 t.receive-slice.auto.1.1.1.0)
 
 loop-less : tie.Need-loop-smaller invariant-loop decreases-loop
 loop-less c = omega (arith, taken-within c.before.before.before.before.before.before.before.before, c.before.before.before.before.before.before.before.before.before.before.before.before.before.loop-test.true)
@@ -71,28 +71,28 @@ loop-again : tie.Need-loop-preserved invariant-loop decreases-loop
 loop-again c =
     let l = c.before.before.before.before.before.before.before.before.before.before.before.before.before.before.loop in
     let t = c.before.before.before.before.before.before.before.before.receive-slice in
-    more-so-far l.receiver l.store l.room l.taken l.at t.result _ _
+    more_so_far l.receiver l.store l.room l.taken l.at t.result _ _
     l.invariant (omega (arith, l.invariant.ends, c.before.before.before.before.before.before.before.before.before.before.before.before.if1.false, text-long c.before.before.before.before.before.before.before.before.before.before.before.before.before.before)) (took c.before.before.before.before.before.before.before.before) c.before.before.before.before.before.before.before.before.before.receive-slice-arg3.given.0.1 t.auto.1.1.1.0 c.before.before.put-answer.ensures
 
 same_length : tie.Need-same-length invariant-loop decreases-loop
-same_length c = same-long c.before.loop.invariant.puts
+same_length c = same_long c.before.loop.invariant.puts
 
 returns : tie.Need-returns invariant-loop decreases-loop
 returns c =
     let s = c.before.before.before.before in
     let l = c.before.loop in
-    all-so-far s.args.receiver s.args.store.now s.args.room.now s.args.line.now s.args.text.now _ l.store l.room
-    l.invariant (slice-ends (state_of l.receiver.rest l.store) l.receiver.counts l.room s.args.line.now l.taken _ c.loop-test.false)
+    all_so_far s.args.receiver s.args.store.now s.args.room.now s.args.line.now s.args.text.now _ l.store l.room
+    l.invariant (slice_ends (state_of l.receiver.rest l.store) l.receiver.counts l.room s.args.line.now l.taken _ c.loop-test.false)
 
 same-length-2 : tie.Need-same-length-2 invariant-loop decreases-loop
-same-length-2 c = same-long c.before.before.loop.invariant.puts
+same-length-2 c = same_long c.before.before.loop.invariant.puts
 
 returns-2 : tie.Need-returns-2 invariant-loop decreases-loop
 returns-2 c =
     let s = c.before.before.before.before.before in
     let l = c.before.before.loop in
-    all-so-far s.args.receiver s.args.store.now s.args.room.now s.args.line.now s.args.text.now _ l.store l.room
-    l.invariant (text-full (state_of l.receiver.rest l.store) l.receiver.counts l.room _ _ (omega (arith, c.if1.true, text-long c.before.before)))
+    all_so_far s.args.receiver s.args.store.now s.args.room.now s.args.line.now s.args.text.now _ l.store l.room
+    l.invariant (text_full (state_of l.receiver.rest l.store) l.receiver.counts l.room _ _ (omega (arith, c.if1.true, text-long c.before.before)))
 
 pub list-some-spec : {M : Type 1} → statement M
 list-some-spec =

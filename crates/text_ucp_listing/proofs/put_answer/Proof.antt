@@ -5,8 +5,8 @@ use native.Mathlib.Nat.{add-zero}
 use native.Mathlib.Omega.{arith}
 use lib.ListN.{length, take, length-take}
 use lib.Seq.{length-take-le}
-use Rattle.text_ucp_listing.specs.Listing.{okLine, noLine, bodyRoom}
-use Rattle.text_ucp_listing.proofs.Longest.{ok-most, no-most}
+use Rattle.text_ucp_listing.specs.Listing.{ok_line, no_line, body_room}
+use Rattle.text_ucp_listing.proofs.Longest.{ok_most, no_most}
 use borrow.Author.Rules.{rules}
 use Rattle.text_ucp_listing.proofs.put_answer.Statement.{statement}
 use Rattle.text_ucp_listing.proofs.put_answer.Tie as tie
@@ -15,23 +15,23 @@ use Rattle.text_ucp_listing.proofs.put_answer.Tie as tie
 fits : (c : tie.After-answer) → c.answer.given.0.0 ≤ length c.before.before.before.before.args.room.now
 fits c =
     let s = c.before.before.before.before in
-    let h : c.answer.given.0.0 ≤ bodyRoom = rw c.answer.given.1 at s.requires.2 in
+    let h : c.answer.given.0.0 ≤ body_room = rw c.answer.given.1 at s.requires.2 in
     omega (arith, s.requires.1)
 
 ok-room : (c : tie.After-answer)
     → let s = c.before.before.before.before in
-    s.args.at + length (okLine (take c.answer.given.0.0 s.args.room.now)) ≤ length s.args.text.now
+    s.args.at + length (ok_line (take c.answer.given.0.0 s.args.room.now)) ≤ length s.args.text.now
 ok-room c =
     let s = c.before.before.before.before in
     let body = take c.answer.given.0.0 s.args.room.now in
-    omega (arith, ok-most body (simp length-take (omega (arith, s.requires.1))), s.requires.0)
+    omega (arith, ok_most body (simp length-take (omega (arith, s.requires.1))), s.requires.0)
 
 no_room : (c : tie.After-known-told2)
     → let s = c.before.before.before.before.before in
-    s.args.at + length (noLine c.before.answer2.given.0.0) ≤ length s.args.text.now
+    s.args.at + length (no_line c.before.answer2.given.0.0) ≤ length s.args.text.now
 no_room c =
     let s = c.before.before.before.before.before in
-    omega (arith, no-most c.before.answer2.given.0.0 (omega (arith, c.known-told2.given)), s.requires.0)
+    omega (arith, no_most c.before.answer2.given.0.0 (omega (arith, c.known-told2.given)), s.requires.0)
 
 slice-aggregate-put-ok : tie.Need-slice-aggregate-put-ok
 slice-aggregate-put-ok c = sym (length-take-le _ _ (fits c.before.before.before))

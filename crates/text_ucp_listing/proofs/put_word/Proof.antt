@@ -7,9 +7,9 @@ use native.Mathlib.Nat.{add-zero}
 use native.Mathlib.Omega.{arith}
 use lib.ListN.{length, get_or, drop, drop_of_length-le}
 use lib.Seq.{sets}
-use Rattle.output_writing.proofs.ToPut.{all-to-put, first-put}
-use Rattle.text_ucp_listing.proofs.Whole.{Left, same-long}
-use Rattle.text_output.proofs.Printed.{drop-next}
+use Rattle.output_writing.proofs.ToPut.{all_to_put, first_put}
+use Rattle.text_ucp_listing.proofs.Whole.{Left, same_long}
+use Rattle.text_output.proofs.Printed.{drop_next}
 use borrow.Author.Rules.{rules}
 use Rattle.text_ucp_listing.proofs.put_word.Statement.{statement}
 use Rattle.text_ucp_listing.proofs.put_word.Tie as tie
@@ -22,7 +22,7 @@ decreases-loop text₀ at word i₀ text i = length word - i
 
 loop-holds : tie.Need-loop-init invariant-loop decreases-loop
 loop-holds c =
-    (omega arith, rw add-zero (all-to-put c.args.text.now c.args.at refl c.requires))
+    (omega arith, rw add-zero (all_to_put c.args.text.now c.args.at refl c.requires))
 
 loop-again : tie.Need-loop-preserved invariant-loop decreases-loop
 loop-again c =
@@ -30,7 +30,7 @@ loop-again c =
     let word = c.before.before.before.args.word.now in
     let h : l.i < length word = omega arith in (
       omega arith,
-      first-put (get_or word l.i 0 ∷ []) (drop (l.i + 1) word) (rw (drop-next word l.i h) at l.invariant.1)
+      first_put (get_or word l.i 0 ∷ []) (drop (l.i + 1) word) (rw (drop_next word l.i h) at l.invariant.1)
           (record { ends = omega arith; leaves = refl }),
     )
 
@@ -47,7 +47,7 @@ returns : tie.Need-returns invariant-loop decreases-loop
 returns c = record { ends = omega arith; leaves = all-put c }
 
 same_length : tie.Need-same-length invariant-loop decreases-loop
-same_length c = same-long (returns c)
+same_length c = same_long (returns c)
 
 pub put-word-spec : {M : Type 1} → statement M
 put-word-spec =

@@ -1,14 +1,14 @@
 -- `text_ucp_messages::put_initialization` meets its contract: its template over its numbers is its fields. Assumes nothing.
 use mathlib.Core.Path.{refl}
 use native.Mathlib.Omega.{arith}
-use Rattle.text_fields.specs.Fields.{fieldsShown}
+use Rattle.text_fields.specs.Fields.{fields_shown}
 use Rattle.text_fields.specs.Templates.{filled}
-use Rattle.text_ucp_messages.specs.Messages.{messageShown}
+use Rattle.text_ucp_messages.specs.Messages.{message_shown}
 use Rattle.text_ucp_messages.proofs.put_initialization.Statement.{statement}
 use Rattle.text_ucp_messages.proofs.put_initialization.Tie as tie
 
 returns : tie.Need-returns
-unfolding messageShown fieldsShown filled
+unfolding message_shown fields_shown filled
 returns c = c.put-named.ensures
 
 pub put-initialization-spec : {M : Type 1} → statement M

@@ -6,23 +6,23 @@ use mir.Syntax.{w16, w32}
 use mir.ValLaws.{to_z_pos}
 use Prim.Native.Nat.{◌*◌}
 use lib.ListN.{take, drop}
-use Rattle.text_fields.specs.Fields.{angle, ◌is◌, fieldsShown}
+use Rattle.text_fields.specs.Fields.{angle, ◌is◌, fields_shown}
 use Rattle.text_fields.specs.Templates.{filled}
 use Rattle.text_fields.proofs.Taken.{signed, put_as}
 use Rattle.text_output.proofs.Clipped.{then}
-use Rattle.text_ucp_messages.specs.Reports.{reportFields}
+use Rattle.text_ucp_messages.specs.Reports.{report_fields}
 use Rattle.text_ucp_messages.proofs.put_report.Statement.{statement}
 use Rattle.text_ucp_messages.proofs.put_report.Tie as tie
 
 returns : tie.Need-returns
-unfolding fieldsShown filled
+unfolding fields_shown filled
 returns c =
     let m = c.before.before.before.before.before.before.before.before.before.before.before.before.before.before.before.before.before.before.before.before.before.before.before.args.message in
     let told = c.before.before.before.before.before.before.before.before.before.before.struct_told.given in
     let known = c.before.before.before.before.before.before.before.before.before.before.before.struct-known11.given in
     let steps = to_z_pos w32 (m.track * 65536) (omega (arith, known)) in
     then c.before.before.before.before.before.before.put_word.ensures
-    (put_as c.put-named.ensures (λ i. let fields = reportFields (record { alert = m.alert; address_type = m.address_type; address = m.address; latitude = signed w32 m.latitude told.1.1.1.0.1 i; longitude = signed w32 m.longitude told.1.1.1.1.0.1 i; altitude = m.altitude; miscellaneous = m.miscellaneous; nic = m.nic; nacp = m.nacp; speed = m.speed; vertical_rate = signed w16 m.vertical_rate told.1.1.1.1.1.1.1.1.1.1.0.1 i; track = m.track; emitter = m.emitter; callsign = m.callsign; emergency = m.emergency; spare = m.spare }) in fieldsShown (take 11 fields ++ ("track" is angle (steps i) ∷ drop 12 fields))))
+    (put_as c.put-named.ensures (λ i. let fields = report_fields (record { alert = m.alert; address_type = m.address_type; address = m.address; latitude = signed w32 m.latitude told.1.1.1.0.1 i; longitude = signed w32 m.longitude told.1.1.1.1.0.1 i; altitude = m.altitude; miscellaneous = m.miscellaneous; nic = m.nic; nacp = m.nacp; speed = m.speed; vertical_rate = signed w16 m.vertical_rate told.1.1.1.1.1.1.1.1.1.1.0.1 i; track = m.track; emitter = m.emitter; callsign = m.callsign; emergency = m.emergency; spare = m.spare }) in fields_shown (take 11 fields ++ ("track" is angle (steps i) ∷ drop 12 fields))))
 
 pub put-report-spec : {M : Type 1} → statement M
 put-report-spec =

@@ -1,6 +1,6 @@
 -- `text_ucp_messages::put_uplink` meets its contract. Assumes nothing.
 use mathlib.Core.Path.{refl}
-use Rattle.text_ucp_messages.specs.Messages.{messageShown}
+use Rattle.text_ucp_messages.specs.Messages.{message_shown}
 use Rattle.text_output.proofs.Clipped.{then}
 use Rattle.text_ucp_messages.proofs.put_uplink.Statement.{statement}
 use Rattle.text_ucp_messages.proofs.put_uplink.Tie as tie
@@ -9,7 +9,7 @@ slice-aggregate-put-word : tie.Need-slice-aggregate-put-word
 slice-aggregate-put-word c = refl
 
 returns : tie.Need-returns
-unfolding messageShown
+unfolding message_shown
 returns c = then c.before.before.put_word.ensures c.put-printed.ensures
 
 pub put-uplink-spec : {M : Type 1} → statement M

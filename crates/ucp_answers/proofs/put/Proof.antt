@@ -2,13 +2,13 @@
 use mathlib.Core.Path.{sym, ◌∙◌}
 use lib.ListN.{length}
 use borrow.Author.Tests.{leb-true, leb-false, lt-ltb, le-ltb}
-use Rattle.ucp_answers.specs.Writes.{bodyDue}
+use Rattle.ucp_answers.specs.Writes.{body_due}
 use borrow.Author.Rules.{rules}
 use Rattle.ucp_answers.proofs.put.Statement.{statement}
 use Rattle.ucp_answers.proofs.put.Tie as tie
 
 returns : tie.Need-returns
-unfolding bodyDue
+unfolding body_due
 returns c =
     let e = c.before.before.before.store.ensures in
     let a = c.before.before.before.before.before.before.before.args in
@@ -16,7 +16,7 @@ returns c =
     record { answers = rw (le-ltb _ _ room); leaves = rw c.if1.true at e.1 }
 
 returns-2 : tie.Need-returns-2
-unfolding bodyDue
+unfolding body_due
 returns-2 c =
     let e = c.before.before.before.store.ensures in
     let a = c.before.before.before.before.before.before.before.args in

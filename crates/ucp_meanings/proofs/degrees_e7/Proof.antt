@@ -4,8 +4,8 @@ use lib.IntN.{pos, ◌*ℤ◌}
 use lib.Signed.{quot_z}
 use mir.Syntax.{w32, w64}
 use mir.ValLaws.{to_z-of_z}
-use Rattle.ucp_meanings.specs.Meanings.{degreesE7}
-use Rattle.ucp_meanings.proofs.Scaled.{wider, scaled_fits, steps-fit}
+use Rattle.ucp_meanings.specs.Meanings.{degrees_e7}
+use Rattle.ucp_meanings.proofs.Scaled.{wider, scaled_fits, steps_fit}
 use Rattle.ucp_meanings.proofs.degrees_e7.Statement.{statement}
 use Rattle.ucp_meanings.proofs.degrees_e7.Tie as tie
 
@@ -25,16 +25,16 @@ div-result c =
     let z = c.args.number in
     let f = c.ranges.number in
     rw (to_z-of_z w32 z f, to_z-of_z w64 z (wider z f), to_z-of_z w64 (z *ℤ pos 1800000000) (scaled_fits z f))
-    (omega arith, steps-fit (z *ℤ pos 1800000000) (scaled_fits z f))
+    (omega arith, steps_fit (z *ℤ pos 1800000000) (scaled_fits z f))
 
 returns : tie.Need-returns
-unfolding degreesE7
+unfolding degrees_e7
 returns c =
     let z = c.args.number in
     let f = c.ranges.number in
     let scaled = z *ℤ pos 1800000000 in
     rw (to_z-of_z w32 z f, to_z-of_z w64 z (wider z f), to_z-of_z w64 (z *ℤ pos 1800000000) (scaled_fits z f))
-    (to_z-of_z w64 (quot_z scaled (pos 8388608)) (steps-fit scaled (scaled_fits z f)))
+    (to_z-of_z w64 (quot_z scaled (pos 8388608)) (steps_fit scaled (scaled_fits z f)))
 
 pub degrees-e7-spec : {M : Type 1} → statement M
 degrees-e7-spec = tie.close (tie.spec cast-result mul-result div-result returns)

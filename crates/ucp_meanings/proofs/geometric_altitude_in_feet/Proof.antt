@@ -4,8 +4,8 @@ use lib.IntN.{pos, ◌*ℤ◌}
 use mir.Syntax.{w16, w32}
 use mir.ValLaws.{to_z-of_z}
 use Rattle.field_signed.proofs.Negative.{wider}
-use Rattle.ucp_meanings.specs.Meanings.{geometricMeans}
-use Rattle.ucp_meanings.proofs.Scaled.{times-fits}
+use Rattle.ucp_meanings.specs.Meanings.{geometric_means}
+use Rattle.ucp_meanings.proofs.Scaled.{times_fits}
 use Rattle.ucp_meanings.proofs.geometric_altitude_in_feet.Statement.{statement}
 use Rattle.ucp_meanings.proofs.geometric_altitude_in_feet.Tie as tie
 
@@ -15,14 +15,14 @@ cast-result c = rw (to_z-of_z w16 c.args.number c.ranges.number) (wider c.args.n
 mul-result : tie.Need-overflow-mul-result
 mul-result c =
     let z = c.args.number in
-    rw (to_z-of_z w16 z c.ranges.number, to_z-of_z w32 z (wider z c.ranges.number)) (times-fits z 5 c.ranges.number (omega arith))
+    rw (to_z-of_z w16 z c.ranges.number, to_z-of_z w32 z (wider z c.ranges.number)) (times_fits z 5 c.ranges.number (omega arith))
 
 returns : tie.Need-returns
-unfolding geometricMeans
+unfolding geometric_means
 returns c =
     let z = c.args.number in
     rw (to_z-of_z w16 z c.ranges.number, to_z-of_z w32 z (wider z c.ranges.number))
-    (to_z-of_z w32 (z *ℤ pos 5) (times-fits z 5 c.ranges.number (omega arith)))
+    (to_z-of_z w32 (z *ℤ pos 5) (times_fits z 5 c.ranges.number (omega arith)))
 
 pub geometric-altitude-in-feet-spec : {M : Type 1} → statement M
 geometric-altitude-in-feet-spec = tie.close (tie.spec cast-result mul-result returns)

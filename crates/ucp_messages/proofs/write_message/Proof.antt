@@ -1,12 +1,12 @@
 -- `ucp_messages::write_message` meets its contract, kind by kind: a kind that is found and its call, then what it leaves. Assumes
 -- nothing.
-use Rattle.ucp_messages.specs.Messages.{messageFits, messageBody}
+use Rattle.ucp_messages.specs.Messages.{message_fits, message_body}
 use borrow.Author.Rules.{rules}
 use Rattle.ucp_messages.proofs.write_message.Statement.{statement}
 use Rattle.ucp_messages.proofs.write_message.Tie as tie
 
 pub write-message-spec : {M : Type 1} → statement M
-unfolding messageFits messageBody
+unfolding message_fits message_body
 write-message-spec =
     tie.close
     (tie.spec

@@ -7,16 +7,16 @@ use borrow.Author.Rules.{rules}
 use lib.Bits.{bit_xor}
 use lib.ListN.{length, length-set}
 use Rattle.ucp_frame.specs.Frame.{escape, escaped}
-use Rattle.ucp_frame.proofs.Stuffing.{escaped-two, escaped-one}
+use Rattle.ucp_frame.proofs.Stuffing.{escaped_two, escaped_one}
 use Rattle.ucp_stuffing.proofs.put.Statement.{statement}
 use Rattle.ucp_stuffing.proofs.put.Tie as tie
 
 two : (c : tie.Then1)
     → escaped c.before.before.before.args.octet ≡ escape ∷ bit_xor c.before.before.before.args.octet 0x20 ∷ []
-two c = escaped-two _ (sym c.before.is-escaped.ensures ∙ c.if1.true)
+two c = escaped_two _ (sym c.before.is-escaped.ensures ∙ c.if1.true)
 
 one : (c : tie.Else1) → escaped c.before.before.before.args.octet ≡ c.before.before.before.args.octet ∷ []
-one c = escaped-one _ (sym c.before.is-escaped.ensures ∙ c.if1.false)
+one c = escaped_one _ (sym c.before.is-escaped.ensures ∙ c.if1.false)
 
 slice-write-output : tie.Need-slice-write-output
 slice-write-output c = omega (arith, ap length (two c))

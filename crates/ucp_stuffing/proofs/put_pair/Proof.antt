@@ -5,7 +5,7 @@ use Prim.Native.Nat.{ℕ, ◌+◌}
 use lib.ListN.{length}
 use lib.Seq.{sets}
 use Rattle.ucp_frame.specs.Frame.{escaped}
-use Rattle.output_writing.proofs.ToPut.{ToPut, all-to-put, first-room, first-put, last-room, last-put}
+use Rattle.output_writing.proofs.ToPut.{ToPut, all_to_put, first_room, first_put, last_room, last_put}
 use Rattle.ucp_stuffing.proofs.put_pair.Statement.{statement}
 use Rattle.ucp_stuffing.proofs.put_pair.Tie as tie
 
@@ -18,28 +18,28 @@ Left c output at octets =
     ToPut output at octets (c.args.at + length (both c)) (sets c.args.output.now c.args.at (both c))
 
 all_left : (c : tie.Start) → Left c c.args.output.now c.args.at (both c)
-all_left c = all-to-put c.args.output.now c.args.at refl c.requires
+all_left c = all_to_put c.args.output.now c.args.at refl c.requires
 
 second-left : (c : tie.After-put)
     → Left c.before.before.before c.put.new.0 c.put.result (escaped c.before.before.before.args.second)
 second-left c =
     let s = c.before.before.before in
-    first-put (escaped s.args.first) (escaped s.args.second) (all_left s) c.put.ensures
+    first_put (escaped s.args.first) (escaped s.args.second) (all_left s) c.put.ensures
 
 put-requires : tie.Need-put-requires
 put-requires c κs =
     let s = c.before.before in
-    first-room (escaped s.args.first) (escaped s.args.second) (all_left s)
+    first_room (escaped s.args.first) (escaped s.args.second) (all_left s)
 
 put-requires-2 : tie.Need-put-requires-2
-put-requires-2 c κs = last-room (second-left c.before.before.before)
+put-requires-2 c κs = last_room (second-left c.before.before.before)
 
 same_length : tie.Need-same-length
 same_length c = c.before.before.put2.auto.0 ∙ c.before.before.before.before.before.before.put.auto.0
 
 returns : tie.Need-returns
 returns c =
-    let p = last-put (second-left c.before.before.before.before.before.before) c.before.before.put2.ensures in
+    let p = last_put (second-left c.before.before.before.before.before.before) c.before.before.put2.ensures in
     record { ends = p.0; leaves = p.1 }
 
 pub put-pair-spec : {M : Type 1} → statement M

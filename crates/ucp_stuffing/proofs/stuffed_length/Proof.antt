@@ -5,9 +5,9 @@ use Prim.Native.Nat.{ℕ, ◌+◌, ◌-◌, ◌≤◌}
 use native.Mathlib.Omega.{arith}
 use borrow.Author.Rules.{rules}
 use lib.ListN.{length, drop}
-use Rattle.field_words.specs.Words.{octetsUp}
+use Rattle.field_words.specs.Words.{octets_up}
 use Rattle.ucp_frame.specs.Frame.{stuffed}
-use Rattle.ucp_frame.proofs.Stuffing.{stuffed-length-most}
+use Rattle.ucp_frame.proofs.Stuffing.{stuffed_length_most}
 use Rattle.ucp_stuffing.proofs.Lengths.{part_length}
 use Rattle.ucp_stuffing.proofs.stuffed_length.Statement.{statement}
 use Rattle.ucp_stuffing.proofs.stuffed_length.Tie as tie
@@ -26,12 +26,12 @@ turned c =
     let l = c.before.before.before.loop in
     let body = c.before.before.before.before.before.args.body.now in
     let word = c.before.little-64 in
-    (search rules, omega (arith, l.invariant.1, part_length 8 body l.i (octetsUp 8 word.result) word.ensures))
+    (search rules, omega (arith, l.invariant.1, part_length 8 body l.i (octets_up 8 word.result) word.ensures))
 
 add-count : tie.Need-overflow-add-count invariant-loop decreases-loop
 add-count c =
     let s = c.before.before.before.before.before in
-    omega (arith, (turned c).1, s.requires, stuffed-length-most s.args.body.now)
+    omega (arith, (turned c).1, s.requires, stuffed_length_most s.args.body.now)
 
 returns : tie.Need-returns invariant-loop decreases-loop
 returns c = omega (arith, c.tail-length.ensures, c.before.before.loop.invariant.1)
@@ -39,7 +39,7 @@ returns c = omega (arith, c.tail-length.ensures, c.before.before.loop.invariant.
 add-result : tie.Need-overflow-add-result invariant-loop decreases-loop
 add-result c =
     let s = c.before.before.before.before in
-    omega (arith, c.before.before.loop.invariant.1, s.requires, stuffed-length-most s.args.body.now)
+    omega (arith, c.before.before.loop.invariant.1, s.requires, stuffed_length_most s.args.body.now)
 
 pub stuffed-length-spec : {M : Type 1} → statement M
 stuffed-length-spec =

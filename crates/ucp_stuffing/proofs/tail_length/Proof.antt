@@ -7,8 +7,8 @@ use native.Mathlib.Omega.{arith}
 use borrow.Author.Rules.{rules}
 use lib.ListN.{length, drop, drop_of_length-le, length-drop}
 use Rattle.ucp_frame.specs.Frame.{stuffed}
-use Rattle.ucp_frame.proofs.Stuffing.{stuffed-length-most}
-use Rattle.ucp_stuffing.proofs.Lengths.{stuffed-length}
+use Rattle.ucp_frame.proofs.Stuffing.{stuffed_length_most}
+use Rattle.ucp_stuffing.proofs.Lengths.{stuffed_length}
 use Rattle.ucp_stuffing.proofs.tail_length.Statement.{statement}
 use Rattle.ucp_stuffing.proofs.tail_length.Tie as tie
 
@@ -25,15 +25,15 @@ body_at c = c.before.before.args.body.now
 -- the invariant after a turn
 turned : (c : tie.After-escaped-length invariant-loop decreases-loop)
     → invariant-loop (body_at c.before.before.before) c.before.before.before.before.before.args.start 0 0
-    (c.before.before.before.loop.count + c.escaped-length.result) (c.before.before.before.loop.i + 1)
+    (c.before.before.before.loop.count + c.escaped_length.result) (c.before.before.before.loop.i + 1)
 turned c =
     let l = c.before.before.before.loop in
-    (search rules, omega (arith, stuffed-length (body_at c.before.before.before) l.i c.before.before.loop-test.true))
+    (search rules, omega (arith, stuffed_length (body_at c.before.before.before) l.i c.before.before.loop-test.true))
 
 add-count : tie.Need-overflow-add-count invariant-loop decreases-loop
 add-count c =
     let s = c.before.before.before.before.before in
-    omega (arith, (turned c).1, s.requires, stuffed-length-most (drop s.args.start s.args.body.now), length-drop s.args.start s.args.body.now)
+    omega (arith, (turned c).1, s.requires, stuffed_length_most (drop s.args.start s.args.body.now), length-drop s.args.start s.args.body.now)
 
 returns : tie.Need-returns invariant-loop decreases-loop
 unfolding stuffed

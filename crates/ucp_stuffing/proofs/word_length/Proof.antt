@@ -2,12 +2,12 @@
 use mathlib.Core.Path.{sym, ap}
 use borrow.Author.Rules.{rules}
 use lib.ListN.{length}
-use Rattle.field_words.specs.Words.{octetsUp}
+use Rattle.field_words.specs.Words.{octets_up}
 use Rattle.ucp_stuffing.proofs.word_length.Statement.{statement}
 use Rattle.ucp_stuffing.proofs.word_length.Tie as tie
 
 returns : tie.Need-returns
-unfolding octetsUp
+unfolding octets_up
 returns c = sym (ap length (c.before.is_plain.ensures c.if1.true))
 
 pub word-length-spec : {M : Type 1} → statement M

@@ -5,34 +5,34 @@ use Prim.Native.Nat.{ℕ, zero, ◌+◌, ◌-◌, ◌/◌, ◌%◌, ◌≤◌}
 use native.Mathlib.Omega.{arith}
 use borrow.Author.Rules.{rules}
 use lib.ListN.{length, length-append}
-use Rattle.field_words.specs.Words.{octetsUp}
+use Rattle.field_words.specs.Words.{octets_up}
 use Rattle.ucp_frame.specs.Frame.{escaped, stuffed}
-use Rattle.ucp_frame.proofs.Stuffing.{stuffed-length-most}
-use Rattle.ucp_stuffing.proofs.Numbers.{number-first}
+use Rattle.ucp_frame.proofs.Stuffing.{stuffed_length_most}
+use Rattle.ucp_stuffing.proofs.Numbers.{number_first}
 use Rattle.ucp_stuffing.proofs.word_length_counted.Statement.{statement}
 use Rattle.ucp_stuffing.proofs.word_length_counted.Tie as tie
 
 abbrev invariant-loop : tie.invariant-loop
-invariant-loop word count₀ word₀ left₀ count word' left = count + length (stuffed (octetsUp left word')) ≡ length (stuffed (octetsUp 8 word))
+invariant-loop word count₀ word₀ left₀ count word' left = count + length (stuffed (octets_up left word')) ≡ length (stuffed (octets_up 8 word))
 
 abbrev decreases-loop : tie.decreases-loop
 decreases-loop word count₀ word₀ left₀ count word' left = left
 
-most : (word : ℕ) → length (stuffed (octetsUp 8 word)) ≤ 16
-unfolding octetsUp
-most word = stuffed-length-most (octetsUp 8 word)
+most : (word : ℕ) → length (stuffed (octets_up 8 word)) ≤ 16
+unfolding octets_up
+most word = stuffed_length_most (octets_up 8 word)
 
 -- the invariant after a turn
 turned : (c : tie.After-escaped-length invariant-loop decreases-loop)
-    → c.before.before.loop.count + c.escaped-length.result
-    + length (stuffed (octetsUp (c.before.before.loop.left - 1) (c.before.before.loop.word / 256)))
-    ≡ length (stuffed (octetsUp 8 c.before.before.before.args.word))
+    → c.before.before.loop.count + c.escaped_length.result
+    + length (stuffed (octets_up (c.before.before.loop.left - 1) (c.before.before.loop.word / 256)))
+    ≡ length (stuffed (octets_up 8 c.before.before.before.args.word))
 turned c =
     let l = c.before.before.loop in
-    omega (arith, l.invariant, ap length (number-first l.left l.word c.before.loop-test.true) ∙ length-append (escaped (l.word % 256)) _)
+    omega (arith, l.invariant, ap length (number_first l.left l.word c.before.loop-test.true) ∙ length-append (escaped (l.word % 256)) _)
 
 returns : tie.Need-returns invariant-loop decreases-loop
-unfolding stuffed octetsUp
+unfolding stuffed octets_up
 returns c =
     let l = c.before.loop in
     let z : l.left ≡ zero = omega (arith, c.loop-test.false) in

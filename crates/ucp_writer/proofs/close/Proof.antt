@@ -7,9 +7,9 @@ use borrow.Author.Rules.{rules}
 use lib.ListN.{length, length-set}
 use lib.Seq.{sets}
 use Rattle.ucp_frame.specs.Frame.{flag, escaped}
-use Rattle.ucp_writer.specs.Steps.{frameEnd}
-use Rattle.output_writing.proofs.ToPut.{ToPut, all-to-put, first-room, first-put}
-use Rattle.ucp_writer.proofs.Rest.{closing-octets}
+use Rattle.ucp_writer.specs.Steps.{frame_end}
+use Rattle.output_writing.proofs.ToPut.{ToPut, all_to_put, first_room, first_put}
+use Rattle.ucp_writer.proofs.Rest.{closing_octets}
 use Rattle.ucp_writer.proofs.close.Statement.{statement}
 use Rattle.ucp_writer.proofs.close.Tie as tie
 
@@ -22,32 +22,32 @@ high c = escaped (c.args.check / 256)
 -- the octets from a place on are left to put
 abbrev Left : tie.Start → List ℕ → ℕ → List ℕ → Type 0
 Left c output at octets =
-    ToPut output at octets (c.args.at + length (frameEnd c.args.check)) (sets c.args.output.now c.args.at (frameEnd c.args.check))
+    ToPut output at octets (c.args.at + length (frame_end c.args.check)) (sets c.args.output.now c.args.at (frame_end c.args.check))
 
 all_left : (c : tie.Start) → Left c c.args.output.now c.args.at (low c ++ (high c ++ flag ∷ []))
-all_left c = all-to-put c.args.output.now c.args.at (sym (closing-octets c.args.check)) c.requires
+all_left c = all_to_put c.args.output.now c.args.at (sym (closing_octets c.args.check)) c.requires
 
 high-left : (c : tie.After-put)
     → Left c.before.before.before c.put.new.0 c.put.result (high c.before.before.before ++ flag ∷ [])
 high-left c =
     let s = c.before.before.before in
-    first-put (low s) (high s ++ flag ∷ []) (all_left s) c.put.ensures
+    first_put (low s) (high s ++ flag ∷ []) (all_left s) c.put.ensures
 
 flag-left : (c : tie.After-put2)
     → Left c.before.before.before.before.before.before.before c.put2.new.0 c.put2.result (flag ∷ [])
 flag-left c =
     let p = c.before.before.before.before in
-    first-put (high p.before.before.before) (flag ∷ []) (high-left p) c.put2.ensures
+    first_put (high p.before.before.before) (flag ∷ []) (high-left p) c.put2.ensures
 
 put-requires : tie.Need-put-requires
 put-requires c κs =
     let s = c.before.before in
-    first-room (low s) (high s ++ flag ∷ []) (all_left s)
+    first_room (low s) (high s ++ flag ∷ []) (all_left s)
 
 put-requires-2 : tie.Need-put-requires-2
 put-requires-2 c κs =
     let p = c.before.before.before in
-    first-room (high p.before.before.before) (flag ∷ []) (high-left p)
+    first_room (high p.before.before.before) (flag ∷ []) (high-left p)
 
 slice-write-output : tie.Need-slice-write-output
 slice-write-output c = omega (arith, flag-left c.before.before)

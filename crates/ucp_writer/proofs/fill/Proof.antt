@@ -7,12 +7,12 @@ use borrow.Author.Rules.{rules}
 use lib.ListN.{length, set, take, drop, length-set}
 use lib.Seq.{sets}
 use Rattle.ucp_frame.specs.Frame.{flag, stuffed, frame}
-use Rattle.crc_polynomial.specs.Polynomial.{bitsOfOctets, divided}
-use Rattle.ucp_writer.specs.Steps.{frameRest}
+use Rattle.crc_polynomial.specs.Polynomial.{bits_of_octets, divided}
+use Rattle.ucp_writer.specs.Steps.{frame_rest}
 use Rattle.output_writing.specs.Puts.{Puts}
-use Rattle.output_writing.proofs.ToPut.{ToPut, all-to-put, first-room, first-put, last-room, last-put}
-use Rattle.ucp_writer.proofs.Rest.{frame-rest, frame-put}
-use Rattle.ucp_writer.proofs.Head.{rest-head}
+use Rattle.output_writing.proofs.ToPut.{ToPut, all_to_put, first_room, first_put, last_room, last_put}
+use Rattle.ucp_writer.proofs.Rest.{frame_rest_lem, frame_put}
+use Rattle.ucp_writer.proofs.Head.{rest_head}
 use Rattle.ucp_writer.proofs.fill.Statement.{statement}
 use Rattle.ucp_writer.proofs.fill.Tie as tie
 
@@ -20,12 +20,12 @@ use Rattle.ucp_writer.proofs.fill.Tie as tie
 abbrev Left : tie.Start → List ℕ → ℕ → List ℕ → Type 0
 Left c output at octets =
     let body = c.args.body.now in
-    ToPut output at octets (1 + length (frameRest 0 body)) (sets c.args.output.now 0 (flag ∷ frameRest 0 body))
+    ToPut output at octets (1 + length (frame_rest 0 body)) (sets c.args.output.now 0 (flag ∷ frame_rest 0 body))
 
-after-flag : (c : tie.Start) → Left c (set c.args.output.now 0 flag) 1 (frameRest 0 c.args.body.now)
+after-flag : (c : tie.Start) → Left c (set c.args.output.now 0 flag) 1 (frame_rest 0 c.args.body.now)
 after-flag c =
-    all-to-put (set c.args.output.now 0 flag) 1 refl
-    (simp length-set (omega (arith, ap length (frame-rest c.args.body.now), c.requires)))
+    all_to_put (set c.args.output.now 0 flag) 1 refl
+    (simp length-set (omega (arith, ap length (frame_rest_lem c.args.body.now), c.requires)))
 
 -- the frame is whole
 filled : (c : tie.Start) {output : List ℕ} {at : ℕ} {octets : List ℕ} → Left c output at octets
@@ -35,23 +35,23 @@ filled : (c : tie.Start) {output : List ℕ} {at : ℕ} {octets : List ℕ} → 
 filled c t {next} {after} q =
     let body = c.args.body.now in
     let output = c.args.output.now in
-    let p = last-put t q in
-    let e : next ≡ length (frame body) = omega (arith, p.0, ap length (frame-rest body)) in
-    (e, p.1 ∙ ap (sets output 0) (sym (frame-rest body)) ∙ rw e (frame-put body output c.requires))
+    let p = last_put t q in
+    let e : next ≡ length (frame body) = omega (arith, p.0, ap length (frame_rest_lem body)) in
+    (e, p.1 ∙ ap (sets output 0) (sym (frame_rest_lem body)) ∙ rw e (frame_put body output c.requires))
 
 -- k octets first, and what is left behind them
 abbrev head : tie.Start → ℕ → List ℕ
 head c k = stuffed (take k c.args.body.now)
 
 abbrev behind : tie.Start → ℕ → ℕ → List ℕ
-behind c k check = frameRest check (drop k c.args.body.now)
+behind c k check = frame_rest check (drop k c.args.body.now)
 
 abbrev head-check : tie.Start → ℕ → ℕ
-head-check c k = divided 0 (bitsOfOctets (take k c.args.body.now))
+head-check c k = divided 0 (bits_of_octets (take k c.args.body.now))
 
 head-left : (c : tie.Start) (k : ℕ) → Left c (set c.args.output.now 0 flag) 1 (head c k ++ behind c k (head-check c k))
 head-left c k =
-    subst (λ (octets : List ℕ). Left c (set c.args.output.now 0 flag) 1 octets) (rest-head k c.args.body.now) (after-flag c)
+    subst (λ (octets : List ℕ). Left c (set c.args.output.now 0 flag) 1 octets) (rest_head k c.args.body.now) (after-flag c)
 
 behind-left : (c : tie.After-head-check)
     → Left c.before.before.before.before.before.before.before.before.before
@@ -62,21 +62,21 @@ behind-left c =
     let s = c.before.before.before.before.before.before.before.before.before in
     let k = c.before.before.before.before.before.before.head-length.result in
     rw c.head-check.ensures
-    (first-put (head s k) (behind s k (head-check s k)) (head-left s k) c.before.before.before.before.put-head.ensures)
+    (first_put (head s k) (behind s k (head-check s k)) (head-left s k) c.before.before.before.before.put-head.ensures)
 
 slice-write-output : tie.Need-slice-write-output
-slice-write-output c = omega (arith, ap length (frame-rest c.before.before.args.body.now))
+slice-write-output c = omega (arith, ap length (frame_rest_lem c.before.before.args.body.now))
 
 put-head-requires : tie.Need-put-head-requires
 put-head-requires c κs =
     let s = c.before.before.before.before in
     let k = c.before.head-length.result in
-    (search rules, search rules, first-room (head s k) (behind s k (head-check s k)) (head-left s k))
+    (search rules, search rules, first_room (head s k) (behind s k (head-check s k)) (head-left s k))
 
 fill-words-requires : tie.Need-fill-words-requires
 fill-words-requires c κs =
     let k = c.before.before.before.before.before.before.head-length.ensures in
-    (k.1, k.2, last-room (behind-left c))
+    (k.1, k.2, last_room (behind-left c))
 
 same_length : tie.Need-same-length
 same_length c =

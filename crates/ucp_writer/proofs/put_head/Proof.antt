@@ -6,21 +6,21 @@ use native.Mathlib.Omega.{arith}
 use borrow.Author.Rules.{rules}
 use lib.ListN.{length, get_or, take}
 use Rattle.ucp_frame.specs.Frame.{escaped, stuffed}
-use Rattle.ucp_writer.proofs.Head.{stuffed-none, stuffed-one, stuffed-two}
+use Rattle.ucp_writer.proofs.Head.{stuffed_none, stuffed_one, stuffed_two}
 use Rattle.ucp_writer.proofs.put_head.Statement.{statement}
 use Rattle.ucp_writer.proofs.put_head.Tie as tie
 
 returns : tie.Need-returns
 returns c =
     let a = c.before.before.before.args in
-    rw (stuffed-none a.octets a.body.now c.if1.true) (record { ends = refl; leaves = refl })
+    rw (stuffed_none a.octets a.body.now c.if1.true) (record { ends = refl; leaves = refl })
 
 one : (c : tie.Then2)
     → stuffed (take c.before.before.before.before.args.octets c.before.before.before.before.args.body.now)
     ≡ escaped (get_or c.before.before.before.before.args.body.now 0 0)
 one c =
     let s = c.before.before.before.before in
-    stuffed-one s.args.octets s.args.body.now c.if2.true (omega (arith, s.requires))
+    stuffed_one s.args.octets s.args.body.now c.if2.true (omega (arith, s.requires))
 
 two : (c : tie.Else2)
     → stuffed (take c.before.before.before.before.args.octets c.before.before.before.before.args.body.now)
@@ -29,7 +29,7 @@ two : (c : tie.Else2)
 two c =
     let s = c.before.before.before.before in
     let is-two : s.args.octets ≡ 2 = omega (arith, s.requires) in
-    stuffed-two s.args.octets s.args.body.now is-two (omega (arith, s.requires))
+    stuffed_two s.args.octets s.args.body.now is-two (omega (arith, s.requires))
 
 put-requires : tie.Need-put-requires
 put-requires c κs = omega (arith, ap length (one c.before.before), c.before.before.before.before.before.before.requires)

@@ -8,27 +8,27 @@ use native.Mathlib.Omega.{arith}
 use lib.Dec.{eqb, ltb}
 use lib.ListN.{length}
 use borrow.Author.Tests.{eqb-true, eqb-false, ltb-true, ltb-false, eq-eqb, ne_eqb, lt-ltb, le-ltb}
-use Rattle.ucp_frame.specs.Frame.{frame, longestBody}
+use Rattle.ucp_frame.specs.Frame.{frame, longest_body}
 use Rattle.output_writing.specs.Writing.{WriterAnswer, refused, wrote}
-use Rattle.ucp_writer.specs.Room.{frameDue, refusalNumber}
+use Rattle.ucp_writer.specs.Room.{frame_due, refusal_number}
 use Rattle.ucp_writer.specs.Refusals.{WrongBodyLength, NoRoomForFrame}
 
 data Due (body output : List ℕ) : WriterAnswer → Type 0 where
   empty : length body ≡ 0 → Due body output (refused 7)
-  tooLong : longestBody < length body → Due body output (refused 7)
-  short : 1 ≤ length body → length body ≤ longestBody → length output < length (frame body) → Due body output (refused 8)
-  accepted : 1 ≤ length body → length body ≤ longestBody → length (frame body) ≤ length output
+  too_long : longest_body < length body → Due body output (refused 7)
+  short : 1 ≤ length body → length body ≤ longest_body → length output < length (frame body) → Due body output (refused 8)
+  accepted : 1 ≤ length body → length body ≤ longest_body → length (frame body) ≤ length output
       → Due body output (wrote (length (frame body)))
 
-due : (body output : List ℕ) → Due body output (frameDue body output)
-unfolding frameDue
-due body output = go (eqb (length body) 0) refl (ltb longestBody (length body)) refl (ltb (length output) (length (frame body))) refl
+due : (body output : List ℕ) → Due body output (frame_due body output)
+unfolding frame_due
+due body output = go (eqb (length body) 0) refl (ltb longest_body (length body)) refl (ltb (length output) (length (frame body))) refl
   where
-    go : (s : Bool) → eqb (length body) 0 ≡ s → (t : Bool) → ltb longestBody (length body) ≡ t
+    go : (s : Bool) → eqb (length body) 0 ≡ s → (t : Bool) → ltb longest_body (length body) ≡ t
         → (u : Bool) → ltb (length output) (length (frame body)) ≡ u
         → Due body output (cond (s || t) (refused 7) (cond u (refused 8) (wrote (length (frame body)))))
     go true p t q u r = empty (eqb-true _ _ p)
-    go false p true q u r = tooLong (ltb-true _ _ q)
+    go false p true q u r = too_long (ltb-true _ _ q)
     go false p false q true r =
         let some : length body ≡ 0 → ⊥ = eqb-false _ _ p in
         short (omega arith) (ltb-false _ _ q) (ltb-true _ _ r)
@@ -40,85 +40,85 @@ due body output = go (eqb (length body) 0) refl (ltb longestBody (length body)) 
 pub record Accepted (body output : List ℕ) (octets : ℕ) : Type 0 where
   pub exact : length (frame body) ≡ octets
   pub least : 1 ≤ length body
-  pub most : length body ≤ longestBody
+  pub most : length body ≤ longest_body
   pub room : length (frame body) ≤ length output
 
-pub accepted-so : (body output : List ℕ) (octets : ℕ) → wrote octets ≡ frameDue body output → Accepted body output octets
-accepted-so body output octets = go (frameDue body output) (due body output)
+pub accepted_so : (body output : List ℕ) (octets : ℕ) → wrote octets ≡ frame_due body output → Accepted body output octets
+accepted_so body output octets = go (frame_due body output) (due body output)
   where
     go : (a : WriterAnswer) → Due body output a → wrote octets ≡ a → Accepted body output octets
     go a (empty h) e = let z : ◌≡◌ {A = ℕ} 0 1 = cc in absurd (omega arith)
-    go a (tooLong h) e = let z : ◌≡◌ {A = ℕ} 0 1 = cc in absurd (omega arith)
+    go a (too_long h) e = let z : ◌≡◌ {A = ℕ} 0 1 = cc in absurd (omega arith)
     go a (short least most h) e = let z : ◌≡◌ {A = ℕ} 0 1 = cc in absurd (omega arith)
     go a (accepted least most room) e = record { exact = cc; least = least; most = most; room = room }
 
 -- no refusal but 7 and 8
-pub refused-so : (body output : List ℕ) (number : ℕ) → refused number ≡ frameDue body output → (number ≡ 7) ⊎ (number ≡ 8)
-refused-so body output number = go (frameDue body output) (due body output)
+pub refused_so : (body output : List ℕ) (number : ℕ) → refused number ≡ frame_due body output → (number ≡ 7) ⊎ (number ≡ 8)
+refused_so body output number = go (frame_due body output) (due body output)
   where
     go : (a : WriterAnswer) → Due body output a → refused number ≡ a → (number ≡ 7) ⊎ (number ≡ 8)
     go a (empty h) e = inl cc
-    go a (tooLong h) e = inl cc
+    go a (too_long h) e = inl cc
     go a (short least most h) e = inr cc
     go a (accepted least most room) e = let z : ◌≡◌ {A = ℕ} 0 1 = cc in absurd (omega arith)
 
 -- 7 exactly where the body has no octet or too many, 8 exactly where it has neither and its frame no room
-pub refused-7 : (body output : List ℕ) → (frameDue body output ≡ refused 7) ↔ WrongBodyLength body
-unfolding frameDue
-refused-7 body output = (go (frameDue body output) (due body output), back)
+pub refused_7 : (body output : List ℕ) → (frame_due body output ≡ refused 7) ↔ WrongBodyLength body
+unfolding frame_due
+refused_7 body output = (go (frame_due body output) (due body output), back)
   where
     go : (a : WriterAnswer) → Due body output a → a ≡ refused 7 → WrongBodyLength body
     go a (empty h) e = inl h
-    go a (tooLong h) e = inr h
+    go a (too_long h) e = inr h
     go a (short least most h) e = let z : ◌≡◌ {A = ℕ} 8 7 = cc in absurd (omega arith)
     go a (accepted least most room) e = let z : ◌≡◌ {A = ℕ} 0 1 = cc in absurd (omega arith)
 
-    back : WrongBodyLength body → frameDue body output ≡ refused 7
+    back : WrongBodyLength body → frame_due body output ≡ refused 7
     back (inl h) = rw (eq-eqb (length body) 0 h)
     back (inr h) =
         let some : length body ≡ 0 → ⊥ = omega arith in
-        rw (ne_eqb (length body) 0 some, lt-ltb longestBody (length body) h)
+        rw (ne_eqb (length body) 0 some, lt-ltb longest_body (length body) h)
 
-pub refused-8 : (body output : List ℕ) → (frameDue body output ≡ refused 8) ↔ NoRoomForFrame body output
-unfolding frameDue
-refused-8 body output = (go (frameDue body output) (due body output), back)
+pub refused_8 : (body output : List ℕ) → (frame_due body output ≡ refused 8) ↔ NoRoomForFrame body output
+unfolding frame_due
+refused_8 body output = (go (frame_due body output) (due body output), back)
   where
     go : (a : WriterAnswer) → Due body output a → a ≡ refused 8 → NoRoomForFrame body output
     go a (empty h) e = let z : ◌≡◌ {A = ℕ} 7 8 = cc in absurd (omega arith)
-    go a (tooLong h) e = let z : ◌≡◌ {A = ℕ} 7 8 = cc in absurd (omega arith)
+    go a (too_long h) e = let z : ◌≡◌ {A = ℕ} 7 8 = cc in absurd (omega arith)
     go a (short least most h) e = (least, most, h)
     go a (accepted least most room) e = let z : ◌≡◌ {A = ℕ} 0 1 = cc in absurd (omega arith)
 
-    back : NoRoomForFrame body output → frameDue body output ≡ refused 8
+    back : NoRoomForFrame body output → frame_due body output ≡ refused 8
     back h =
         let some : length body ≡ 0 → ⊥ = omega arith in
-        rw (ne_eqb (length body) 0 some, le-ltb longestBody (length body) h.1, lt-ltb (length output) (length (frame body)) h.2)
+        rw (ne_eqb (length body) 0 some, le-ltb longest_body (length body) h.1, lt-ltb (length output) (length (frame body)) h.2)
 
 -- a body that may be sent, with room for its frame, is accepted
-pub due-accepted : (body output : List ℕ) → 1 ≤ length body → length body ≤ longestBody
-    → length (frame body) ≤ length output → frameDue body output ≡ wrote (length (frame body))
-unfolding frameDue
-due-accepted body output least most room =
+pub due_accepted : (body output : List ℕ) → 1 ≤ length body → length body ≤ longest_body
+    → length (frame body) ≤ length output → frame_due body output ≡ wrote (length (frame body))
+unfolding frame_due
+due_accepted body output least most room =
     let some : length body ≡ 0 → ⊥ = omega arith in
-    rw (ne_eqb (length body) 0 some, le-ltb longestBody (length body) most, le-ltb (length output) (length (frame body)) room)
+    rw (ne_eqb (length body) 0 some, le-ltb longest_body (length body) most, le-ltb (length output) (length (frame body)) room)
 
 -- what a number says of the answer
-pub refused-by : (body output : List ℕ) {number : ℕ} → number ≡ refusalNumber (frameDue body output) → (number ≡ 0 → ⊥)
-    → refused number ≡ frameDue body output
-refused-by body output {number} = go (frameDue body output) (due body output)
+pub refused_by : (body output : List ℕ) {number : ℕ} → number ≡ refusal_number (frame_due body output) → (number ≡ 0 → ⊥)
+    → refused number ≡ frame_due body output
+refused_by body output {number} = go (frame_due body output) (due body output)
   where
-    go : (a : WriterAnswer) → Due body output a → number ≡ refusalNumber a → (number ≡ 0 → ⊥) → refused number ≡ a
+    go : (a : WriterAnswer) → Due body output a → number ≡ refusal_number a → (number ≡ 0 → ⊥) → refused number ≡ a
     go a (empty h) e ne = ap refused e
-    go a (tooLong h) e ne = ap refused e
+    go a (too_long h) e ne = ap refused e
     go a (short least most h) e ne = ap refused e
     go a (accepted least most room) e ne = absurd (ne e)
 
-pub accepted-by : (body output : List ℕ) {number : ℕ} → number ≡ refusalNumber (frameDue body output) → number ≡ 0
-    → wrote (length (frame body)) ≡ frameDue body output
-accepted-by body output {number} = go (frameDue body output) (due body output)
+pub accepted_by : (body output : List ℕ) {number : ℕ} → number ≡ refusal_number (frame_due body output) → number ≡ 0
+    → wrote (length (frame body)) ≡ frame_due body output
+accepted_by body output {number} = go (frame_due body output) (due body output)
   where
-    go : (a : WriterAnswer) → Due body output a → number ≡ refusalNumber a → number ≡ 0 → wrote (length (frame body)) ≡ a
+    go : (a : WriterAnswer) → Due body output a → number ≡ refusal_number a → number ≡ 0 → wrote (length (frame body)) ≡ a
     go a (empty h) e z = absurd (omega arith)
-    go a (tooLong h) e z = absurd (omega arith)
+    go a (too_long h) e z = absurd (omega arith)
     go a (short least most h) e z = absurd (omega arith)
     go a (accepted least most room) e z = refl

@@ -2,20 +2,20 @@
 use mathlib.Core.Path.{refl, ap, ◌∙◌}
 use borrow.Author.Rules.{rules}
 use Rattle.output_writing.specs.Writing.{wrote}
-use Rattle.ucp_writer.proofs.room.Due.{refused-by, accepted-by, accepted-so}
+use Rattle.ucp_writer.proofs.room.Due.{refused_by, accepted_by, accepted_so}
 use Rattle.ucp_writer.proofs.write_frame.Statement.{statement}
 use Rattle.ucp_writer.proofs.write_frame.Tie as tie
 
 returns : tie.Need-returns
 returns c =
     let a = c.before.before.before.before.before.args in
-    record { answers = refused-by a.body.now a.output.now c.before.refusal.ensures c.if1.true; leaves = refl }
+    record { answers = refused_by a.body.now a.output.now c.before.refusal.ensures c.if1.true; leaves = refl }
 
 fill-requires : tie.Need-fill-requires
 fill-requires c κs =
     let a = c.before.before.before.before.before.before.args in
-    (accepted-so a.body.now a.output.now _
-    (accepted-by a.body.now a.output.now c.before.before.refusal.ensures c.before.if1.false)).room
+    (accepted_so a.body.now a.output.now _
+    (accepted_by a.body.now a.output.now c.before.before.refusal.ensures c.before.if1.false)).room
 
 returns-2 : tie.Need-returns-2
 returns-2 c =
@@ -24,7 +24,7 @@ returns-2 c =
     record {
       answers =
           ap wrote f.0
-          ∙ accepted-by a.body.now a.output.now c.before.before.before.before.before.refusal.ensures
+          ∙ accepted_by a.body.now a.output.now c.before.before.before.before.before.refusal.ensures
           c.before.before.before.before.if1.false;
       leaves = f.1;
     }

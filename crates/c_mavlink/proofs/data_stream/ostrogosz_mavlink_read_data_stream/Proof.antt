@@ -3,36 +3,36 @@ use mathlib.Core.Path.{refl}
 use Prim.Native.Nat.{◌≤◌}
 use native.Mathlib.Omega.{arith}
 use lib.ListN.{length, drop_of_length-le}
-use Rattle.mavlink_frame.specs.Frame.{kind, mavlinkKind}
-use Rattle.mavlink_frame.specs.Reader.{payloadAt}
+use Rattle.mavlink_frame.specs.Frame.{kind, mavlink_kind}
+use Rattle.mavlink_frame.specs.Reader.{payload_at}
 use Rattle.mavlink_messages.specs.declared.Message.TheVariants.{DataStream}
-use Rattle.mavlink_messages.specs.DataStream66.{dataStreamFormat}
+use Rattle.mavlink_messages.specs.DataStream66.{data_stream_format}
 use Rattle.c_mavlink.specs.Steps.{Taken}
-use Rattle.c_mavlink.proofs.Parts.{part-octets, payload-length}
-use Rattle.c_mavlink.proofs.Structs.{data-stream-lies, filled}
+use Rattle.c_mavlink.proofs.Parts.{part_octets, payload_length}
+use Rattle.c_mavlink.proofs.Structs.{data_stream_lies, filled}
 use Rattle.c_mavlink.proofs.Readers.{frame_refused, read}
 use borrow.Author.Rules.{rules}
 use Rattle.c_mavlink.proofs.data_stream.ostrogosz_mavlink_read_data_stream.Statement.{statement}
 use Rattle.c_mavlink.proofs.data_stream.ostrogosz_mavlink_read_data_stream.Tie as tie
 
 taken : (c : tie.Else1) → Taken (kind 66 6 148) c.before.before.before.args.input.now
-unfolding mavlinkKind
-taken c = c.before.refusal-of.ensures.taken c.if1.false
+unfolding mavlink_kind
+taken c = c.before.refusal_of.ensures.taken c.if1.false
 
 room : (c : tie.Else1) → 14 ≤ length c.before.before.before.args.input.now
 room c = (taken c).room
 
 returns : tie.Need-returns
-returns c = frame_refused _ _ 66 c.before.before.before.args.input.now (c.before.refusal-of.ensures.refused (omega (arith, c.if1.true)))
+returns c = frame_refused _ _ 66 c.before.before.before.args.input.now (c.before.refusal_of.ensures.refused (omega (arith, c.if1.true)))
 
 returns-2 : tie.Need-returns-2
 returns-2 c =
     let input = c.before.before.before.before.before.before.before.before.args.input.now in
     let e = c.before.before.before.before.before in
     let before = c.before.before.before.before.before.before.before.before.args.message.now in
-    read _ _ (kind 66 6 148) dataStreamFormat DataStream (λ h used p. refl) input (taken e) refl c.before.before.before.put-sender.ensures
-    (filled data-stream-lies (payloadAt 6 input) before (part-octets 6 6 input (omega (arith, room e)) (λ i. (c.before.before.before.before.before.before.before.shared-slice-known.given i).fits))
-    (payload-length 6 input (room e)) (drop_of_length-le before {i = 6} (omega arith)) c.copy.ensures)
+    read _ _ (kind 66 6 148) data_stream_format DataStream (λ h used p. refl) input (taken e) refl c.before.before.before.put-sender.ensures
+    (filled data_stream_lies (payload_at 6 input) before (part_octets 6 6 input (omega (arith, room e)) (λ i. (c.before.before.before.before.before.before.before.shared-slice-known.given i).fits))
+    (payload_length 6 input (room e)) (drop_of_length-le before {i = 6} (omega arith)) c.copy.ensures)
 
 pub ostrogosz-mavlink-read-data-stream-spec : {M : Type 1} → statement M
 ostrogosz-mavlink-read-data-stream-spec =

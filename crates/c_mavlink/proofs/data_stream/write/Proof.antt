@@ -2,25 +2,25 @@
 use mathlib.Core.Path.{refl, sym, ◌∙◌}
 use native.Mathlib.Nat.{le_of_eq}
 use lib.Seq.{take_all}
-use Rattle.output_writing.proofs.Numbers.{as-numbers}
-use Rattle.mavlink_frame.specs.Frame.{mavlinkKind}
+use Rattle.output_writing.proofs.Numbers.{as_numbers}
+use Rattle.mavlink_frame.specs.Frame.{mavlink_kind}
 use Rattle.mavlink_messages.specs.declared.Message.TheVariants.{DataStream}
 use Rattle.c_lent.specs.Structs.{held}
-use Rattle.c_mavlink.specs.Structs.{headerStruct, dataStreamStruct}
-use Rattle.c_mavlink.proofs.Structs.{data-stream-lies, payload-held}
+use Rattle.c_mavlink.specs.Structs.{header_struct, data_stream_struct}
+use Rattle.c_mavlink.proofs.Structs.{data_stream_lies, payload_held}
 use Rattle.c_mavlink.proofs.Writers.{written}
 use borrow.Author.Rules.{rules}
 use Rattle.c_mavlink.proofs.data_stream.write.Statement.{statement}
 use Rattle.c_mavlink.proofs.data_stream.write.Tie as tie
 
 returns : tie.Need-returns
-unfolding mavlinkKind
+unfolding mavlink_kind
 returns c =
     let s = c.before.before.before.before.before.before.before.before.before in
     let message = s.args.message.now in
-    let w = as-numbers c.in-numbers.ensures c.before.before.before.write-six.ensures in
-    written (DataStream (held dataStreamStruct message)) (held headerStruct s.args.header.now) s.args.output.now refl
-    (sym (take_all 6 message (le_of_eq s.requires.0)) ∙ payload-held data-stream-lies message (λ i. (c.before.before.before.before.before.before.before.before.shared-slice-known.given i).fits) s.requires.0)
+    let w = as_numbers c.in-numbers.ensures c.before.before.before.write-six.ensures in
+    written (DataStream (held data_stream_struct message)) (held header_struct s.args.header.now) s.args.output.now refl
+    (sym (take_all 6 message (le_of_eq s.requires.0)) ∙ payload_held data_stream_lies message (λ i. (c.before.before.before.before.before.before.before.before.shared-slice-known.given i).fits) s.requires.0)
     (rw c.before.before.before.before.before.sender.ensures at w)
 
 pub write_spec : {M : Type 1} → statement M

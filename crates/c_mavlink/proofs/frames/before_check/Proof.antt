@@ -1,5 +1,5 @@
 -- `c_mavlink::frames::before_check` meets its contract, test by test. Assumes nothing.
-use Rattle.c_mavlink.proofs.Readers.{empty, other-start, few, other-id, another-length, not-whole, is_whole}
+use Rattle.c_mavlink.proofs.Readers.{empty, other_start, few, other_id, another_length, not_whole, is_whole}
 use borrow.Author.Rules.{rules}
 use Rattle.c_mavlink.proofs.frames.before_check.Statement.{statement}
 use Rattle.c_mavlink.proofs.frames.before_check.Tie as tie
@@ -8,7 +8,7 @@ returns : tie.Need-returns
 returns c = let a = c.before.args in empty a.kind a.input.now c.if1.true
 
 returns-2 : tie.Need-returns-2
-returns-2 c = let a = c.before.before.before.args in other-start a.kind a.input.now c.before.before.if1.false c.if2.true
+returns-2 c = let a = c.before.before.before.args in other_start a.kind a.input.now c.before.before.if1.false c.if2.true
 
 returns-3 : tie.Need-returns-3
 returns-3 c =
@@ -18,19 +18,19 @@ returns-3 c =
 returns-4 : tie.Need-returns-4
 returns-4 c =
     let a = c.before.before.before.before.before.before.before.args in
-    other-id a.kind a.input.now c.before.before.before.before.before.before.if1.false c.before.before.before.before.if2.false c.before.before.before.if3.false c.if4.true
+    other_id a.kind a.input.now c.before.before.before.before.before.before.if1.false c.before.before.before.before.if2.false c.before.before.before.if3.false c.if4.true
 
 returns-5 : tie.Need-returns-5
 returns-5 c =
     let s = c.before.before.before.before.before.before.before.before.before.before in
     let a = s.args in
-    another-length a.kind a.input.now c.before.before.before.before.before.before.before.before.before.if1.false c.before.before.before.before.before.before.before.if2.false c.before.before.before.before.before.before.if3.false c.before.before.before.if4.false s.requires c.if5.true
+    another_length a.kind a.input.now c.before.before.before.before.before.before.before.before.before.if1.false c.before.before.before.before.before.before.before.if2.false c.before.before.before.before.before.before.if3.false c.before.before.before.if4.false s.requires c.if5.true
 
 returns-6 : tie.Need-returns-6
 returns-6 c =
     let s = c.before.before.before.before.before.before.before.before.before.before.before.before in
     let a = s.args in
-    not-whole a.kind a.input.now c.before.before.before.before.before.before.before.before.before.before.before.if1.false c.before.before.before.before.before.before.before.before.before.if2.false c.before.before.before.before.before.before.before.before.if3.false c.before.before.before.before.before.if4.false s.requires
+    not_whole a.kind a.input.now c.before.before.before.before.before.before.before.before.before.before.before.if1.false c.before.before.before.before.before.before.before.before.before.if2.false c.before.before.before.before.before.before.before.before.if3.false c.before.before.before.before.before.if4.false s.requires
     c.before.before.if5.false c.if6.true
 
 returns-7 : tie.Need-returns-7

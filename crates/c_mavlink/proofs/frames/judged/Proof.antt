@@ -1,7 +1,7 @@
 -- `c_mavlink::frames::judged` meets its contract: the check that was sent is the one that is due, or not. Assumes nothing.
 use mathlib.Core.Path.{sym, ◌∙◌}
 use native.Mathlib.Omega.{arith}
-use Rattle.c_mavlink.proofs.Readers.{wrong-check, right-check}
+use Rattle.c_mavlink.proofs.Readers.{wrong_check, right_check}
 use borrow.Author.Rules.{rules}
 use Rattle.c_mavlink.proofs.frames.judged.Statement.{statement}
 use Rattle.c_mavlink.proofs.frames.judged.Tie as tie
@@ -15,13 +15,13 @@ shared-slice-read-little-2 c = omega (arith, c.before.before.before.before.requi
 returns : tie.Need-returns
 returns c =
     let s = c.before.before.before.before.before.before in
-    wrong-check s.args.kind s.args.input.now s.requires.1
+    wrong_check s.args.kind s.args.input.now s.requires.1
     (λ e. c.if1.true (c.before.little.ensures ∙ e ∙ sym s.requires.2))
 
 returns-2 : tie.Need-returns-2
 returns-2 c =
     let s = c.before.before.before.before.before.before in
-    right-check s.args.kind s.args.input.now s.requires.1 s.requires.0
+    right_check s.args.kind s.args.input.now s.requires.1 s.requires.0
     (sym c.before.little.ensures ∙ c.if1.false ∙ s.requires.2)
 
 pub judged-spec : {M : Type 1} → statement M

@@ -4,19 +4,19 @@ use mathlib.Core.Bool.{◌&&◌}
 use native.Mathlib.Omega.{arith}
 use lib.Dec.{eqb, leb, ltb}
 use lib.ListN.{get_or}
-use Rattle.field_texts.specs.Text.{isSpaced}
-use Rattle.mavlink_messages.specs.Ranges.{staticFits}
+use Rattle.field_texts.specs.Text.{is_spaced}
+use Rattle.mavlink_messages.specs.Ranges.{static_fits}
 use Rattle.c_mavlink.proofs.Parts.{part}
 use borrow.Author.Rules.{rules}
 use Rattle.c_mavlink.proofs.static_data.fits.Statement.{statement}
 use Rattle.c_mavlink.proofs.static_data.fits.Tie as tie
 
 returns : tie.Need-returns
-unfolding staticFits
+unfolding static_fits
 returns c =
     let s = c.before.before.before.before.before.before.before.before.before.before in
     let xs = s.args.octets.now in
-    let spaced = c.before.before.before.before.before.before.before.is-spaced.ensures ∙ ap isSpaced (part 8 6 xs (omega (arith, s.requires))) in
+    let spaced = c.before.before.before.before.before.before.before.is-spaced.ensures ∙ ap is_spaced (part 8 6 xs (omega (arith, s.requires))) in
     λ i. ltb s.args.address 16777216
     && spaced i
     && eqb (get_or xs 14 0) 0

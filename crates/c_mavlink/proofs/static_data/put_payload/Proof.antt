@@ -2,7 +2,7 @@
 use mathlib.Core.Path.{◌∙◌}
 use lib.ListN.{get_or, set, length-set}
 use lib.Seq.{sets}
-use Rattle.c_mavlink.proofs.Static.{payload-put}
+use Rattle.c_mavlink.proofs.Static.{payload_put}
 use borrow.Author.Rules.{rules}
 use Rattle.c_mavlink.proofs.static_data.put_payload.Statement.{statement}
 use Rattle.c_mavlink.proofs.static_data.put_payload.Tie as tie
@@ -17,7 +17,7 @@ returns c =
     let first = c.before.before.before.before.before.before.before.before.before.before.before.before.before.put-64.ensures ∙ (λ i. sets s.args.output.now 6 (c.before.before.before.before.before.before.before.before.before.before.before.before.before.before.little-64.ensures i)) in
     let second = c.before.before.before.before.before.before.before.before.put-642.ensures ∙ (λ i. sets (first i) 14 (c.before.before.before.before.before.before.before.before.before.little-642.ensures i)) in
     let third = c.before.before.before.put-643.ensures ∙ (λ i. sets (second i) 17 (c.before.before.before.before.little-643.ensures i)) in
-    payload-put m (λ i. (c.before.before.before.before.before.before.before.before.before.before.before.before.before.before.before.before.before.shared-slice-known.given i).fits) s.requires.0 s.requires.1 s.args.output.now s.requires.2
+    payload_put m (λ i. (c.before.before.before.before.before.before.before.before.before.before.before.before.before.before.before.before.before.shared-slice-known.given i).fits) s.requires.0 s.requires.1 s.args.output.now s.requires.2
     (λ i. set (third i) 9 (get_or m 19 0))
 
 pub put-payload-spec : {M : Type 1} → statement M

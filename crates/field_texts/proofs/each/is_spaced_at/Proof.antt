@@ -2,7 +2,7 @@
 use mathlib.Core.Path.{◌≡◌, refl, ◌∙◌}
 use mathlib.Core.Bool.{Bool, true, false, ◌&&◌}
 use borrow.Author.Rules.{rules}
-use Rattle.field_texts.specs.Text.{isSpaced}
+use Rattle.field_texts.specs.Text.{is_spaced}
 use Rattle.field_texts.proofs.each.is_spaced_at.Statement.{statement}
 use Rattle.field_texts.proofs.each.is_spaced_at.Tie as tie
 
@@ -12,7 +12,7 @@ ends true = refl
 ends false = refl
 
 returns : tie.Need-returns
-unfolding isSpaced
+unfolding is_spaced
 returns c =
     let last = c.before.before.before.before.before.before.before.before.before.before.before.before.is-spaced-octet2.ensures ∙ ends _ in
     (λ i. c.before.before.is-spaced-octet7.ensures i

@@ -5,7 +5,7 @@ use Prim.Native.Nat.{ℕ, ◌-◌, ◌≤◌}
 use native.Mathlib.Omega.{arith}
 use lib.ListN.{length, get_or, drop, length-drop}
 use lib.Seq.{drop-cons, take_all}
-use Rattle.crc_x25.specs.Check.{x25, x25From}
+use Rattle.crc_x25.specs.Check.{x25, x25_from}
 use Rattle.crc_x25.proofs.Step.{after}
 use Rattle.mavlink_frame.specs.Frame.{covered}
 use borrow.Author.Rules.{rules}
@@ -29,8 +29,8 @@ returns-2 c =
     let enough : 3 ≤ length p = omega arith in
     let others = drop 3 p ++ k.extra ∷ [] in
     c.x25-after.ensures
-    ∙ ap (λ (xs : List ℕ). x25From c.before.before.x25-eight.result (xs ++ k.extra ∷ [])) (take_all (length p - 3) (drop 3 p) (simp length-drop (omega arith)))
-    ∙ ap (λ (n : ℕ). x25From n others) (c.before.before.x25-eight.ensures ∙ ap x25 c.before.before.before.word_of.ensures)
+    ∙ ap (λ (xs : List ℕ). x25_from c.before.before.x25-eight.result (xs ++ k.extra ∷ [])) (take_all (length p - 3) (drop 3 p) (simp length-drop (omega arith)))
+    ∙ ap (λ (n : ℕ). x25_from n others) (c.before.before.x25-eight.ensures ∙ ap x25 c.before.before.before.word_of.ensures)
     ∙ after (k.length ∷ h.sequence ∷ h.system ∷ h.component ∷ k.id ∷ get_or p 0 0 ∷ get_or p 1 0 ∷ get_or p 2 0 ∷ []) others
     ∙ ap (λ (q : List ℕ). x25 (covered k h q)) (three p enough)
 

@@ -3,9 +3,9 @@ use mathlib.Core.Path.{sym, ap, ap₂, ◌∙◌}
 use mathlib.Core.List.{List, ◌++◌}
 use Prim.Native.Nat.{ℕ, ◌+◌}
 use lib.ListN.{length, drop}
-use Rattle.mavlink_frame.specs.Reader.{payloadAt}
+use Rattle.mavlink_frame.specs.Reader.{payload_at}
 use Rattle.mavlink_frame.specs.Steps.{closed}
-use Rattle.mavlink_frame.proofs.writer.Put.{payload-pasted, behind-pasted, frame_closed}
+use Rattle.mavlink_frame.proofs.writer.Put.{payload_pasted, behind_pasted, frame_closed}
 use borrow.Author.Rules.{rules}
 use Rattle.mavlink_frame.proofs.writer.fill.Statement.{statement}
 use Rattle.mavlink_frame.proofs.writer.fill.Tie as tie
@@ -21,8 +21,8 @@ returns c =
     let put = c.before.before.before.before.before.before.copy.ensures in
     let check = c.before.before.before.before.before.before.before.before.check-of in
     c.before.before.put-around.ensures
-    ∙ ap₂ (λ (n : ℕ) (mid : List ℕ). closed k h (payloadAt n mid) check.result ++ drop (n + 8) mid) (sym s.requires.0) put
-    ∙ ap₂ (λ (q behind : List ℕ). closed k h q check.result ++ behind) (payload-pasted p o room) (behind-pasted p o room)
+    ∙ ap₂ (λ (n : ℕ) (mid : List ℕ). closed k h (payload_at n mid) check.result ++ drop (n + 8) mid) (sym s.requires.0) put
+    ∙ ap₂ (λ (q behind : List ℕ). closed k h q check.result ++ behind) (payload_pasted p o room) (behind_pasted p o room)
     ∙ ap (λ (xs : List ℕ). xs ++ drop (length p + 8) o) (frame_closed k h p check.ensures)
 
 pub fill_spec : {M : Type 1} → statement M

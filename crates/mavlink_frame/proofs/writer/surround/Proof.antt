@@ -6,7 +6,7 @@ use native.Mathlib.Omega.{arith}
 use lib.ListN.{drop}
 use Rattle.crc_x25.specs.Check.{x25}
 use Rattle.mavlink_frame.specs.Frame.{covered}
-use Rattle.mavlink_frame.specs.Reader.{payloadAt}
+use Rattle.mavlink_frame.specs.Reader.{payload_at}
 use Rattle.mavlink_frame.proofs.writer.Put.{frame_closed}
 use borrow.Author.Rules.{rules}
 use Rattle.mavlink_frame.proofs.writer.surround.Statement.{statement}
@@ -19,9 +19,9 @@ returns c =
     let h = s.args.header in
     let o = s.args.output.now in
     let n : k.length + 6 - 6 ≡ k.length = omega arith in
-    let check = c.before.before.before.before.check-of.ensures ∙ ap (λ (m : ℕ). x25 (covered k h (payloadAt m o))) n in
+    let check = c.before.before.before.before.check-of.ensures ∙ ap (λ (m : ℕ). x25 (covered k h (payload_at m o))) n in
     c.before.before.put-around.ensures
-    ∙ ap (λ (xs : List ℕ). xs ++ drop (k.length + 8) o) (frame_closed k h (payloadAt k.length o) check)
+    ∙ ap (λ (xs : List ℕ). xs ++ drop (k.length + 8) o) (frame_closed k h (payload_at k.length o) check)
 
 pub surround-spec : {M : Type 1} → statement M
 surround-spec =

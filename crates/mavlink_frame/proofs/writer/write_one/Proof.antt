@@ -4,14 +4,14 @@ use mathlib.Core.List.{[], ◌∷◌}
 use native.Mathlib.Omega.{arith}
 use borrow.Author.Tests.{eq-eqb, lt-ltb, le-ltb}
 use lib.ListN.{length-set}
-use Rattle.mavlink_frame.specs.Writer.{writeOf}
+use Rattle.mavlink_frame.specs.Writer.{write_of}
 use Rattle.mavlink_frame.proofs.writer.Put.{framed}
 use borrow.Author.Rules.{rules}
 use Rattle.mavlink_frame.proofs.writer.write_one.Statement.{statement}
 use Rattle.mavlink_frame.proofs.writer.write_one.Tie as tie
 
 returns : tie.Need-returns
-unfolding writeOf
+unfolding write_of
 returns c = record { answers = rw (eq-eqb _ _ (sym c.before.before.requires), lt-ltb _ _ c.if1.true); leaves = refl }
 
 put-around-requires : tie.Need-put-around-requires
@@ -21,7 +21,7 @@ same_length : tie.Need-same-length
 same_length c = c.before.before.put-around.auto.1.1.1.0 ∙ simp length-set
 
 returns-2 : tie.Need-returns-2
-unfolding writeOf
+unfolding write_of
 returns-2 c =
     let s = c.before.before.before.before.before.before.before in
     let room = c.before.before.before.before.before.if1.false in

@@ -6,20 +6,20 @@ use native.Mathlib.Omega.{arith}
 use borrow.Author.Tests.{eq-eqb, lt-ltb, le-ltb}
 use lib.ListN.{length}
 use lib.Seq.{sets}
-use Rattle.mavlink_frame.specs.Writer.{writeOf}
+use Rattle.mavlink_frame.specs.Writer.{write_of}
 use Rattle.mavlink_frame.proofs.writer.Put.{framed}
 use borrow.Author.Rules.{rules}
 use Rattle.mavlink_frame.proofs.writer.write_six.Statement.{statement}
 use Rattle.mavlink_frame.proofs.writer.write_six.Tie as tie
 
 returns : tie.Need-returns
-unfolding writeOf
+unfolding write_of
 returns c =
     let s = c.before.before.before in
     record { answers = rw (s.requires.1, eq-eqb _ _ (sym s.requires.0), lt-ltb _ _ c.if1.true); leaves = refl }
 
 returns-2 : tie.Need-returns-2
-unfolding writeOf
+unfolding write_of
 returns-2 c =
     let s = c.before.before.before.before.before.before.before.before.before.before.before.before.before in
     let k = s.args.kind in

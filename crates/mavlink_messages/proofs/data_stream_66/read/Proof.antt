@@ -1,14 +1,14 @@
 -- `mavlink_messages::data_stream_66::read` meets its contract, field by field. Assumes nothing.
 use mathlib.Core.Path.{◌∙◌}
-use Rattle.field_format.specs.Format.{valueIn}
-use Rattle.field_format.proofs.ByOctets.{by-octets}
-use Rattle.mavlink_messages.specs.DataStream66.{dataStreamFormat}
+use Rattle.field_format.specs.Format.{value_in}
+use Rattle.field_format.proofs.ByOctets.{by_octets}
+use Rattle.mavlink_messages.specs.DataStream66.{data_stream_format}
 use borrow.Author.Rules.{rules}
 use Rattle.mavlink_messages.proofs.data_stream_66.read.Statement.{statement}
 use Rattle.mavlink_messages.proofs.data_stream_66.read.Tie as tie
 
 returns : tie.Need-returns
-unfolding valueIn
+unfolding value_in
 returns c =
     let at-start = c in
     let at-stream = at-start.before in
@@ -23,7 +23,7 @@ returns c =
       req_stream_id = at-stream.octet3.ensures i;
       start_stop = at-start.octet4.ensures i;
     })
-    ∙ by-octets dataStreamFormat 6 s.args.payload.now s.requires
+    ∙ by_octets data_stream_format 6 s.args.payload.now s.requires
 
 pub read_spec : {M : Type 1} → statement M
 read_spec =

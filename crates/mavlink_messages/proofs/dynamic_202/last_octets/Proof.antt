@@ -1,7 +1,7 @@
 -- `mavlink_messages::dynamic_202::last_octets` meets its contract, run by run. Assumes nothing.
 use mathlib.Core.List.{[], ◌∷◌, ◌++◌}
 use Rattle.field_format.specs.Format.{body_of}
-use Rattle.mavlink_messages.proofs.Signed.{put-16}
+use Rattle.mavlink_messages.proofs.Signed.{put_16}
 use borrow.Author.Rules.{rules}
 use Rattle.mavlink_messages.proofs.dynamic_202.last_octets.Statement.{statement}
 use Rattle.mavlink_messages.proofs.dynamic_202.last_octets.Tie as tie
@@ -19,9 +19,9 @@ returns c =
     let v = at-vertical.before.args.dynamic in
     λ i. (at-vertical.little-16.ensures i)
     ++ (at-velocity.little-162.ensures i)
-    ++ (put-16 v.vel_vert at-climb.before.struct_told.given.1.1.1.1.1.1.1.1.0.1 at-climb.signed-16.ensures i)
-    ++ (put-16 v.ns_vog at-north.before.struct-told2.given.1.1.1.1.1.1.1.1.1.0.1 at-north.signed-162.ensures i)
-    ++ (put-16 v.ew_vog at-east.before.struct-told3.given.1.1.1.1.1.1.1.1.1.1.0.1 at-east.signed-163.ensures i)
+    ++ (put_16 v.vel_vert at-climb.before.struct_told.given.1.1.1.1.1.1.1.1.0.1 at-climb.signed_16.ensures i)
+    ++ (put_16 v.ns_vog at-north.before.struct-told2.given.1.1.1.1.1.1.1.1.1.0.1 at-north.signed-162.ensures i)
+    ++ (put_16 v.ew_vog at-east.before.struct-told3.given.1.1.1.1.1.1.1.1.1.1.0.1 at-east.signed-163.ensures i)
     ++ (at-state.little-163.ensures i)
     ++ (at-squawk.little-164.ensures i)
     ++ v.fix_type

@@ -5,13 +5,13 @@ use lib.Bits.{bit_and}
 use lib.Count.{ones}
 use lib.ListN.{length}
 use Rattle.crc_polynomial.proofs.Linear.{everywhere}
-use Rattle.mavlink_messages.specs.FailureBits.{failureBits}
+use Rattle.mavlink_messages.specs.FailureBits.{failure_bits}
 use Rattle.mavlink_messages.proofs.failure_bits.count_failures.Statement.{statement}
 use Rattle.mavlink_messages.proofs.failure_bits.count_failures.Tie as tie
 
-right : (status : ℕ) → status < 256 → ones (bit_and status 0x1E) ≡ length (failureBits status)
-unfolding failureBits ones
-right = everywhere (λ status. ones (bit_and status 0x1E)) (λ status. length (failureBits status)) 256 refl
+right : (status : ℕ) → status < 256 → ones (bit_and status 0x1E) ≡ length (failure_bits status)
+unfolding failure_bits ones
+right = everywhere (λ status. ones (bit_and status 0x1E)) (λ status. length (failure_bits status)) 256 refl
 
 returns : tie.Need-returns
 returns c = right c.args.status c.ranges.status.fits

@@ -8,7 +8,7 @@ use lib.Count.{count_trailing_zeros}
 use lib.Dec.{eqb}
 use lib.ListN.{get_or}
 use Rattle.crc_polynomial.proofs.Linear.{everywhere}
-use Rattle.mavlink_messages.specs.FailureBits.{failureBits}
+use Rattle.mavlink_messages.specs.FailureBits.{failure_bits}
 use Rattle.mavlink_messages.proofs.failure_bits.lowest_failure.Statement.{statement}
 use Rattle.mavlink_messages.proofs.failure_bits.lowest_failure.Tie as tie
 
@@ -16,9 +16,9 @@ use Rattle.mavlink_messages.proofs.failure_bits.lowest_failure.Tie as tie
 abbrev lowest : ℕ → ℕ
 lowest failed = cond (eqb failed 0) 0 (count_trailing_zeros 8 failed)
 
-right : (status : ℕ) → status < 256 → lowest (bit_and status 0x1E) ≡ get_or (failureBits status) 0 0
-unfolding failureBits count_trailing_zeros
-right = everywhere (λ status. lowest (bit_and status 0x1E)) (λ status. get_or (failureBits status) 0 0) 256 refl
+right : (status : ℕ) → status < 256 → lowest (bit_and status 0x1E) ≡ get_or (failure_bits status) 0 0
+unfolding failure_bits count_trailing_zeros
+right = everywhere (λ status. lowest (bit_and status 0x1E)) (λ status. get_or (failure_bits status) 0 0) 256 refl
 
 returns : tie.Need-returns
 returns c = rw (eq-eqb _ _ c.if1.true) at (right c.before.args.status c.before.ranges.status.fits)

@@ -1,7 +1,7 @@
 -- `mavlink_messages::static_201::octets` meets its contract, run by run. Assumes nothing.
 use mathlib.Core.List.{[], ◌∷◌, ◌++◌}
 use Rattle.field_format.specs.Format.{body_of}
-use Rattle.field_layout.specs.Layout.{textOctets}
+use Rattle.field_layout.specs.Layout.{text_octets}
 use borrow.Author.Rules.{rules}
 use Rattle.mavlink_messages.proofs.static_201.octets.Statement.{statement}
 use Rattle.mavlink_messages.proofs.static_201.octets.Tie as tie
@@ -15,7 +15,7 @@ returns c =
     λ i. (at_address.little-24.ensures i)
     ++ v.integrity
     ∷ (at-stall.little-16.ensures i)
-    ++ (textOctets v.callsign)
+    ++ (text_octets v.callsign)
     ++ v.capability
     ∷ v.emitter
     ∷ v.alw_encode

@@ -1,14 +1,14 @@
 -- `mavlink_messages::static_201::read` meets its contract, field by field. Assumes nothing.
 use mathlib.Core.Path.{◌∙◌}
-use Rattle.field_format.specs.Format.{valueIn}
-use Rattle.field_format.proofs.ByOctets.{by-octets}
-use Rattle.mavlink_messages.specs.Static201.{staticFormat}
+use Rattle.field_format.specs.Format.{value_in}
+use Rattle.field_format.proofs.ByOctets.{by_octets}
+use Rattle.mavlink_messages.specs.Static201.{static_format}
 use borrow.Author.Rules.{rules}
 use Rattle.mavlink_messages.proofs.static_201.read.Statement.{statement}
 use Rattle.mavlink_messages.proofs.static_201.read.Tie as tie
 
 returns : tie.Need-returns
-unfolding valueIn
+unfolding value_in
 returns c =
     let at-longitudinal = c in
     let at-lateral = at-longitudinal.before in
@@ -31,7 +31,7 @@ returns c =
       gps_lat_offs = at-lateral.octet5.ensures i;
       gps_lon_offs = at-longitudinal.octet6.ensures i;
     })
-    ∙ by-octets staticFormat 19 s.args.payload.now s.requires
+    ∙ by_octets static_format 19 s.args.payload.now s.requires
 
 pub read_spec : {M : Type 1} → statement M
 read_spec =

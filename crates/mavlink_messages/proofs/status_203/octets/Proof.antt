@@ -1,7 +1,7 @@
 -- `mavlink_messages::status_203::octets` meets its contract. Assumes nothing.
 use mathlib.Core.Path.{refl}
 use Rattle.field_format.specs.Format.{body_of}
-use Rattle.mavlink_messages.specs.Status203.{statusFormat}
+use Rattle.mavlink_messages.specs.Status203.{status_format}
 use Rattle.mavlink_messages.proofs.status_203.octets.Statement.{statement}
 use Rattle.mavlink_messages.proofs.status_203.octets.Tie as tie
 

@@ -7,7 +7,7 @@ use Rattle.text_fields.proofs.readings.short_reading.Statement.{statement}
 use Rattle.text_fields.proofs.readings.short_reading.Tie as tie
 
 returns : tie.Need-returns
-returns c = rw (eq-eqb c.before.before.args.mark 46 c.before.if1.true) (rw (to_z-of_z w16 c.before.before.args.n c.before.before.ranges.n) at c.signed-16.ensures)
+returns c = rw (eq-eqb c.before.before.args.mark 46 c.before.if1.true) (rw (to_z-of_z w16 c.before.before.args.n c.before.before.ranges.n) at c.signed_16.ensures)
 
 returns-2 : tie.Need-returns-2
 returns-2 c = rw (ne_eqb c.before.before.args.mark 46 c.before.if1.false) (rw (to_z-of_z w16 c.before.before.args.n c.before.before.ranges.n) at c.unless-signed-16.ensures)

@@ -5,15 +5,15 @@ use mir.Syntax.{w32}
 use mir.ValLaws.{to_z-of_z}
 use Rattle.field_layout.specs.Layout.{is_set}
 use Rattle.field_signed.specs.Signed.{signed}
-use Rattle.field_format.specs.Format.{valueIn}
-use Rattle.field_format.proofs.ByOctets.{by-octets}
-use Rattle.ucp_messages.specs.Control45.{controlFormat}
+use Rattle.field_format.specs.Format.{value_in}
+use Rattle.field_format.proofs.ByOctets.{by_octets}
+use Rattle.ucp_messages.specs.Control45.{control_format}
 use borrow.Author.Rules.{rules}
 use Rattle.ucp_messages.proofs.control_45.fields.Statement.{statement}
 use Rattle.ucp_messages.proofs.control_45.fields.Tie as tie
 
 returns : tie.Need-returns
-unfolding valueIn
+unfolding value_in
 returns c =
     let s = c.before.before.before.before.before.before.before in
     let state = c.before.before.before.before.before.octet.ensures in
@@ -33,7 +33,7 @@ returns c =
       emergency = c.before.octet2.ensures i;
       identity = c.text_at.ensures i;
     })
-    ∙ by-octets controlFormat 18 s.args.body.now s.requires
+    ∙ by_octets control_format 18 s.args.body.now s.requires
 
 pub fields-spec : {M : Type 1} → statement M
 fields-spec =

@@ -6,7 +6,7 @@ use Rattle.ucp_messages.proofs.control_45.fits.Tie as tie
 
 returns : tie.Need-returns
 unfolding fits
-returns c = rw c.before.in-range.ensures
+returns c = rw c.before.in_range.ensures
 
 pub fits-spec : {M : Type 1} → statement M
 fits-spec = tie.close (tie.spec (λ c κs. search rules) returns)

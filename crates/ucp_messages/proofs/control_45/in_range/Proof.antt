@@ -7,4 +7,4 @@ pub in-range-spec : {M : Type 1} → statement M
 in-range-spec =
     tie.close
     (tie.spec (λ c κs. search rules) (λ c κs. search rules) (λ c. search rules) (λ c κs. search rules)
-    (λ c. rw (c.before.before.is-squawk.ensures, c.is-padded.ensures, c.before.before.before.text-octets.ensures)))
+    (λ c. rw (c.before.before.is_squawk_lem.ensures, c.is-padded.ensures, c.before.before.before.text-octets.ensures)))

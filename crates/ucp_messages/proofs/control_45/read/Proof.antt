@@ -3,29 +3,29 @@ use mathlib.Core.Path.{sym, ◌∙◌}
 use native.Mathlib.Omega.{arith}
 use borrow.Author.Tests.{not-true, not-false}
 use Rattle.ucp_answers.proofs.Answers.{other, same}
-use Rattle.ucp_messages.proofs.Formats.{control-lawful}
-use Rattle.ucp_messages.proofs.BodyKind.{refused-11, refused-12, refused-13, accepted}
+use Rattle.ucp_messages.proofs.Formats.{control_lawful}
+use Rattle.ucp_messages.proofs.BodyKind.{refused_11, refused_12, refused_13, accepted}
 use borrow.Author.Rules.{rules}
 use Rattle.ucp_messages.proofs.control_45.read.Statement.{statement}
 use Rattle.ucp_messages.proofs.control_45.read.Tie as tie
 
 returns : tie.Need-returns
-returns c = refused-11 control-lawful c.before.before.requires c.if1.true
+returns c = refused_11 control_lawful c.before.before.requires c.if1.true
 
 returns-2 : tie.Need-returns-2
-returns-2 c = refused-12 control-lawful c.before.before.before.before.requires (omega arith) (other c.before.octet.ensures c.if2.true)
+returns-2 c = refused_12 control_lawful c.before.before.before.before.requires (omega arith) (other c.before.octet.ensures c.if2.true)
 
 returns-3 : tie.Need-returns-3
 returns-3 c =
-    refused-13 control-lawful c.before.before.before.before.before.before.before.requires (omega arith)
+    refused_13 control_lawful c.before.before.before.before.before.before.before.requires (omega arith)
     (same c.before.before.before.before.octet.ensures c.before.before.before.if2.false)
-    c.before.before.fields.ensures (sym c.before.in-range.ensures ∙ not-true _ c.if3.true)
+    c.before.before.fields.ensures (sym c.before.in_range.ensures ∙ not-true _ c.if3.true)
 
 returns-4 : tie.Need-returns-4
 returns-4 c =
-    accepted control-lawful c.before.before.before.before.before.before.before.requires (omega arith)
+    accepted control_lawful c.before.before.before.before.before.before.before.requires (omega arith)
     (same c.before.before.before.before.octet.ensures c.before.before.before.if2.false)
-    c.before.before.fields.ensures (sym c.before.in-range.ensures ∙ not-false _ c.if3.false)
+    c.before.before.fields.ensures (sym c.before.in_range.ensures ∙ not-false _ c.if3.false)
 
 pub read_spec : {M : Type 1} → statement M
 read_spec =

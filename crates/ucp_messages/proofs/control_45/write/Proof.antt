@@ -1,9 +1,9 @@
 -- `control_45::write` meets its contract, by its two ways. Assumes nothing.
-use Rattle.ucp_answers.proofs.Writers.{fitting, refused-13, body-put}
+use Rattle.ucp_answers.proofs.Writers.{fitting, refused_13, body_put}
 use Rattle.field_format.specs.Format.{body_of}
 use Rattle.field_format.proofs.Formats.{fitting as bounds}
-use Rattle.ucp_messages.specs.Control45.{controlFormat}
-use Rattle.ucp_messages.proofs.Formats.{control-right}
+use Rattle.ucp_messages.specs.Control45.{control_format}
+use Rattle.ucp_messages.proofs.Formats.{control_right}
 use borrow.Author.Rules.{rules}
 use Rattle.ucp_messages.proofs.control_45.write.Statement.{statement}
 use Rattle.ucp_messages.proofs.control_45.write.Tie as tie
@@ -12,9 +12,9 @@ pub write_spec : {M : Type 1} → statement M
 write_spec =
     tie.close
     (tie.spec (λ c κs. search rules)
-    (λ c. refused-13 c.before.fits2.ensures (body_of controlFormat c.before.before.before.args.control) c.before.before.before.args.output.now c.if1.true)
-    (λ c κs. bounds controlFormat control-right c.before.before.before.args.control (fitting c.before.fits2.ensures c.if1.false))
+    (λ c. refused_13 c.before.fits2.ensures (body_of control_format c.before.before.before.args.control) c.before.before.before.args.output.now c.if1.true)
+    (λ c κs. bounds control_format control_right c.before.before.before.args.control (fitting c.before.fits2.ensures c.if1.false))
     (λ c. search rules) (λ c κs. search rules) (λ c. search rules)
-    (λ c. body-put c.before.before.before.before.before.before.before.fits2.ensures
+    (λ c. body_put c.before.before.before.before.before.before.before.fits2.ensures
     c.before.before.before.before.before.before.if1.false c.before.before.before.before.before.octets.ensures
     c.before.before.put.ensures))

@@ -1,14 +1,14 @@
 -- `heartbeat_0::fields` meets its contract, field by field. Assumes nothing.
 use mathlib.Core.Path.{◌∙◌}
-use Rattle.field_format.specs.Format.{valueIn}
-use Rattle.field_format.proofs.ByOctets.{by-octets}
-use Rattle.ucp_messages.specs.Heartbeat0.{heartbeatFormat}
+use Rattle.field_format.specs.Format.{value_in}
+use Rattle.field_format.proofs.ByOctets.{by_octets}
+use Rattle.ucp_messages.specs.Heartbeat0.{heartbeat_format}
 use borrow.Author.Rules.{rules}
 use Rattle.ucp_messages.proofs.heartbeat_0.fields.Statement.{statement}
 use Rattle.ucp_messages.proofs.heartbeat_0.fields.Tie as tie
 
 returns : tie.Need-returns
-unfolding valueIn
+unfolding value_in
 returns c =
     let s = c.before.before.before.before.before in
     (λ i. record {
@@ -17,7 +17,7 @@ returns c =
       time_stamp = c.before.little-16.ensures i;
       counts = c.big-16.ensures i;
     })
-    ∙ by-octets heartbeatFormat 7 s.args.body.now s.requires
+    ∙ by_octets heartbeat_format 7 s.args.body.now s.requires
 
 pub fields-spec : {M : Type 1} → statement M
 fields-spec =

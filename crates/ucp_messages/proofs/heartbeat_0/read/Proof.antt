@@ -1,13 +1,13 @@
 -- `heartbeat_0::read` meets its contract, test by test. Assumes nothing.
 use mathlib.Core.Path.{refl}
 use native.Mathlib.Omega.{arith}
-use Rattle.ucp_messages.proofs.Formats.{heartbeat-lawful}
-use Rattle.ucp_messages.proofs.BodyKind.{refused-11, accepted}
+use Rattle.ucp_messages.proofs.Formats.{heartbeat_lawful}
+use Rattle.ucp_messages.proofs.BodyKind.{refused_11, accepted}
 use Rattle.ucp_messages.proofs.heartbeat_0.read.Statement.{statement}
 use Rattle.ucp_messages.proofs.heartbeat_0.read.Tie as tie
 
 pub read_spec : {M : Type 1} → statement M
 read_spec =
     tie.close
-    (tie.spec (λ c. refused-11 heartbeat-lawful c.before.before.requires c.if1.true) (λ c κs. omega arith)
-    (λ c. accepted heartbeat-lawful c.before.before.before.requires (omega arith) refl c.fields.ensures refl))
+    (tie.spec (λ c. refused_11 heartbeat_lawful c.before.before.requires c.if1.true) (λ c κs. omega arith)
+    (λ c. accepted heartbeat_lawful c.before.before.before.requires (omega arith) refl c.fields.ensures refl))

@@ -1,15 +1,15 @@
 -- `initialization_117::fields` meets its contract, field by field. Assumes nothing.
 use mathlib.Core.Path.{◌∙◌, ap}
 use Prim.Native.Nat.{ℕ, ◌/◌, ◌%◌}
-use Rattle.field_format.specs.Format.{valueIn}
-use Rattle.field_format.proofs.ByOctets.{by-octets}
-use Rattle.ucp_messages.specs.Initialization117.{initializationFormat}
+use Rattle.field_format.specs.Format.{value_in}
+use Rattle.field_format.proofs.ByOctets.{by_octets}
+use Rattle.ucp_messages.specs.Initialization117.{initialization_format}
 use borrow.Author.Rules.{rules}
 use Rattle.ucp_messages.proofs.initialization_117.fields.Statement.{statement}
 use Rattle.ucp_messages.proofs.initialization_117.fields.Tie as tie
 
 returns : tie.Need-returns
-unfolding valueIn
+unfolding value_in
 returns c =
     let s = c.before.before.before.before.before.before.before.before in
     let offsets = c.before.before.before.before.before.before.octet.ensures in
@@ -23,7 +23,7 @@ returns c =
       lateral = ap (λ (n : ℕ). n / 32) offsets i;
       longitudinal = ap (λ (n : ℕ). n % 32) offsets i;
     })
-    ∙ by-octets initializationFormat 19 s.args.body.now s.requires
+    ∙ by_octets initialization_format 19 s.args.body.now s.requires
 
 pub fields-spec : {M : Type 1} → statement M
 fields-spec =

@@ -4,15 +4,15 @@ use Prim.Native.Nat.{ℕ, ◌/◌, ◌%◌}
 use mir.Syntax.{w16, w32}
 use mir.ValLaws.{to_z-of_z}
 use Rattle.field_signed.specs.Signed.{signed}
-use Rattle.field_format.specs.Format.{valueIn}
-use Rattle.field_format.proofs.ByOctets.{by-octets}
-use Rattle.ucp_messages.specs.Report10.{reportFormat}
+use Rattle.field_format.specs.Format.{value_in}
+use Rattle.field_format.proofs.ByOctets.{by_octets}
+use Rattle.ucp_messages.specs.Report10.{report_format}
 use borrow.Author.Rules.{rules}
 use Rattle.ucp_messages.proofs.report_10.fields.Statement.{statement}
 use Rattle.ucp_messages.proofs.report_10.fields.Tie as tie
 
 returns : tie.Need-returns
-unfolding valueIn
+unfolding value_in
 returns c =
     let s = c.before.before.before.before.before.before.before.before.before.before.before.before.before.before in
     let first = c.before.before.before.before.before.before.before.before.before.before.before.before.octet.ensures in
@@ -50,7 +50,7 @@ returns c =
       emergency = (ap (λ (n : ℕ). n / 16) last) i;
       spare = (ap (λ (n : ℕ). n % 16) last) i;
     })
-    ∙ by-octets (reportFormat 10) 28 s.args.body.now s.requires
+    ∙ by_octets (report_format 10) 28 s.args.body.now s.requires
 
 pub fields-spec : {M : Type 1} → statement M
 fields-spec =

@@ -4,7 +4,7 @@ use native.Mathlib.Omega.{arith}
 use mir.Syntax.{w32}
 use mir.ValLaws.{to_z-of_z}
 use Rattle.field_signed.specs.Signed.{complement}
-use Rattle.ucp_messages.specs.Steps.{threeOf}
+use Rattle.ucp_messages.specs.Steps.{three_of}
 use borrow.Author.Rules.{rules}
 use Rattle.ucp_messages.proofs.report_10.position_of.Statement.{statement}
 use Rattle.ucp_messages.proofs.report_10.position_of.Tie as tie
@@ -24,8 +24,8 @@ three-of-requires-2 c κs = omega (arith, longitude-bits c)
 
 returns : tie.Need-returns
 returns c = λ i. record {
-  latitude = (c.before.before.three-of.ensures ∙ ap threeOf (latitude-bits c.before.before.before)) i;
-  longitude = (c.three-of2.ensures ∙ ap threeOf (longitude-bits c.before)) i;
+  latitude = (c.before.before.three-of.ensures ∙ ap three_of (latitude-bits c.before.before.before)) i;
+  longitude = (c.three-of2.ensures ∙ ap three_of (longitude-bits c.before)) i;
 }
 
 pub position-of-spec : {M : Type 1} → statement M

@@ -1,9 +1,9 @@
 -- `report_10::write` meets its contract, by its two ways. Assumes nothing.
-use Rattle.ucp_answers.proofs.Writers.{fitting, refused-13, body-put}
+use Rattle.ucp_answers.proofs.Writers.{fitting, refused_13, body_put}
 use Rattle.field_format.specs.Format.{body_of, fits}
 use Rattle.field_format.proofs.Formats.{fitting as bounds}
-use Rattle.ucp_messages.specs.Report10.{reportFormat}
-use Rattle.ucp_messages.proofs.Formats.{report-right}
+use Rattle.ucp_messages.specs.Report10.{report_format}
+use Rattle.ucp_messages.proofs.Formats.{report_right}
 use borrow.Author.Rules.{rules}
 use Rattle.ucp_messages.proofs.report_10.write.Statement.{statement}
 use Rattle.ucp_messages.proofs.report_10.write.Tie as tie
@@ -13,9 +13,9 @@ unfolding fits
 write_spec =
     tie.close
     (tie.spec (λ c κs. search rules)
-    (λ c. refused-13 c.before.fits2.ensures (body_of (reportFormat c.before.before.before.args.id) c.before.before.before.args.report) c.before.before.before.args.output.now c.if1.true)
-    (λ c κs. bounds (reportFormat c.before.before.before.args.id) (report-right c.before.before.before.args.id) c.before.before.before.args.report (fitting c.before.fits2.ensures c.if1.false))
+    (λ c. refused_13 c.before.fits2.ensures (body_of (report_format c.before.before.before.args.id) c.before.before.before.args.report) c.before.before.before.args.output.now c.if1.true)
+    (λ c κs. bounds (report_format c.before.before.before.args.id) (report_right c.before.before.before.args.id) c.before.before.before.args.report (fitting c.before.fits2.ensures c.if1.false))
     (λ c. search rules) (λ c κs. search rules) (λ c. search rules)
-    (λ c. body-put c.before.before.before.before.before.before.before.fits2.ensures
+    (λ c. body_put c.before.before.before.before.before.before.before.fits2.ensures
     c.before.before.before.before.before.before.if1.false c.before.before.before.before.before.octets.ensures
     c.before.before.put.ensures))

@@ -6,19 +6,19 @@ use native.Mathlib.Omega.{arith}
 use borrow.Author.Tests.{eq-eqb, ne_eqb, lt-ltb, le-ltb, le-leb}
 use borrow.Rule.Slice.PartMut.{mid_of, same_len_mid}
 use lib.ListN.{length, drop, set, length-set}
-use Rattle.ucp_messages.specs.Uplink7.{uplinkFits}
-use Rattle.ucp_answers.specs.Writes.{bodyDue}
-use Rattle.ucp_messages.proofs.Uplink.{left, behind-length, put-behind}
+use Rattle.ucp_messages.specs.Uplink7.{uplink_fits}
+use Rattle.ucp_answers.specs.Writes.{body_due}
+use Rattle.ucp_messages.proofs.Uplink.{left, behind_length, put_behind}
 use borrow.Author.Rules.{rules}
 use Rattle.ucp_messages.proofs.uplink_7.write.Statement.{statement}
 use Rattle.ucp_messages.proofs.uplink_7.write.Tie as tie
 
 returns : tie.Need-returns
-unfolding bodyDue uplinkFits
+unfolding body_due uplink_fits
 returns c = record { answers = rw (ne_eqb _ _ c.if1.true); leaves = refl }
 
 returns-2 : tie.Need-returns-2
-unfolding bodyDue uplinkFits
+unfolding body_due uplink_fits
 returns-2 c =
     let a = c.before.before.before.before.args in
     let exact : length a.payload.now ≡ 435 = omega arith in
@@ -40,7 +40,7 @@ same_length c =
     ∙ length-set out 0 7
 
 returns-3 : tie.Need-returns-3
-unfolding bodyDue uplinkFits
+unfolding body_due uplink_fits
 returns-3 c =
     let s = c.before.before.before.before in
     let a = s.before.before.before.before.args in
@@ -48,13 +48,13 @@ returns-3 c =
     let exact : length a.payload.now ≡ 435 = omega arith in
     let room : 436 ≤ length a.output.now = omega arith in
     let fits : length a.payload.now ≤ length (mid_of 1 (left a.output.now) (set a.output.now 0 7)) =
-    omega (arith, behind-length a.output.now room) in
+    omega (arith, behind_length a.output.now room) in
     let part = mid_of 1 (left a.output.now) (set a.output.now 0 7) in
     let stored : c.before.before.store.new.1.0 ≡ a.payload.now ++ drop (length a.payload.now) part =
     e.1 ∙ rw (e.0 ∙ le-leb _ _ fits) in
     record {
       answers = rw (eq-eqb (length a.payload.now) 435 exact, exact, le-ltb (length a.output.now) 436 room);
-      leaves = put-behind a.output.now a.payload.now room exact stored;
+      leaves = put_behind a.output.now a.payload.now room exact stored;
     }
 
 pub write_spec : {M : Type 1} → statement M

@@ -1,8 +1,8 @@
 -- `ucp_receiver::account::count_skipped` meets its contract. Assumes nothing.
 use Rattle.std.proofs.Common.{ℕ, refl, rules}
 use Rattle.ucp_receiver.specs.declared.Counts.{Counts}
-use Rattle.ucp_receiver.specs.Account.{countedSkipped}
-use Rattle.ucp_receiver.proofs.account.Counting.{many-rounded}
+use Rattle.ucp_receiver.specs.Account.{counted_skipped}
+use Rattle.ucp_receiver.proofs.account.Counting.{many_rounded}
 use Rattle.ucp_receiver.proofs.account.count_skipped.Statement.{statement}
 use Rattle.ucp_receiver.proofs.account.count_skipped.Tie as tie
 
@@ -10,7 +10,7 @@ returns : tie.Need-returns
 returns c =
     let a = c.before.before.args in
     let put : ℕ → Counts = λ k. record { flags = a.counts.flags; delivered = a.counts.delivered; refused = a.counts.refused; skipped = k; unclosed = a.counts.unclosed } in
-    many-rounded put countedSkipped (λ k. refl) a.counts.skipped a.n c.before.rounded.result _ (search rules) c.before.rounded.ensures c.wrapping-add-u32.ensures
+    many_rounded put counted_skipped (λ k. refl) a.counts.skipped a.n c.before.rounded.result _ (search rules) c.before.rounded.ensures c.wrapping-add-u32.ensures
 
 pub count-skipped-spec : {M : Type 1} → statement M
 count-skipped-spec = tie.close (tie.spec (λ c κs. search rules) (λ c κs. search rules) returns)

@@ -1,6 +1,6 @@
 -- `ucp_receiver::slice::pass` meets its contract, phase by phase. Assumes nothing.
 use Rattle.std.proofs.Common.{refl, rules}
-use Rattle.ucp_receiver.proofs.slice.Laws.{none-taken}
+use Rattle.ucp_receiver.proofs.slice.Laws.{none_taken}
 use Rattle.ucp_receiver.proofs.slice.pass.Statement.{statement}
 use Rattle.ucp_receiver.proofs.slice.pass.Tie as tie
 
@@ -17,7 +17,7 @@ returns : tie.Need-returns
 returns c = c.pass-ignored.ensures c.before.before.before.before.before.args.store.now
 
 returns-3 : tie.Need-returns-3
-returns-3 c = record { within = search rules; runs = none-taken _ c.before.before.before.before.args.line.now c.before.before.before.before.args.from _ }
+returns-3 c = record { within = search rules; runs = none_taken _ c.before.before.before.before.args.line.now c.before.before.before.before.args.from _ }
 
 returns-4 : tie.Need-returns-4
 returns-4 c = c.pass-ignored2.ensures c.before.before.before.before.before.args.store.now

@@ -2,8 +2,8 @@
 use Rattle.std.proofs.Common.{◌+◌, drop, sym, ap, ◌∙◌, rules}
 use Rattle.ucp_receiver.specs.declared.Counts.{Counts}
 use Rattle.ucp_receiver.specs.Octet.{state_of}
-use Rattle.ucp_receiver.specs.Slice.{sliceRun}
-use Rattle.ucp_receiver.specs.Steps.{laterBy}
+use Rattle.ucp_receiver.specs.Slice.{slice_run}
+use Rattle.ucp_receiver.specs.Steps.{later_by}
 use Rattle.ucp_receiver.proofs.slice.Laws.{ignored}
 use Rattle.ucp_receiver.proofs.slice.pass_ignored.Statement.{statement}
 use Rattle.ucp_receiver.proofs.slice.pass_ignored.Tie as tie
@@ -17,7 +17,7 @@ returns c =
     λ store. record {
       within = e.within;
       runs = λ room. ignored (state_of a.receiver.rest store) c.before.before.before.before.before.requires.1 line a.from n a.receiver.counts room e.within e.other
-          ∙ ap (λ (cs : Counts). laterBy n (sliceRun (state_of a.receiver.rest store) cs (drop (a.from + n) line) room)) (sym c.count-octets.ensures);
+          ∙ ap (λ (cs : Counts). later_by n (slice_run (state_of a.receiver.rest store) cs (drop (a.from + n) line) room)) (sym c.count-octets.ensures);
     }
 
 pub pass-ignored-spec : {M : Type 1} → statement M

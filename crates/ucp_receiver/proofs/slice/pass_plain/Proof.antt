@@ -3,9 +3,9 @@ use Rattle.std.proofs.Common.{ℕ, ◌+◌, drop, sym, ap, ◌∙◌, rules}
 use Rattle.ucp_receiver.specs.declared.Phase.{Phase}
 use Rattle.ucp_receiver.specs.declared.Counts.{Counts}
 use Rattle.ucp_receiver.specs.Octet.{state_of}
-use Rattle.ucp_receiver.specs.Slice.{SliceRun, sliceRun}
-use Rattle.ucp_receiver.specs.Steps.{reading, laterBy}
-use Rattle.ucp_receiver.proofs.slice.Laws.{none-taken}
+use Rattle.ucp_receiver.specs.Slice.{SliceRun, slice_run}
+use Rattle.ucp_receiver.specs.Steps.{reading, later_by}
+use Rattle.ucp_receiver.proofs.slice.Laws.{none_taken}
 use Rattle.ucp_receiver.proofs.slice.pass_plain.Statement.{statement}
 use Rattle.ucp_receiver.proofs.slice.pass_plain.Tie as tie
 
@@ -17,9 +17,9 @@ returns c =
     let put = c.before.put-plain in
     let n = put.result in
     let first : Phase → ℕ → SliceRun =
-    λ p room. sliceRun (state_of (record { phase = p; stored = a.receiver.rest.stored }) a.store.now) a.receiver.counts (drop a.from line) room in
+    λ p room. slice_run (state_of (record { phase = p; stored = a.receiver.rest.stored }) a.store.now) a.receiver.counts (drop a.from line) room in
     let next : Counts → ℕ → SliceRun =
-    λ cs room. laterBy n (sliceRun (state_of (reading (a.receiver.rest.stored + n)) put.new.0) cs (drop (a.from + n) line) room) in
+    λ cs room. later_by n (slice_run (state_of (reading (a.receiver.rest.stored + n)) put.new.0) cs (drop (a.from + n) line) room) in
     record {
       within = put.ensures.within;
       runs = λ room. ap (λ (p : Phase). first p room) start.requires.1
@@ -28,7 +28,7 @@ returns c =
     }
 
 returns-2 : tie.Need-returns-2
-returns-2 c = record { within = search rules; runs = none-taken _ c.before.before.before.before.args.line.now c.before.before.before.before.args.from _ }
+returns-2 c = record { within = search rules; runs = none_taken _ c.before.before.before.before.args.line.now c.before.before.before.before.args.from _ }
 
 pub pass-plain-spec : {M : Type 1} → statement M
 pass-plain-spec =

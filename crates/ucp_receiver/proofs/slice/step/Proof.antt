@@ -1,5 +1,5 @@
 -- `ucp_receiver::slice::step` meets its contract: the flag by `receive_flag`, any other octet by `receive_other`. Assumes nothing.
-use Rattle.ucp_receiver.proofs.octet.Laws.{other-received}
+use Rattle.ucp_receiver.proofs.octet.Laws.{other_received}
 use Rattle.std.proofs.Common.{rules}
 use Rattle.ucp_receiver.proofs.slice.step.Statement.{statement}
 use Rattle.ucp_receiver.proofs.slice.step.Tie as tie
@@ -8,7 +8,7 @@ returns : tie.Need-returns
 returns c = rw c.before.before.before.before.before.if1.true c.before.before.receive-flag.ensures
 
 returns-2 : tie.Need-returns-2
-returns-2 c = other-received c.before.before.if1.false c.receive_other.ensures c.before.before.before.before.args.output.now
+returns-2 c = other_received c.before.before.if1.false c.receive_other.ensures c.before.before.before.before.args.output.now
 
 pub step_spec : {M : Type 1} → statement M
 step_spec = tie.close (tie.spec (λ c κs. search rules) (λ c κs. search rules) (λ c. search rules) returns returns-2)

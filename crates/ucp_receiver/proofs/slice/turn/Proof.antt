@@ -1,8 +1,8 @@
 -- `ucp_receiver::slice::turn` meets its contract: what is passed, and then an octet. Assumes nothing.
 use Rattle.std.proofs.Common.{◌+◌, length, get_or, refl, ◌∙◌, arith, rules}
-use Rattle.ucp_receiver.specs.Octet.{verdictDue, state_of}
+use Rattle.ucp_receiver.specs.Octet.{verdict_due, state_of}
 use Rattle.ucp_frame.specs.Stretch.{silent}
-use Rattle.ucp_receiver.proofs.slice.Laws.{stepped, one-moved, one-within}
+use Rattle.ucp_receiver.proofs.slice.Laws.{stepped, one_moved, one_within}
 use Rattle.ucp_receiver.proofs.slice.turn.Statement.{statement}
 use Rattle.ucp_receiver.proofs.slice.turn.Tie as tie
 
@@ -21,9 +21,9 @@ returns c =
     let p = passed.pass in
     let r = c.before.before.before.before.step.ensures in
     record {
-      due = verdictDue (state_of p.result.receiver.rest p.new.1.0) (get_or line (a.from + p.result.taken) 0) room;
-      moved = one-moved p.result.taken;
-      within = one-within a.from p.result.taken tested.if1.true;
+      due = verdict_due (state_of p.result.receiver.rest p.new.1.0) (get_or line (a.from + p.result.taken) 0) room;
+      moved = one_moved p.result.taken;
+      within = one_within a.from p.result.taken tested.if1.true;
       answers = r.answers;
       puts = r.puts;
       runs = p.ensures.runs room

@@ -8,22 +8,22 @@ use native.Mathlib.Omega.{arith}
 use borrow.Author.Rules.{rules}
 use lib.ListN.{length, take, length-set}
 use lib.Seq.{length-take-le, length-sets}
-use Rattle.ucp_frame.specs.Frame.{frame, longestBody, longestFrame}
-use Rattle.ucp_frame.proofs.Stuffing.{stuffed-length-most}
-use Rattle.ucp_frame.proofs.Frame.{frame-length-longest}
-use Rattle.ucp_writer.proofs.in_place.Moves.{end-room, framed}
+use Rattle.ucp_frame.specs.Frame.{frame, longest_body, longest_frame}
+use Rattle.ucp_frame.proofs.Stuffing.{stuffed_length_most}
+use Rattle.ucp_frame.proofs.Frame.{frame_length_longest}
+use Rattle.ucp_writer.proofs.in_place.Moves.{end_room, framed}
 use Rattle.ucp_writer.proofs.in_place.frame_front.Statement.{statement}
 use Rattle.ucp_writer.proofs.in_place.frame_front.Tie as tie
 
 -- the body, where the call goes on
-abbrev body-of : tie.Else2 → List ℕ
-body-of c = take c.before.before.before.args.octets c.before.before.before.args.buffer.now
+abbrev body_of : tie.Else2 → List ℕ
+body_of c = take c.before.before.before.args.octets c.before.before.before.args.buffer.now
 
-size : (c : tie.Else2) → length (body-of c) ≡ c.before.before.before.args.octets
+size : (c : tie.Else2) → length (body_of c) ≡ c.before.before.before.args.octets
 size c = length-take-le _ _ (omega (arith, c.before.before.before.requires))
 
 -- no octet or too many
-neither : (n : ℕ) → (n ≡ 0 → ⊥) → n ≤ longestBody → (n ≡ 0) ⊎ (longestBody < n) → ⊥
+neither : (n : ℕ) → (n ≡ 0 → ⊥) → n ≤ longest_body → (n ≡ 0) ⊎ (longest_body < n) → ⊥
 neither n some few (inl e) = some e
 neither n some few (inr h) = omega arith
 
@@ -33,8 +33,8 @@ returns c = record { frames = λ some few. absurd (omega arith); leaves = λ non
 returns-2 : tie.Need-returns-2
 returns-2 c = record { frames = λ some few. absurd (omega arith); leaves = λ none. (refl, refl); size = c.before.before.before.requires }
 
-room : (c : tie.Else2) → length (frame (body-of c)) ≤ length c.before.before.before.args.buffer.now
-room c = omega (arith, c.before.before.before.requires, size c, frame-length-longest (body-of c) (omega (arith, size c)))
+room : (c : tie.Else2) → length (frame (body_of c)) ≤ length c.before.before.before.args.buffer.now
+room c = omega (arith, c.before.before.before.requires, size c, frame_length_longest (body_of c) (omega (arith, size c)))
 
 slice-aggregate-stuffed-length : tie.Need-slice-aggregate-stuffed-length
 slice-aggregate-stuffed-length c = sym (size c.before)
@@ -43,7 +43,7 @@ stuffed-length-requires : tie.Need-stuffed-length-requires
 stuffed-length-requires c κs = omega (arith, size c.before)
 
 add-end : tie.Need-overflow-add-end
-add-end c = omega (arith, size c.before.before, stuffed-length-most (body-of c.before.before))
+add-end c = omega (arith, size c.before.before, stuffed_length_most (body_of c.before.before))
 
 slice-aggregate-frame-check-by-shifts : tie.Need-slice-aggregate-frame-check-by-shifts
 slice-aggregate-frame-check-by-shifts c = sym (size c.before.before.before)
@@ -53,15 +53,15 @@ move-words-requires c κs =
     let e = c.before.before.before.before.before in
     record {
       within = omega (arith, e.before.before.before.requires);
-      room = omega (arith, e.before.before.before.requires, size e, stuffed-length-most (body-of e), c.before.before.before.stuffed-length.ensures);
-      ends = omega (arith, c.before.before.before.stuffed-length.ensures);
+      room = omega (arith, e.before.before.before.requires, size e, stuffed_length_most (body_of e), c.before.before.before.stuffed_length.ensures);
+      ends = omega (arith, c.before.before.before.stuffed_length.ensures);
     }
 
 close-requires : tie.Need-close-requires
 close-requires c κs =
     let e = c.before.before.before.before.before.before.before.before.before in
-    end-room (body-of e) e.before.before.before.args.buffer.now (room e) c.before.before.before.before.before.frame-check-by-shifts.ensures
-    (omega (arith, c.before.before.before.before.before.before.before.stuffed-length.ensures)) c.before.before.before.move-words.ensures
+    end_room (body_of e) e.before.before.before.args.buffer.now (room e) c.before.before.before.before.before.frame-check-by-shifts.ensures
+    (omega (arith, c.before.before.before.before.before.before.before.stuffed_length.ensures)) c.before.before.before.move-words.ensures
 
 slice-write-buffer : tie.Need-slice-write-buffer
 slice-write-buffer c =
@@ -76,9 +76,9 @@ returns-3 c =
     let k = c.before.before.before in
     let e = k.before.before.before.before.before.before.before.before.before in
     record {
-      frames = λ some few. framed (body-of e) e.before.before.before.args.buffer.now (room e)
+      frames = λ some few. framed (body_of e) e.before.before.before.args.buffer.now (room e)
           k.before.before.before.before.before.frame-check-by-shifts.ensures
-          (omega (arith, k.before.before.before.before.before.before.before.stuffed-length.ensures)) k.before.before.before.move-words.ensures
+          (omega (arith, k.before.before.before.before.before.before.before.stuffed_length.ensures)) k.before.before.before.move-words.ensures
           c.before.before.close.ensures;
       leaves = λ none. absurd (neither e.before.before.before.args.octets e.before.if1.false e.if2.false none);
       size = e.before.before.before.requires;

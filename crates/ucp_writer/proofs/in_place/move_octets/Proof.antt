@@ -8,7 +8,7 @@ use lib.ListN.{length, get_or, take, drop}
 use lib.Seq.{sets}
 use Rattle.ucp_frame.specs.Frame.{escaped, stuffed}
 use Rattle.ucp_writer.specs.Steps.{ToMove}
-use Rattle.ucp_writer.proofs.in_place.Moves.{to-move, as_long, octet-part, part_room, part_moved}
+use Rattle.ucp_writer.proofs.in_place.Moves.{to_move, as_long, octet_part, part_room, part_moved}
 use Rattle.ucp_writer.proofs.in_place.move_octets.Statement.{statement}
 use Rattle.ucp_writer.proofs.in_place.move_octets.Tie as tie
 
@@ -20,7 +20,7 @@ abbrev decreases-loop : tie.decreases-loop
 decreases-loop buffer₀ from octets end left₀ end₀ buffer left end' = left
 
 loop-holds : tie.Need-loop-init invariant-loop decreases-loop
-loop-holds c = (c.before.requires.0, to-move c.before.requires.1)
+loop-holds c = (c.before.requires.0, to_move c.before.requires.1)
 
 slice-read-octet : tie.Need-slice-read-octet invariant-loop decreases-loop
 slice-read-octet c = omega (arith, c.before.before.loop.invariant.1.moves.within)
@@ -31,7 +31,7 @@ module _ (c : tie.In-loop invariant-loop decreases-loop) where
   cut = omega arith
 
   octet : stuffed (take 1 (drop (c.before.loop.left - 1) c.before.loop.buffer)) ≡ escaped (get_or c.before.loop.buffer (c.before.loop.left - 1) 0)
-  octet = octet-part c.before.loop.buffer (c.before.loop.left - 1) (omega (arith, c.before.loop.invariant.1.moves.within))
+  octet = octet_part c.before.loop.buffer (c.before.loop.left - 1) (omega (arith, c.before.loop.invariant.1.moves.within))
 
   octet-room : length (escaped (get_or c.before.loop.buffer (c.before.loop.left - 1) 0)) ≤ c.before.loop.end
   octet-room = omega (arith, ap length octet, part_room c.before.loop.invariant.1 1 (c.before.loop.left - 1) cut)

@@ -6,8 +6,8 @@ use borrow.Author.Rules.{rules}
 use lib.ListN.{length, take, drop}
 use lib.Seq.{sets}
 use Rattle.ucp_frame.specs.Frame.{stuffed}
-use Rattle.field_words.proofs.Digits.{eight-from}
-use Rattle.ucp_writer.proofs.in_place.Moves.{to-move, as_long, part_room, part_moved}
+use Rattle.field_words.proofs.Digits.{eight_from}
+use Rattle.ucp_writer.proofs.in_place.Moves.{to_move, as_long, part_room, part_moved}
 use Rattle.ucp_writer.proofs.in_place.move_word.Statement.{statement}
 use Rattle.ucp_writer.proofs.in_place.move_word.Tie as tie
 
@@ -24,12 +24,12 @@ size : (c : tie.Then1)
     → length (stuffed (take 8 (drop c.before.before.before.before.before.args.from c.before.before.before.before.before.args.buffer.now))) ≡ 8
 size c =
     let s = c.before.before.before.before.before in
-    ap length (plain c ∙ eight-from s.args.buffer.now s.args.from s.requires.within)
+    ap length (plain c ∙ eight_from s.args.buffer.now s.args.from s.requires.within)
 
 room : (c : tie.Then1) → 8 ≤ c.before.before.before.before.before.args.end
 room c =
     let s = c.before.before.before.before.before in
-    omega (arith, size c, part_room (to-move s.requires) 8 s.args.from refl)
+    omega (arith, size c, part_room (to_move s.requires) 8 s.args.from refl)
 
 put-64-requires : tie.Need-put-64-requires
 put-64-requires c κs = omega (arith, room c.before, c.before.before.before.before.before.before.requires.room)
@@ -38,7 +38,7 @@ returns : tie.Need-returns
 returns c =
     let t = c.before.before.before.before in
     let s = t.before.before.before.before.before in
-    part_moved (to-move s.requires) 8 s.args.from refl (omega (arith, size t, room t))
+    part_moved (to_move s.requires) 8 s.args.from refl (omega (arith, size t, room t))
     (c.before.before.put-64.ensures ∙ ap (sets s.args.buffer.now (s.args.end - 8)) (t.before.before.little-64.ensures ∙ sym (plain t)))
 
 same-length-2 : tie.Need-same-length-2

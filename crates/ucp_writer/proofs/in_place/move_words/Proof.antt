@@ -8,7 +8,7 @@ use lib.ListN.{length, take}
 use lib.Seq.{sets, length-sets}
 use Rattle.ucp_frame.specs.Frame.{stuffed}
 use Rattle.ucp_writer.specs.Steps.{ToMove}
-use Rattle.ucp_writer.proofs.in_place.Moves.{to-move, none_left, then-moved}
+use Rattle.ucp_writer.proofs.in_place.Moves.{to_move, none_left, then_moved}
 use Rattle.ucp_writer.proofs.in_place.move_words.Statement.{statement}
 use Rattle.ucp_writer.proofs.in_place.move_words.Tie as tie
 
@@ -19,7 +19,7 @@ abbrev decreases-loop : tie.decreases-loop
 decreases-loop buffer₀ octets end left₀ end₀ buffer left end' = left
 
 loop-holds : tie.Need-loop-init invariant-loop decreases-loop
-loop-holds c = to-move c.before.requires
+loop-holds c = to_move c.before.requires
 
 -- what is left, by the eight that are next
 next : (c : tie.In-loop invariant-loop decreases-loop)
@@ -30,12 +30,12 @@ next c =
     rw e c.before.loop.invariant
 
 loop-again : tie.Need-loop-preserved invariant-loop decreases-loop
-loop-again c = then-moved (next c.before.before.before.before) c.before.before.move-word.ensures
+loop-again c = then_moved (next c.before.before.before.before) c.before.before.move-word.ensures
 
 all_moved : tie.Need-returns invariant-loop decreases-loop
 all_moved c =
     let l = c.before.before.before.before.before.loop in
-    none_left (then-moved l.invariant c.before.before.move-octets.ensures)
+    none_left (then_moved l.invariant c.before.before.move-octets.ensures)
 
 pub move-words-spec : {M : Type 1} → statement M
 move-words-spec =

@@ -2,30 +2,30 @@
 use native.Mathlib.Omega.{arith}
 use Prim.Native.Nat.{◌/◌, ◌%◌}
 use borrow.Author.Rules.{rules}
-use Rattle.ucp_frame.proofs.Stuffing.{escaped-length}
-use Rattle.ucp_frame.proofs.Frame.{frame-length-longest}
-use Rattle.ucp_writer.proofs.room.Length.{frame-length}
+use Rattle.ucp_frame.proofs.Stuffing.{escaped_length}
+use Rattle.ucp_frame.proofs.Frame.{frame_length_longest}
+use Rattle.ucp_writer.proofs.room.Length.{frame_length}
 use Rattle.ucp_writer.proofs.room.frame_length.Statement.{statement}
 use Rattle.ucp_writer.proofs.room.frame_length.Tie as tie
 
 add-around : tie.Need-overflow-add-around
-add-around c = omega (arith, escaped-length (c.before.frame-check.result % 256))
+add-around c = omega (arith, escaped_length (c.before.frame-check.result % 256))
 
 add-around-2 : tie.Need-overflow-add-around-2
 add-around-2 c =
     let check = c.before.before.frame-check.result in
-    omega (arith, escaped-length (check % 256), escaped-length (check / 256))
+    omega (arith, escaped_length (check % 256), escaped_length (check / 256))
 
 -- the two parts make up the frame
 returns : tie.Need-returns
 returns c =
     let k = c.before.before.before.frame-check in
-    omega (arith, frame-length c.before.before.before.before.before.args.body.now k.result k.ensures)
+    omega (arith, frame_length c.before.before.before.before.before.args.body.now k.result k.ensures)
 
 add-result : tie.Need-overflow-add-result
 add-result c =
     let s = c.before.before.before.before.before in
-    omega (arith, returns c, frame-length-longest s.args.body.now s.requires)
+    omega (arith, returns c, frame_length_longest s.args.body.now s.requires)
 
 pub frame-length-spec : {M : Type 1} → statement M
 frame-length-spec =
