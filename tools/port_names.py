@@ -20,6 +20,7 @@ INNER = re.compile(r"^\s+(" + ID + r") : ")
 
 # Lemmas whose new name would be that of the definition that they speak of, by crate; of no crate, wherever they stand.
 OTHERWISE = {
+    "body-of": "body_of_lem",
     "body-size": "body_size_lem",
     "by-ending": "by_ending_lem",
     "frame-rest": "frame_rest_lem",
@@ -37,7 +38,36 @@ INDENTED = """
     rightLength structColumns structOctet structOffsets structOffsetsFrom structRowFrom structRowOf structRowTo structRuns
     structSize textItem valueIn verdictOf withLine
 """.split()
+# Names that port.py turned by itself, since a library had them so: in definitions, and not in must-fail edits.
+TURNED = """
+    answerIn bitOf bitsOf bodyOf callOf closedIn endAt endOf frameOf headerAt idOf idsOf inputOf isLine isPlain isRefused
+    isSet isSome isYes kindOf lastOf leftOf lowFirst markOf membersOf noRow noWord numberOf positionOf readBy readingOf
+    roomFor roomsOf rowOf scaleOf stateOf unitOf upFrom upTo wordsIn a-lt add-done after-call after-open all-blocks all-left
+    all-lines all-moved among-none answer-back as-long as-written at-flag at-least at-most at-sum at-zero bad-more below-two
+    bits-at bits-back body-at bounded-at by-answer by-blocks by-cases by-code by-digits by-end by-field by-flag by-kind
+    by-last by-length by-tests by-word call-same close-spec closed-same copied-more copy-spec count-none count-same
+    decimal-digit digit-room digits-of down-lt dynamic-back eight-is either-end f-lt field-at fields-within fill-spec
+    filled-none first-frame flag-small frame-back frame-closed frame-found frame-is frame-refused from-first from-start
+    from-zero goes-on going-on halves-lt has-room head-first header-is header-read held-back held-carried held-small high-is
+    i-lt in-all in-four in-place in-table in-three is-carried is-found is-lawful is-whole its-own known-in last-bit
+    left-alone left-at line-taken low-of made-of mul-left named-in narrow-back no-answer no-body no-digit no-field no-header
+    no-index no-kind no-lines no-more no-one no-other no-payload no-room no-zero none-found none-left none-more none-of
+    none-so-far not-own not-zeros number-lt of-format one-digit-more one-more ones-step other-length pair-lt pair-put
+    pair-step pairs-lt part-length part-moved part-room pass-spec passed-none past-first paste-more put-32 put-all put-as
+    put-first put-spec read-behind read-more read-spec reads-none reads-so record-is refusal-is rest-part row-back
+    row-before row-drop row-same row-typed row-within run-ends run-small runs-append same-at same-digits same-id same-length
+    same-numbers same-of same-read same-seen scaled-fits seen-all sent-back sent-is set-before set-more sets-more size-is
+    slice-back some-id some-left some-read split-runs static-read step-spec store-spec stored-more sub-used sum-fits sum-is
+    sum-same sum-zeros table-is table-step take-none tests-agree text-at too-far too-long too-short top-xor turn-spec
+    turned-on two-at-once two-digits two-is typed-spec whole-is whole-length within-all words-left wrapped-sum write-spec
+    writes-as written-as xor-assoc
+""".split()
 WITHIN = {
+    "c_mavlink": {"found_as": "answered"},
+    "field_layout": {"text_at": "text_at_lem"},
+    # a variable: the word is a tactic's today
+    "thm_kind_examples": {"ground": "air_or_ground"},
+    "ucp_messages": {"ground": "air_or_ground"},
     "thm_c_mavlink": {"as_written": "as_written_lem", "read_as": "read_messages"},
     "thm_c_ucp": {"written_as": "written_as_lem"},
     "thm_ucp_receiver": {
@@ -91,12 +121,12 @@ def declared(top):
 
 
 def turned(text, names):
-    return TOKEN.sub(lambda m: names.get(m[0], m[0]), text)
+    return re.sub(r"(?<!proofs\.)" + TOKEN.pattern, lambda m: names.get(m[0], m[0]), text)
 
 
 def quoted(text, names):
     """Prose: what stands between backticks, and outside of them a name that no English word is spelled like."""
-    camel = {old: new for old, new in names.items() if "-" not in old}
+    camel = {old: new for old, new in names.items() if "-" not in old and re.search("[A-Z_]", old)}
     return "".join(turned(part, names if i % 2 else camel) for i, part in enumerate(re.split(r"(`[^`\n]*`)", text)))
 
 
@@ -124,10 +154,21 @@ def rt(text, names):
 
 
 def edit(text, names):
-    """A must-fail edit: of a file of definitions or proofs in its text, of code in its clauses."""
+    """A must-fail edit, as port.py turns files of definitions and proofs: names, projections, paths; of code in its clauses."""
     of_antt = re.search(r"^file: .*\.antt$", text, re.M) is not None
-    camel = {old: new for old, new in names.items() if "-" not in old}
-    return turned(text, names if of_antt else camel)
+    if not of_antt:
+        return turned(text, {old: new for old, new in names.items() if "-" not in old})
+    lines = []
+    for line in text.split("\n"):
+        if not line.startswith(("old: ", "new: ")):
+            lines.append(line)
+            continue
+        line = line[:5] + turned(line[5:], {old: snake(old) for old in TURNED} | names)
+        line = re.sub(r"Rattle·([\w.]+)", r"Rattle.\1", line)
+        line = re.sub(r"(?<=[\w')}]) \.(?=[a-z])", ".", line)
+        line = re.sub(r"\(([\w'-]+(?:\.[\w'-]+)+)\)", r"\1", line)
+        lines.append(line)
+    return "\n".join(lines)
 
 
 def all_files(top):

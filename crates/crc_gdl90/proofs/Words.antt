@@ -8,7 +8,7 @@ use lib.Bits.{bit_xor, xor_lt, xor_mod, xor_shr}
 use Rattle.crc_polynomial.specs.Polynomial.{degree16}
 use Rattle.crc_polynomial.proofs.Xor.{xor_swap}
 use Rattle.crc_polynomial.proofs.Linear.{up_from, Linear, both}
-use Rattle.crc_polynomial.proofs.Wide.{Linear₂, itself, low, down, up, behind, behind₂, both₂, forced, forced_is, forced_at, same₂}
+use Rattle.crc_polynomial.proofs.Wide.{Linear₂, itself, low, down, up, behind₂, both₂, forced, forced_is, forced_at, same₂}
 use Rattle.crc_polynomial.proofs.Shifts.{quotient, spread, left, left_linear}
 
 -- ---- the step by shifts

@@ -1,4 +1,6 @@
 // The frame check sequence of GDL90: by a table of 256 entries, and by shifts.
+#![tactic(auto)]
+
 ghost use Rattle.std.specs.Prelude.{◌≡◌, [], ◌++◌, ◌+◌, ◌-◌, ◌%◌, ◌<◌, ◌≤◌, length, take, drop};
 ghost use Rattle.field_words.specs.Words.{octets_down};
 ghost use Rattle.crc_gdl90.specs.Check.{frame_check, IsTable};

@@ -9,7 +9,7 @@ use lib.Dec.{ltb}
 use lib.ListN.{length, get_or, replicate}
 use Rattle.crc_polynomial.specs.Polynomial.{Octets, bits_of, bits_of_octets}
 use Rattle.crc_polynomial.proofs.Laws.{sum}
-use Rattle.crc_gdl90_strength.specs.BitNumbers.{differ_at, differ_below, DifferWithin}
+use Rattle.crc_gdl90_strength.specs.BitNumbers.{differ_below, DifferWithin}
 use Rattle.crc_gdl90_strength.specs.Strength.{TwoBodies}
 use Rattle.crc_gdl90_strength.specs.Premises.{longest_with, longest_zero, PremisesMet}
 use Rattle.crc_gdl90_strength.proofs.Limits.{at_least}

@@ -1,1 +1,3 @@
 // The order of x modulo the generator: stated in specs/, proved in proofs/. It holds no code.
+
+#![tactic(auto)]

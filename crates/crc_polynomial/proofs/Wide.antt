@@ -7,7 +7,7 @@ use native.Mathlib.Nat.{zero-mul, one-mul, mod-lt, div-add-mod'}
 use lib.Bits.{bit_xor, xor_self, xor_shr, xor_mod, xor_shifted, xor_zero_r, xor_zero_l}
 use lib.Pow.{pow_pos, shr_lt}
 use Rattle.crc_polynomial.proofs.Xor.{digit_cases, xor_swap}
-use Rattle.crc_polynomial.proofs.Linear.{up_from, everywhere, Linear, both, times}
+use Rattle.crc_polynomial.proofs.Linear.{up_from, everywhere, Linear, times}
 
 -- ---- shifts are linear
 pub itself : Linear (λ n. n)

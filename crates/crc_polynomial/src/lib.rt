@@ -1,1 +1,3 @@
 // Binary polynomials: definitions in specs/, their laws in proofs/. It holds no code.
+
+#![tactic(auto)]

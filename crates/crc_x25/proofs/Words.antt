@@ -4,11 +4,11 @@ use mathlib.Core.Path.{◌≡◌, refl, ap, ap₂, ◌∙◌}
 use Prim.Native.Nat.{ℕ, zero, suc, ◌*◌, ◌/◌, ◌%◌, ◌^◌, ◌<◌}
 use native.Mathlib.Omega.{arith}
 use native.Mathlib.Nat.{mod-lt}
-use lib.Bits.{bit_xor, xor_mod, xor_shr, xor_comm}
+use lib.Bits.{bit_xor, xor_mod, xor_shr}
 use Rattle.crc_polynomial.specs.Polynomial.{degree16}
 use Rattle.crc_polynomial.proofs.Xor.{xor_swap}
 use Rattle.crc_polynomial.proofs.Linear.{up_from, Linear, both}
-use Rattle.crc_polynomial.proofs.Wide.{Linear₂, itself, low, down, up, behind, behind₂, both₂, forced, forced_is, forced_at, same₂}
+use Rattle.crc_polynomial.proofs.Wide.{Linear₂, itself, low, down, up, behind, behind₂, forced, forced_is, forced_at, same₂}
 use Rattle.crc_x25.proofs.Shifts.{paired, paired_linear, paired_quick, paired_quick_is}
 
 -- ---- the step by shifts

@@ -1,4 +1,6 @@
 // The X.25 check that MAVLink carries, by shifts.
+#![tactic(auto)]
+
 ghost use Rattle.std.specs.Prelude.{◌≡◌, [], ◌∷◌, ◌++◌, ◌≤◌, length, drop};
 ghost use Rattle.field_words.specs.Words.{octets_up};
 ghost use Rattle.crc_x25.specs.Check.{x25, x25_from};

@@ -1,1 +1,3 @@
 // The tender's demands: stated together in specs/Demands.antt, proved in proofs/. It holds no code.
+
+#![tactic(auto)]

@@ -1,4 +1,6 @@
 // The ranges of coded fields that several messages share, each in one place.
+#![tactic(auto)]
+
 ghost use Rattle.std.specs.Prelude.{◌≡◌};
 ghost use Rattle.field_codes.specs.Codes.{is_squawk, is_emitter, is_size_code};
 

@@ -1,21 +1,19 @@
 -- A row's numbers and its values are one to one. Assumes nothing.
 use mathlib.Core.Path.{◌≡◌, refl, sym, ap, ap₂, ◌∙◌, subst}
-use mathlib.Core.Bool.{Bool, true, false, ◌&&◌}
+use mathlib.Core.Bool.{Bool, true, false}
 use mathlib.Core.List.{List, [], ◌∷◌, ◌++◌}
-use Prim.Native.Nat.{ℕ, zero, suc, ◌+◌, ◌*◌, ◌/◌, ◌^◌, ◌<◌}
+use Prim.Native.Nat.{ℕ, zero, suc, ◌+◌, ◌*◌, ◌^◌, ◌<◌}
 use native.Mathlib.Nat.{add_assoc}
 use native.Mathlib.Omega.{arith}
 use borrow.Author.Tests.{ltb-true, lt-ltb}
-use lib.Dec.{ltb}
 use lib.ListN.{get_or, drop}
 use lib.Pow.{pow_pos}
 use lib.Seq.{get_or-drop}
-use Rattle.field_layout.specs.Layout.{Within, bit_of, is_set, text_at}
-use Rattle.field_layout.specs.declared.Text.{Text}
-use Rattle.field_signed.specs.Signed.{signed, complement, holds}
+use Rattle.field_layout.specs.Layout.{Within, bit_of, is_set}
+use Rattle.field_signed.specs.Signed.{complement, holds}
 use Rattle.field_signed.proofs.Signed.{signed_complement, complement_signed, complement_lt, holds_signed}
 use Rattle.field_format.proofs.Conjunction.{both}
-use Rattle.field_format.specs.Format.{Sort, unsigned, part, integer, integer_part, Column, field, flag, letters, half, Number, number_to, number_of, Of, widths_of, count, to, from, Typed, tested, Bounded, Sound, Cell, ◌&◌, Row, row_widths, row_to, row_from, RowTyped, row_tested, RowBounded, BoundedAt, RowSound}
+use Rattle.field_format.specs.Format.{Sort, unsigned, part, integer, integer_part, Column, field, flag, letters, half, Number, number_to, number_of, Of, count, to, from, Typed, tested, Bounded, Sound, ◌&◌, Row, row_widths, row_to, row_from, RowTyped, row_tested, RowBounded, BoundedAt, RowSound}
 
 -- ---- a bit, and a signed number
 bit_lt : (b : Bool) → bit_of b < 2

@@ -15,6 +15,9 @@ pub joined_lt : (ws vs : List ℕ) → Within ws vs → joined ws vs < 2 ^ total
 joined_lt [] [] h = omega arith
 joined_lt (w ∷ []) (v ∷ vs) h = rw add-zero h.0
 joined_lt (w ∷ (u ∷ us)) (v ∷ vs) h = rw (pow-add 2 w (total (u ∷ us))) (digits_lt h.0 (joined_lt (u ∷ us) vs h.1))
+joined_lt [] (v ∷ vs) h = elim h [ ]
+joined_lt (w ∷ []) [] h = elim h [ ]
+joined_lt (w ∷ (u ∷ us)) [] h = elim h [ ]
 
 pub cut_joined : (ws vs : List ℕ) → Within ws vs → cut_by_widths ws (joined ws vs) ≡ vs
 cut_joined [] [] h = refl
@@ -24,6 +27,9 @@ cut_joined (w ∷ (u ∷ us)) (v ∷ vs) h =
     let l = joined_lt (u ∷ us) vs h.1 in
     ap₂ (λ (a : ℕ) (b : ℕ). a ∷ cut_by_widths (u ∷ us) b) (digits_div v l) (digits_mod v l)
     ∙ ap (λ (r : List ℕ). v ∷ r) (cut_joined (u ∷ us) vs h.1)
+cut_joined [] (v ∷ vs) h = elim h [ ]
+cut_joined (w ∷ []) [] h = elim h [ ]
+cut_joined (w ∷ (u ∷ us)) [] h = elim h [ ]
 
 pub joined_cut : (ws : List ℕ) (n : ℕ) → n < 2 ^ total ws → joined ws (cut_by_widths ws n) ≡ n
 joined_cut [] n h = omega arith
@@ -44,6 +50,8 @@ cut_within (w ∷ (u ∷ us)) n h = (
 pub length_within : (ws vs : List ℕ) → Within ws vs → length vs ≡ length ws
 length_within [] [] h = refl
 length_within (w ∷ ws) (v ∷ vs) h = ap suc (length_within ws vs h.1)
+length_within [] (v ∷ vs) h = elim h [ ]
+length_within (w ∷ ws) [] h = elim h [ ]
 
 -- ---- octets are fields of 8 bits
 abbrev AllOctets : List ℕ → Type 0
@@ -61,6 +69,8 @@ all_within (x ∷ xs) h = (h.0, all_within xs h.1)
 within_all : (n : ℕ) (xs : List ℕ) → Within (replicate n 8) xs → AllOctets xs
 within_all zero [] h = tt
 within_all (suc n) (x ∷ xs) h = (h.0, within_all n xs h.1)
+within_all zero (x ∷ xs) h = elim h [ ]
+within_all (suc n) [] h = elim h [ ]
 
 all_reversed : (xs ys : List ℕ) → AllOctets xs → AllOctets ys → AllOctets (reverse_aux xs ys)
 all_reversed [] ys h k = k

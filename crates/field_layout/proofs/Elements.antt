@@ -27,9 +27,9 @@ pub field_at : (l : List Run) (n k : ℕ) (body : List ℕ) → length body ≡ 
     → get_or (layout_fields l (elements n 0 body)) k 0 ≡ get_or (layout_fields l body) k 0
 field_at l n k body e = sym (ap (λ (b : List ℕ). get_or (layout_fields l b) k 0) (by_elements n body e))
 
-pub text_at : (l : List Run) (n k : ℕ) (body : List ℕ) → length body ≡ n
+pub text_at_lem : (l : List Run) (n k : ℕ) (body : List ℕ) → length body ≡ n
     → text_at (layout_fields l (elements n 0 body)) k ≡ text_at (layout_fields l body) k
-text_at l n k body e = sym (ap (λ (b : List ℕ). text_at (layout_fields l b) k) (by_elements n body e))
+text_at_lem l n k body e = sym (ap (λ (b : List ℕ). text_at (layout_fields l b) k) (by_elements n body e))
 
 -- ---- a body of a layout's size
 module _ (l : List Run) (m : ℕ) (count : length (layout_widths l) ≡ m) (whole : Whole l) (body : List ℕ) (h : Octets body)

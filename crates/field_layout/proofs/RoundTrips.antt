@@ -32,6 +32,7 @@ run_octets_within (low n) (v ∷ (u ∷ us)) e h = absurd h.1
 run_octets_within (low n) (v ∷ []) e h =
     within_reversed n (cut_by_widths (eights n) v)
     (cut_within (eights n) v (subst (λ (k : ℕ). v < 2 ^ k) (sym (total_eights n)) h.0))
+run_octets_within (low n) [] e h = elim h [ ]
 
 run_fields_within : (r : Run) (xs : List ℕ) → WholeRun r → Within (eights (run_size r)) xs → Within (widths r) (run_fields r xs)
 run_fields_within (high ws) xs e h = cut_within ws (joined (eights (total ws / 8)) xs) (octets_lt ws xs e h)
@@ -48,6 +49,7 @@ run_fields_octets (low n) (v ∷ (u ∷ us)) e h = absurd h.1
 run_fields_octets (low n) (v ∷ []) e h =
     ap (λ (l : List ℕ). joined (eights n) l ∷ []) (reverse-reverse (cut_by_widths (eights n) v))
     ∙ ap (λ (k : ℕ). k ∷ []) (joined_cut (eights n) v (subst (λ (k : ℕ). v < 2 ^ k) (sym (total_eights n)) h.0))
+run_fields_octets (low n) [] e h = elim h [ ]
 
 run_octets_fields : (r : Run) (xs : List ℕ) → WholeRun r → Within (eights (run_size r)) xs → run_octets r (run_fields r xs) ≡ xs
 run_octets_fields (high ws) xs e h =
@@ -68,14 +70,18 @@ others_whole (low n) rs h = h
 first_within : (ws us vs : List ℕ) → Within (ws ++ us) vs → Within ws (take (length ws) vs)
 first_within [] us vs h = tt
 first_within (w ∷ ws) us (v ∷ vs) h = (h.0, first_within ws us vs h.1)
+first_within (w ∷ ws) us [] h = elim h [ ]
 
 others_within : (ws us vs : List ℕ) → Within (ws ++ us) vs → Within us (drop (length ws) vs)
 others_within [] us vs h = h
 others_within (w ∷ ws) us (v ∷ vs) h = others_within ws us vs h.1
+others_within (w ∷ ws) us [] h = elim h [ ]
 
 both_within : (ws us vs ys : List ℕ) → Within ws vs → Within us ys → Within (ws ++ us) (vs ++ ys)
 both_within [] us [] ys h k = k
 both_within (w ∷ ws) us (v ∷ vs) ys h k = (h.0, both_within ws us vs ys h.1 k)
+both_within [] us (v ∷ vs) ys h k = elim h [ ]
+both_within (w ∷ ws) us [] ys h k = elim h [ ]
 
 -- octets have the length that their widths say
 length_eights : (n : ℕ) (xs : List ℕ) → Within (eights n) xs → length xs ≡ n
@@ -94,6 +100,7 @@ fields_octets (r ∷ rs) vs e h =
     ∙ ap₂ ◌++◌ (run_fields_octets r us (first_whole r rs e) first)
     (fields_octets rs ys (others_whole r rs e) (others_within (widths r) (layout_widths rs) vs h))
     ∙ take-append-drop (length (widths r)) vs
+fields_octets [] (_ ∷ _) e h = elim h [ ]
 
 -- there are as many octets as the layout says
 pub octets_size : (l : List Run) (vs : List ℕ) → Whole l → Within (layout_widths l) vs → length (layout_octets l vs) ≡ layout_size l

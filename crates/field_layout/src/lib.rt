@@ -1,11 +1,13 @@
 // Numbers at a place of a slice of octets. A place past the end reads as 0, so that no function asks anything.
+#![tactic(auto)]
+
 ghost use Rattle.std.specs.Prelude.{◌≡◌, cond, ◌++◌, ◌<◌, ◌≤◌, leb, length, get_or, drop};
 ghost use Rattle.field_layout.specs.Layout.{bit_of, text_at, text_octets, no_text};
 ghost use Rattle.field_layout.specs.Steps.{big16, big24, big32, little16, little24, little32};
 
 // A text of eight octets. (An enum can't hold an array, and messages are held in one.)
 #[repr(C)]
-#[derive(Drop)]
+#[derive(Clone, Copy)]
 pub struct Text {
     pub c0: u8,
     pub c1: u8,

@@ -1,4 +1,6 @@
 // Signed numbers and their bits, by two's complement. Half is 2 to the number of bits less one.
+#![tactic(auto)]
+
 ghost use Rattle.std.specs.Prelude.{◌≡◌, suc, ◌-◌, ◌*◌, ◌<◌, ◌≤◌, negsuc};
 ghost use Rattle.std.specs.Int.Signed.{mag};
 ghost use Rattle.std.specs.Int.{w16};

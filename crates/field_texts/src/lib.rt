@@ -1,4 +1,6 @@
 // The two rules for a text, each in one place.
+#![tactic(auto)]
+
 pub mod each;
 pub mod pairs;
 

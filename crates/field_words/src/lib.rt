@@ -1,4 +1,6 @@
 // Eight octets of a slice as one number: compiled, one load, and one swap where the first octet is the most significant.
+#![tactic(auto)]
+
 pub mod copies;
 
 ghost use Rattle.std.specs.Prelude.{◌≡◌, [], ◌∷◌, ◌+◌, ◌<◌, ◌≤◌, length, get_or, take, drop};

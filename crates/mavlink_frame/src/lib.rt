@@ -1,4 +1,6 @@
 // MAVLink version 1 frames: the table of the kinds, and what a frame says of its sender.
+#![tactic(auto)]
+
 pub mod reader;
 pub mod writer;
 
@@ -6,7 +8,7 @@ ghost use Rattle.std.specs.Prelude.{◌≡◌};
 ghost use Rattle.mavlink_frame.specs.Frame.{kind_answer, mavlink_kind};
 
 // What stands at the start of an input. `found_answer` of specs/Reader.antt gives the paper's number and values of each case.
-#[derive(Drop)]
+#[derive(Clone, Copy)]
 pub enum Found {
     // A frame with its check right: its message ID, its header, and how many octets it has. Its payload is from 6 on.
     Frame(u8, Header, usize),
@@ -18,7 +20,7 @@ pub enum Found {
 pub const LONGEST_FRAME: usize = 50;
 
 // What a kind has: its message ID, the length of its payload, and the extra octet of its check.
-#[derive(Drop)]
+#[derive(Clone, Copy)]
 pub struct Kind {
     pub id: u8,
     pub length: u8,
@@ -26,7 +28,7 @@ pub struct Kind {
 }
 
 // The kind of a message ID. `kind_answer` of specs/Frame.antt says what each case means.
-#[derive(Drop)]
+#[derive(Clone, Copy)]
 pub enum Lookup {
     Known(Kind),
     Unknown,
@@ -34,7 +36,7 @@ pub enum Lookup {
 
 // What a frame says of its sender: the place in its sequence, its system and its component.
 #[repr(C)]
-#[derive(Drop)]
+#[derive(Clone, Copy)]
 pub struct Header {
     pub sequence: u8,
     pub system: u8,

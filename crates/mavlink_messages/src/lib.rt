@@ -1,4 +1,6 @@
 // The five kinds of MAVLink messages, typed: read from a frame, and written as one.
+#![tactic(auto)]
+
 mod data_stream_66;
 mod dynamic_202;
 pub mod failure_bits;
@@ -19,7 +21,7 @@ use output_writing::Written;
 
 // 66: a request for a data stream.
 #[repr(C)]
-#[derive(Drop)]
+#[derive(Clone, Copy)]
 pub struct DataStream {
     pub req_message_rate: u16,
     pub target_system: u8,
@@ -30,7 +32,7 @@ pub struct DataStream {
 
 // 201: the static data of an aircraft.
 #[repr(C)]
-#[derive(Drop)]
+#[derive(Clone, Copy)]
 pub struct Static {
     pub icao: u32,
     pub integrity: u8,
@@ -45,7 +47,7 @@ pub struct Static {
 
 // 202: the dynamic data of an aircraft.
 #[repr(C)]
-#[derive(Drop)]
+#[derive(Clone, Copy)]
 pub struct Dynamic {
     pub utc_time: u32,
     pub latitude: i32,
@@ -68,14 +70,14 @@ pub struct Dynamic {
 
 // 203: the status of a transponder.
 #[repr(C)]
-#[derive(Drop)]
+#[derive(Clone, Copy)]
 pub struct Status {
     pub status: u8,
 }
 
 // 246: a report of traffic.
 #[repr(C)]
-#[derive(Drop)]
+#[derive(Clone, Copy)]
 pub struct Traffic {
     pub icao_address: u32,
     pub lat: i32,
@@ -94,7 +96,7 @@ pub struct Traffic {
 }
 
 // A message of one of the five kinds.
-#[derive(Drop)]
+#[derive(Clone, Copy)]
 pub enum Message {
     DataStream(DataStream),
     Static(Static),
@@ -104,21 +106,21 @@ pub enum Message {
 }
 
 // The lowest failure bit that is set, 1 to 4, or none; `lowest_answer` of specs/Failures.antt says the same.
-#[derive(Drop)]
+#[derive(Clone, Copy)]
 pub enum Lowest {
     Bit(u32),
     None,
 }
 
 // The failure bits of a status: how many are set, and the lowest.
-#[derive(Drop)]
+#[derive(Clone, Copy)]
 pub struct Failures {
     pub count: u32,
     pub lowest: Lowest,
 }
 
 // What stands at the start of an input. `mavlink_answer` of specs/Messages.antt gives the paper's number and values of each case.
-#[derive(Drop)]
+#[derive(Clone, Copy)]
 pub enum Read {
     // A message in a right frame: the frame's header, how many octets it has, the message, and the failures that it
     // reports, which are none where it is no status.

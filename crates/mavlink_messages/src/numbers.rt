@@ -4,13 +4,13 @@ ghost use Rattle.field_layout.specs.Layout.{low, run_octets};
 ghost use Rattle.field_signed.specs.Signed.{complement};
 ghost use Rattle.mavlink_messages.specs.Steps.{two, three, four};
 
-#[derive(Drop)]
+#[derive(Clone, Copy)]
 pub struct Two(pub u8, pub u8);
 
-#[derive(Drop)]
+#[derive(Clone, Copy)]
 pub struct Three(pub u8, pub u8, pub u8);
 
-#[derive(Drop)]
+#[derive(Clone, Copy)]
 pub struct Four(pub u8, pub u8, pub u8, pub u8);
 
 pub fn little_16(number: u16) -> Two

@@ -1,9 +1,11 @@
 // What a writer answers: of frames, of bodies and of MAVLink frames.
+#![tactic(auto)]
+
 ghost use Rattle.std.specs.Prelude.{◌≡◌};
 ghost use Rattle.output_writing.specs.Writing.{writer_answer, written_numbers};
 
 // A writer's answer. `writer_answer` of specs/Writing.antt gives the paper's number and values of each case.
-#[derive(Drop)]
+#[derive(Clone, Copy)]
 pub enum Written {
     // Accepted: how many octets were written.
     Wrote(usize),
@@ -13,7 +15,7 @@ pub enum Written {
 
 // The same as two numbers, for C.
 #[repr(C)]
-#[derive(Drop)]
+#[derive(Clone, Copy)]
 pub struct OstrogoszWritten {
     // 0, or a refusal's number.
     pub refusal: u32,

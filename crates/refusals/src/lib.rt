@@ -1,6 +1,8 @@
 // The refusals' numbers, each named once for all code (document 01, the table). specs/Numbers.antt names them for definitions.
 
 // ---- the receiver
+#![tactic(auto)]
+
 pub const BAD_ESCAPE: u8 = 1;
 
 pub const ESCAPE_BEFORE_FLAG: u8 = 2;

@@ -1,4 +1,6 @@
 // A message's text by its template: a label as it is, and a code where a value stands.
+#![tactic(auto)]
+
 mod readings;
 
 ghost use Rattle.std.specs.Prelude.{◌≡◌, ◌+◌, min, length, get_or, pos};
@@ -13,14 +15,14 @@ use readings::{long_reading, natural_reading, short_reading};
 use text_output::{Base, Printing, Scale, TextRoom, put_nothing, put_octet, put_word};
 
 // What a field's number says: nothing, where it is the mark for that; or a number of small units.
-#[derive(Drop)]
+#[derive(Clone, Copy)]
 pub enum Reading {
     NoData,
     Known(i64),
 }
 
 // What users count in. A bare number is one of degrees, or a plain count.
-#[derive(Drop)]
+#[derive(Clone, Copy)]
 pub enum Unit {
     Bare,
     Seconds,

@@ -1,5 +1,7 @@
 // MAVLink frames explained: for the frame at the start of an input a line of text, with its message's fields by name and in
 // users' units.
+#![tactic(auto)]
+
 ghost use Rattle.mavlink_messages.specs.Failures.{failure_answer};
 ghost use Rattle.mavlink_messages.specs.Messages.{means, refused as refused_read};
 ghost use Rattle.text_output.specs.Clips.{Clips};
@@ -12,7 +14,7 @@ use text_output::TextRoom;
 
 // What a call of explain_frame gives back: how many octets the frame has, whether it was refused, and then it uses none;
 // `written` octets of text are at its start.
-#[derive(Drop)]
+#[derive(Clone, Copy)]
 pub struct Explained {
     pub used: usize,
     pub refused: bool,

@@ -1,4 +1,6 @@
 // The MAVLink kinds, each by its template: its name, its frame's header and its fields in users' units.
+#![tactic(auto)]
+
 ghost use Rattle.std.specs.Prelude.{◌++◌};
 ghost use Rattle.text_output.specs.Clips.{Clips};
 ghost use Rattle.text_fields.specs.Fields.{fields_shown};

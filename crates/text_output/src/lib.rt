@@ -1,5 +1,7 @@
 // Text put into a lent text of 1536 octets. What would stand past its end is left out, so that no function here asks for room:
 // `Clips` says so, and where all fits it says that all is there.
+#![tactic(auto)]
+
 ghost use Rattle.std.specs.Prelude.{◌≡◌, [], ◌∷◌, ◌+◌, ◌/◌, ◌%◌, ◌<◌, ◌≤◌, ◌^◌, length, drop, nat_abs};
 ghost use Rattle.field_words.specs.Words.{octets_up};
 ghost use Rattle.text_output.specs.Clips.{text_room, Clips};
@@ -11,7 +13,7 @@ pub const TEXT_ROOM: usize = 1536;
 pub type TextRoom = [u8; TEXT_ROOM];
 
 // How octets are written: as they are; in a text, escaped where they have to be; in hexadecimal, a space before each.
-#[derive(Drop)]
+#[derive(Clone, Copy)]
 pub enum Printing {
     Plain,
     Escaped,
@@ -19,14 +21,14 @@ pub enum Printing {
 }
 
 // The base of a numeral.
-#[derive(Drop)]
+#[derive(Clone, Copy)]
 pub enum Base {
     Decimal,
     Hexadecimal,
 }
 
 // What a number counts: wholes, or parts of one, and then as many digits stand behind the point as it takes.
-#[derive(Drop)]
+#[derive(Clone, Copy)]
 pub enum Scale {
     Ones,
     Hundredths,

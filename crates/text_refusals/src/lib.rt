@@ -1,4 +1,6 @@
 // A refusal by its number and in words.
+#![tactic(auto)]
+
 ghost use Rattle.text_output.specs.Clips.{Clips};
 ghost use Rattle.text_refusals.specs.Refusals.{reason, refusal};
 

@@ -1,4 +1,6 @@
 // A line explained: for each answer of the receiver a line of text, with a message's fields by name and in users' units.
+#![tactic(auto)]
+
 ghost use Rattle.std.specs.Prelude.{◌≡◌, length};
 ghost use Rattle.ucp_receiver.specs.Answers.{verdict_of};
 ghost use Rattle.text_ucp_listing.specs.Listing.{body_room};
@@ -63,7 +65,7 @@ fn put_answer(text: &mut TextRoom, answer: Answer, room: &[u8]) -> usize
 }
 
 // What a call of explain_next gives back: what the receiver gave, and `written` octets of text are at its start.
-#[derive(Drop)]
+#[derive(Clone, Copy)]
 pub struct Explained {
     pub taken: Taken,
     pub written: usize,

@@ -158,8 +158,8 @@ module _ (receiver : Record) (store line room : List ℕ) (given : Taken) (store
           let n : octets ≡ length body = cc in
           omega (arith, simp length-append at (ap length f))
 
-  pub answer_line : line_of_answer (receiver_answer given.answer) room_after ≡ answer_line here.verdict
-  answer_line =
+  pub answer_line_lem : line_of_answer (receiver_answer given.answer) room_after ≡ answer_line here.verdict
+  answer_line_lem =
       ap (λ (t : ReceiverAnswer). line_of_answer t room_after) (takes.answers ∙ ap (λ (r : SliceRun). answer_for r.verdict) ran)
       ∙ go here.verdict (takes.puts ∙ ap (λ (r : SliceRun). output_at_flag r.verdict room) ran)
     where
@@ -188,7 +188,7 @@ more_so_far {whole} {line} {first} receiver store room taken at given store_afte
     let same = ran receiver store xs room given store_after room_after takes long kept in
     let took : r.taken ≡ given.taken = sym (takes.taken ∙ ap (λ (q : SliceRun). q.taken) same) in
     let puts : Puts _ at (answer_line r.verdict) next _ =
-    rw (answer_line receiver store xs room given store_after room_after takes long kept) at put.puts in
+    rw (answer_line_lem receiver store xs room given store_after room_after takes long kept) at put.puts in
     let ends : next ≤ length first = omega (arith, put.within, same_long so.puts) in
     let s : r.state ≡ state_of given.receiver.rest store_after = sym (takes.state ∙ ap (λ (q : SliceRun). q.state) same) in
     let c : r.counts ≡ given.receiver.counts = sym (takes.account ∙ ap (λ (q : SliceRun). q.counts) same) in

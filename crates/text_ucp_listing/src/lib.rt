@@ -1,4 +1,6 @@
 // The text of a listing: a line for each answer of the receiver, and a last line with its counts.
+#![tactic(auto)]
+
 ghost use Rattle.std.specs.Prelude.{◌≡◌, [], ◌∷◌, ◌+◌, ◌<◌, ◌≤◌, length};
 ghost use Rattle.output_writing.specs.Puts.{Puts};
 ghost use Rattle.ucp_receiver.specs.Answers.{receiver_answer};
@@ -100,7 +102,7 @@ fn put_answer(text: &mut [u8], at: usize, answer: Answer, room: &[u8]) -> usize
 }
 
 // What a call of list_some gives back: `taken` octets of the line were taken, and `written` octets of text are at its start.
-#[derive(Drop)]
+#[derive(Clone, Copy)]
 pub struct Listed {
     pub receiver: Record,
     pub taken: usize,

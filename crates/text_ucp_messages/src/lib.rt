@@ -1,4 +1,6 @@
 // The kinds of message on the UCP line, each by its template: its name, and its fields in users' units.
+#![tactic(auto)]
+
 ghost use Rattle.std.specs.Prelude.{[], ◌++◌};
 ghost use Rattle.ucp_messages.specs.declared.Message.TheVariants.{Heartbeat as HeartbeatMessage, Uplink as UplinkMessage, GeometricAltitude as GeometricMessage, Request as RequestMessage, Control as ControlMessage, Initialization as InitializationMessage};
 ghost use Rattle.text_output.specs.Clips.{Clips};

@@ -1,17 +1,17 @@
 -- A frame on a linked line is delivered, and a frame delivered writes back to the same octets. Assumes nothing.
-use mathlib.Core.Path.{◌≡◌, refl, sym, ap, ap₂, subst, ◌∙◌}
-use mathlib.Core.List.{List, ◌∷◌, ◌++◌}
-use Prim.Native.Nat.{ℕ, ◌≤◌}
+use mathlib.Core.Path.{◌≡◌, sym, ap, ap₂, subst, ◌∙◌}
+use mathlib.Core.List.{List}
+use Prim.Native.Nat.{ℕ}
 use native.Mathlib.Omega.{arith}
 use borrow.Author.Tests.{le-ltb}
 use lib.ListN.{length, take, drop}
 use lib.Seq.{take-append_seam}
-use Rattle.ucp_frame.specs.Frame.{frame, longest_body}
+use Rattle.ucp_frame.specs.Frame.{frame}
 use Rattle.ucp_frame.specs.Stretch.{delivered}
 use Rattle.output_writing.specs.Writing.{written_numbers}
 use Rattle.ucp_writer.proofs.room.Due.{due_accepted}
 use Rattle.thm_ucp_receiver.specs.Promises.{EndsIn, BodyLength}
-use Rattle.thm_c_ucp.specs.Receiver.{LinkedCall, LinkedLine, linked_up_to, LinkedAnswersAs}
+use Rattle.thm_c_ucp.specs.Receiver.{LinkedCall, linked_up_to, LinkedAnswersAs}
 use Rattle.thm_c_ucp.specs.Delivery.{DeliversLinked, LinkedDeliveredWritesBack}
 use Rattle.thm_c_ucp.proofs.Receiver.{linked_put_out_is_frame, linked_frame_is_put_out}
 use Rattle.thm_c_ucp.proofs.Writer.{linked_writer_refuses}

@@ -1,5 +1,5 @@
 -- When the linked receiver refuses: the answer's numbers tell it as the answer does. Assumes nothing.
-use mathlib.Core.Path.{◌≡◌, refl, sym, ap, subst, ◌∙◌}
+use mathlib.Core.Path.{◌≡◌, refl, ap}
 use mathlib.Core.List.{List, map}
 use mathlib.Core.Logic.{◌↔◌}
 use Prim.Native.Nat.{ℕ}
@@ -7,13 +7,12 @@ use native.Mathlib.Omega.{arith}
 use lib.ListN.{length}
 use borrow.Author.Tests.{eq-eqb, ne_eqb}
 use Rattle.ucp_frame.specs.Frame.{flag}
-use Rattle.ucp_frame.specs.Stretch.{Verdict, silent, verdict}
+use Rattle.ucp_frame.specs.Stretch.{Verdict, verdict}
 use Rattle.ucp_history.specs.History.{cut_at_flags, open_stretch, answer}
 use Rattle.ucp_receiver.specs.Answers.{ReceiverAnswer, nothing, refusal, body, answer_for}
 use Rattle.c_ucp_receiver.specs.Numbers.{kind_told, value_told}
-use Rattle.thm_ucp_receiver.specs.Refusals.{RefusesWhen}
 use Rattle.thm_ucp_receiver.proofs.Refusals.{answer_refuses, refuses_as, open_flag_free}
-use Rattle.thm_c_ucp.specs.Receiver.{linked_call_of, LinkedAnswersAs}
+use Rattle.thm_c_ucp.specs.Receiver.{linked_call_of}
 use Rattle.thm_c_ucp.specs.Refusals.{NumbersRefuse, LinkedReceiverRefusesWhen}
 use Rattle.thm_c_ucp.proofs.Receiver.{linked_answers}
 

@@ -107,14 +107,14 @@ abbrev pub control_body : List ℕ
 control_body = 0x2D ∷ 0x01 ∷ 0xAB ∷ 0xFE ∷ 0xFF ∷ 0xFF ∷ 0xFF ∷ 0x61 ∷ 0x1E ∷ 0x07 ∷ 0x4E ∷ 0x39 ∷ 0x30 ∷ 0x31 ∷ 0x20 ∷ 0x20 ∷ 0x20 ∷ 0x20 ∷ []
 
 abbrev pub control_with : ℕ → ℕ → ℕ → control-as.Control
-control_with ground squawk letter =
+control_with air_or_ground squawk letter =
     record {
       es_enabled = true;
       mode_s = false;
       mode_c = true;
       mode_a = false;
       ident = true;
-      air_ground = ground;
+      air_ground = air_or_ground;
       baro_checked = true;
       altitude = negsuc 1;
       squawk = squawk;
@@ -130,14 +130,14 @@ abbrev pub bits_body : ℕ → List ℕ
 bits_body bits = 0x2D ∷ 0x01 ∷ bits ∷ 0xFF ∷ 0xFF ∷ 0xFF ∷ 0x7F ∷ 0xB0 ∷ 0x04 ∷ 0x00 ∷ 0x20 ∷ 0x20 ∷ 0x20 ∷ 0x20 ∷ 0x20 ∷ 0x20 ∷ 0x20 ∷ 0x20 ∷ []
 
 abbrev pub bits_value : Bool → Bool → Bool → Bool → Bool → ℕ → Bool → control-as.Control
-bits_value es s c a ident ground baro =
+bits_value es s c a ident air_or_ground baro =
     record {
       es_enabled = es;
       mode_s = s;
       mode_c = c;
       mode_a = a;
       ident = ident;
-      air_ground = ground;
+      air_ground = air_or_ground;
       baro_checked = baro;
       altitude = pos 2147483647;
       squawk = 1200;

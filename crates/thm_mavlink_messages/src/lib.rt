@@ -1,5 +1,7 @@
 // What holds of MAVLink's reader and writers together, and worked examples: stated in specs/, proved in proofs/. The functions do
 // nothing: their contracts say that every message that a program holds meets what the theorems ask of it.
+#![tactic(auto)]
+
 ghost use Rattle.field_format.specs.Format.{TypedAs};
 ghost use Rattle.mavlink_messages.specs.DataStream66.{data_stream_format};
 ghost use Rattle.mavlink_messages.specs.Static201.{static_format};

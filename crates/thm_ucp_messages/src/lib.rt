@@ -1,5 +1,7 @@
 // Theorems: a written message reads back equal, and an accepted body writes back to the same octets. The functions do nothing: their
 // contracts say that every message that a program holds meets what the theorems ask of it.
+#![tactic(auto)]
+
 ghost use Rattle.std.specs.Prelude.{◌≡◌};
 ghost use Rattle.thm_ucp_messages.specs.Typed.{MessageTyped};
 

@@ -13,7 +13,7 @@ use Rattle.ucp_frame.specs.Stretch.{unstuffed, Verdict, silent, refused, deliver
 use Rattle.ucp_history.specs.History.{Call, Segment, cut_at_flags, open_stretch, answer, over_closed, Account, account}
 use Rattle.ucp_receiver.specs.declared.Counts.{Counts}
 use Rattle.ucp_receiver.specs.declared.Record.{Record}
-use Rattle.ucp_receiver.specs.Answers.{ReceiverAnswer, nothing, answer_for, output_at_flag}
+use Rattle.ucp_receiver.specs.Answers.{ReceiverAnswer, answer_for, output_at_flag}
 use Rattle.ucp_receiver.specs.Octet.{State, after_flag, state_after, verdict_due, counts_after}
 use Rattle.thm_ucp_receiver.specs.Line.{Observed, call_of, up_to, Meets, Runs, Line}
 use Rattle.thm_ucp_receiver.specs.Promises.{AnswersByHistory, StretchIsAnswered, account_counts, CountsByHistory, EveryOctetCounted, StoreClean, StoreByHistory, HuntingStoresNothing, FlagClears, put_out, Seen, seen, LaterOnly}

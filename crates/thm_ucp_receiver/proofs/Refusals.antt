@@ -1,5 +1,5 @@
 -- Each refusal of a stretch exactly when its condition is met. Assumes nothing.
-use mathlib.Core.Path.{◌≡◌, refl, sym, ◌∙◌, ap, ap₂, subst}
+use mathlib.Core.Path.{◌≡◌, refl, sym, ◌∙◌, ap, subst}
 use mathlib.Core.Bool.{Bool, true, false, cond}
 use mathlib.Core.List.{List, [], ◌∷◌, ◌++◌, map, append_assoc, append-nil}
 use mathlib.Core.Logic.Iff
@@ -16,8 +16,8 @@ use Rattle.ucp_frame.specs.Stretch.{Ending, whole, escape_last, bad_escape, Unst
 use Rattle.ucp_frame.proofs.Stuffing.{FlagFree, stuffed_append, stuffed_length_most, stuffed_length_least, escaped_itself}
 use Rattle.ucp_frame.proofs.Unstuffing.{Reading, at_end, broken_off, bad, flag_read, escape_read, plain, reading, onward, unstuffed_snoc, unstuffed_stuffed}
 use Rattle.ucp_history.specs.History.{Call, cut_at_flags, open_stretch, answer}
-use Rattle.ucp_receiver.specs.Answers.{ReceiverAnswer, nothing, refusal, body, receiver_answer, answer_for}
-use Rattle.thm_ucp_receiver.specs.Line.{Observed, call_of}
+use Rattle.ucp_receiver.specs.Answers.{ReceiverAnswer, nothing, refusal, answer_for}
+use Rattle.thm_ucp_receiver.specs.Line.{call_of}
 use Rattle.thm_ucp_receiver.specs.Promises.{AnswersAs}
 use Rattle.thm_ucp_receiver.specs.Refusals.{BadEscapeIn, EscapeLastIn, TooLongIn, TooShortIn, BodyIn, WrongCheckIn, NoRoomIn, RefusesWhen, AnswerRefuses, ReceiverRefusesWhen}
 use Rattle.thm_ucp_receiver.proofs.Stretch.{body_of, check_sent_lem, last_two, stuffed_verdict}

@@ -1,4 +1,6 @@
 // What the readers and writers of the UCP line's messages share: the answers that are due, and how a body is put.
+#![tactic(auto)]
+
 ghost use Rattle.std.specs.Prelude.{true};
 ghost use Rattle.ucp_answers.specs.Writes.{WritesBody};
 

@@ -1,6 +1,8 @@
 // The frame's format on the line: definitions in specs/, their laws in proofs/. Of code it holds the sizes alone.
 
 // Octets of the longest body, and of the longest frame: two flags around the longest body and its check, each octet escaped.
+#![tactic(auto)]
+
 pub const LONGEST_BODY: usize = 436;
 
 pub const LONGEST_FRAME: usize = 878;

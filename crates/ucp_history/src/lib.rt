@@ -1,1 +1,3 @@
 // What a line answers and counts, by its history: definitions in specs/. It holds no code.
+
+#![tactic(auto)]

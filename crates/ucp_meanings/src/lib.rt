@@ -1,16 +1,18 @@
 // What the raw numbers of messages 10, 11 and 20 mean in feet, feet per minute and degrees.
+#![tactic(auto)]
+
 ghost use Rattle.std.specs.Prelude.{◌≡◌};
 ghost use Rattle.ucp_meanings.specs.Meanings.{altitude_answer, rate_answer, altitude_means, rate_means, geometric_means, degrees_e7};
 
 // A pressure altitude.
-#[derive(Drop)]
+#[derive(Clone, Copy)]
 pub enum Altitude {
     NoData,
     Feet(i32),
 }
 
 // A vertical rate.
-#[derive(Drop)]
+#[derive(Clone, Copy)]
 pub enum Rate {
     NoData,
     FeetPerMinute(i32),

@@ -26,13 +26,13 @@ control_format = record {
       ∷ octet (λ c. c.emergency)
       ∷ text (λ c. c.identity)
       ∷ [];
-  value = λ es s c a ident ground baro altitude squawk emergency identity. record {
+  value = λ es s c a ident air_or_ground baro altitude squawk emergency identity. record {
     es_enabled = es;
     mode_s = s;
     mode_c = c;
     mode_a = a;
     ident = ident;
-    air_ground = ground;
+    air_ground = air_or_ground;
     baro_checked = baro;
     altitude = altitude;
     squawk = squawk;

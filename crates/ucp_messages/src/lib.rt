@@ -1,6 +1,8 @@
 // The messages of the UCP line: what a body means, and the body of a message. A module for each kind has its fields from a body,
 // and a body from the fields. Messages 0, 7, 10, 11 and 20 are those of the GDL90 public ICD, 44 and 45 of document 003, 117 of
 // document 000.
+#![tactic(auto)]
+
 mod control_45;
 mod geometric_altitude_11;
 mod heartbeat_0;
@@ -19,7 +21,7 @@ use output_writing::Written;
 
 // Message 0, Heartbeat: all bits carried as they are.
 #[repr(C)]
-#[derive(Drop)]
+#[derive(Clone, Copy)]
 pub struct Heartbeat {
     pub status_1: u8,
     pub status_2: u8,
@@ -30,7 +32,7 @@ pub struct Heartbeat {
 
 // Messages 10 and 20, Ownship and Traffic report. Every number is raw; the crate ucp_meanings says what it means.
 #[repr(C)]
-#[derive(Drop)]
+#[derive(Clone, Copy)]
 pub struct Report {
     // 4 bits each.
     pub alert: u8,
@@ -58,7 +60,7 @@ pub struct Report {
 
 // Message 11, Ownship geometric altitude: in steps of 5 feet, and its metrics.
 #[repr(C)]
-#[derive(Drop)]
+#[derive(Clone, Copy)]
 pub struct GeometricAltitude {
     pub altitude: i16,
     pub metrics: u16,
@@ -66,14 +68,14 @@ pub struct GeometricAltitude {
 
 // Message 44, Message Request.
 #[repr(C)]
-#[derive(Drop)]
+#[derive(Clone, Copy)]
 pub struct Request {
     pub requested_id: u8,
 }
 
 // Message 45, Control.
 #[repr(C)]
-#[derive(Drop)]
+#[derive(Clone, Copy)]
 pub struct Control {
     // 1090ES transmission enabled; replies enabled for modes S, C and A; the ident button.
     pub es_enabled: bool,
@@ -93,7 +95,7 @@ pub struct Control {
 
 // Message 117, Initialization.
 #[repr(C)]
-#[derive(Drop)]
+#[derive(Clone, Copy)]
 pub struct Initialization {
     pub version: u8,
     // 24 bits.
@@ -108,7 +110,7 @@ pub struct Initialization {
 }
 
 // The kinds of message. An ID that is none of theirs is of an unknown kind.
-#[derive(Drop)]
+#[derive(Clone, Copy)]
 pub enum Kind {
     Heartbeat,
     Uplink,
@@ -122,7 +124,7 @@ pub enum Kind {
 }
 
 // A message with its fields. An uplink's payload stays in a slice beside it.
-#[derive(Drop)]
+#[derive(Clone, Copy)]
 pub enum Message {
     Heartbeat(Heartbeat),
     Uplink,
@@ -135,7 +137,7 @@ pub enum Message {
 }
 
 // A message reader's answer. `reader_answer` of specs/Messages.antt gives the paper's number and values of each case.
-#[derive(Drop)]
+#[derive(Clone, Copy)]
 pub enum Read {
     // The body is this message. Of an uplink, the payload is the body without its first octet.
     Message(Message),

@@ -94,7 +94,7 @@ fn halves(high: u8, low: u8) -> u8
     high * 16 + low
 }
 
-#[derive(Drop)]
+#[derive(Clone, Copy)]
 struct Two {
     high: u8,
     low: u8,
@@ -111,7 +111,7 @@ fn height_of(altitude: u16, miscellaneous: u8) -> Two
     }
 }
 
-#[derive(Drop)]
+#[derive(Clone, Copy)]
 struct Three {
     high: u8,
     middle: u8,
@@ -129,7 +129,7 @@ fn three_of(number: u32) -> Three
     }
 }
 
-#[derive(Drop)]
+#[derive(Clone, Copy)]
 struct Position {
     latitude: Three,
     longitude: Three,
@@ -145,7 +145,7 @@ fn position_of(latitude: i32, longitude: i32) -> Position
     }
 }
 
-#[derive(Drop)]
+#[derive(Clone, Copy)]
 struct Four {
     high: u8,
     upper: u8,

@@ -1,5 +1,7 @@
 // The receiver of the UCP line: by the octet, by the slice, with its byte account. The store is lent, so that a frame's octets
 // rest in one place; the record besides it goes in and comes back by value.
+#![tactic(auto)]
+
 mod account;
 mod closing;
 pub mod octet;
@@ -11,7 +13,7 @@ pub const STORE_OCTETS: usize = 438;
 pub type Store = [u8; STORE_OCTETS];
 
 // Where the line stands.
-#[derive(Drop)]
+#[derive(Clone, Copy)]
 pub enum Phase {
     // No flag yet: nothing is stored.
     Hunting,
@@ -26,28 +28,28 @@ pub enum Phase {
 }
 
 // The record besides the store and the counts: where the line stands, and how many octets of the open stretch are stored.
-#[derive(Drop)]
+#[derive(Clone, Copy)]
 pub struct Rest {
     pub phase: Phase,
     pub stored: usize,
 }
 
 // The record besides the store. What counts there are is `account`'s alone: all others hand them on.
-#[derive(Drop)]
+#[derive(Clone, Copy)]
 pub struct Record {
     pub rest: Rest,
     pub counts: Counts,
 }
 
 // What a call gives back.
-#[derive(Drop)]
+#[derive(Clone, Copy)]
 pub struct Received {
     pub receiver: Record,
     pub answer: Answer,
 }
 
 // The receiver's answer to a call. `receiver_answer` of specs/Answers.antt gives the paper's number and values of each case.
-#[derive(Drop)]
+#[derive(Clone, Copy)]
 pub enum Answer {
     // No answer is due.
     Nothing,
@@ -58,7 +60,7 @@ pub enum Answer {
 }
 
 // The byte account, in line octets; each count runs round at 2^32 on purpose. `unclosed` is the paper's "open".
-#[derive(Drop)]
+#[derive(Clone, Copy)]
 pub struct Counts {
     pub flags: u32,
     pub delivered: u32,
@@ -68,7 +70,7 @@ pub struct Counts {
 }
 
 // What a call with a slice of the line gives back: `taken` octets were taken.
-#[derive(Drop)]
+#[derive(Clone, Copy)]
 pub struct Taken {
     pub receiver: Record,
     pub answer: Answer,

@@ -8,7 +8,7 @@ ghost use Rattle.ucp_receiver.specs.Steps.{PutsPlain, NoFlag, Ignores, Passes, i
 use super::{Answer, Phase, Received, Record, Rest, Store, Taken};
 
 // How many octets of a slice were passed without a full step.
-#[derive(Drop)]
+#[derive(Clone, Copy)]
 struct Passed {
     receiver: Record,
     taken: usize,

@@ -1,4 +1,6 @@
 // A typed message to the line in one call: its body, and the body's frame.
+#![tactic(auto)]
+
 ghost use Rattle.ucp_send.specs.Sends.{Sends};
 
 use output_writing::Written;

@@ -1,5 +1,7 @@
 // Stuffing: octets put on the line, a flag and an escape among them each as an escape and another octet. The frame writer and the receiver
 // share it.
+#![tactic(auto)]
+
 ghost use Rattle.std.specs.Prelude.{◌≡◌, true, ◌||◌, ◌++◌, ◌+◌, ◌≤◌, eqb, length, drop};
 ghost use Rattle.field_words.specs.Words.{octets_up};
 ghost use Rattle.ucp_frame.specs.Frame.{flag, escape, escaped, stuffed, longest_body};

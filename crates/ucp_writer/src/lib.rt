@@ -1,4 +1,6 @@
 // The frame writer: one call makes a frame of a body.
+#![tactic(auto)]
+
 mod in_place;
 pub mod room;
 

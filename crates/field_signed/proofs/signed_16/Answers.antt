@@ -1,0 +1,13 @@
+-- `field_signed::signed_16` meets its contract. Assumes nothing.
+use native.Mathlib.Omega.{arith}
+use Rattle.field_signed.proofs.Negative.{narrow_fits, narrowed_back}
+use Rattle.field_signed.proofs.signed_16.Goals as goal
+
+pub narrowed-requires : goal.narrowed-requires
+narrowed-requires c =
+    narrow_fits 32768 c.args.bits (omega arith) (omega arith) c.to_signed.result c.to_signed.ensures
+
+pub returns : goal.returns
+returns c =
+    narrowed_back 32768 c.args.bits (omega arith) (omega arith) c.to_signed.result
+    c.narrowed.result c.to_signed.ensures c.narrowed.ensures

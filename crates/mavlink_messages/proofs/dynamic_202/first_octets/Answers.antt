@@ -1,0 +1,16 @@
+-- `mavlink_messages::dynamic_202::first_octets` meets its contract, run by run. Assumes nothing.
+use mathlib.Core.List.{◌++◌}
+use Rattle.field_format.specs.Format.{body_of}
+use Rattle.mavlink_messages.proofs.Signed.{put_32}
+use Rattle.mavlink_messages.proofs.dynamic_202.first_octets.Goals as goal
+
+pub returns : goal.returns
+unfolding body_of
+returns c =
+    let v = c.args.dynamic in
+    λ i. (c.little_32-utc.ensures i)
+    ++ (put_32 v.latitude c.struct_told-1.given.1.0.1 c.signed_32-latitude.ensures i)
+    ++ (put_32 v.longitude c.struct_told-2-1.given.1.1.0.1 c.signed_32-longitude.ensures i)
+    ++ (put_32 v.alt_pres c.struct_told-3-1.given.1.1.1.0.1 c.signed_32-pressure.ensures i)
+    ++ (put_32 v.alt_gnss c.struct_told-4-1.given.1.1.1.1.0.1 c.signed_32-gnss.ensures i)
+    ++ (c.little_32-horizontal.ensures i)

@@ -1,0 +1,14 @@
+-- `text_ucp_messages::put_uplink` meets its contract. Assumes nothing.
+use Rattle.text_ucp_messages.specs.Messages.{message_shown}
+use Rattle.text_output.proofs.Clipped.{then}
+use Rattle.text_ucp_messages.proofs.put_uplink.Goals as goal
+
+pub returns : goal.returns
+unfolding message_shown
+returns c = then c.put_word-at.ensures c.put_printed.ensures
+
+pub put_word-at-requires : goal.put_word-at-requires
+put_word-at-requires c = tt
+
+pub put_printed-requires : goal.put_printed-requires
+put_printed-requires c = tt

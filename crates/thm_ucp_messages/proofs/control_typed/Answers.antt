@@ -1,0 +1,10 @@
+-- `control_typed` meets its contract. Assumes nothing.
+use borrow.Author.Rules.{rules}
+use borrow.Author.Tests.{lt-ltb}
+use lib.Signed.{mag}
+use Rattle.field_signed.specs.Signed.{holds}
+use Rattle.thm_ucp_messages.proofs.control_typed.Goals as goal
+
+pub returns : goal.returns
+unfolding holds
+returns c = rw c.requires (tt, (tt, (tt, (tt, (tt, (tt, (tt, (lt-ltb (mag c.args.control.altitude) 2147483648 (search rules), (search rules, (search rules, (search rules, tt)))))))))))

@@ -1,0 +1,20 @@
+-- `control_45::write` meets its contract, by its two ways. Assumes nothing.
+use mathlib.Core.Bool.{not}
+use mathlib.Core.Path.{ap}
+use Rattle.ucp_answers.proofs.Writers.{fitting, refused_13, body_put}
+use Rattle.field_format.specs.Format.{body_of}
+use Rattle.field_format.proofs.Formats.{fitting as bounds}
+use Rattle.ucp_messages.specs.Control45.{control_format}
+use Rattle.ucp_messages.proofs.Formats.{control_right}
+use Rattle.ucp_messages.proofs.control_45.write.Goals as goal
+
+pub returns-then-not-fits : goal.returns-then-not-fits
+returns-then-not-fits c = refused_13 c.fits.ensures (body_of control_format c.args.control) c.args.output.now (ap not c.if-not-fits.true)
+
+pub octets-body-requires : goal.octets-body-requires
+octets-body-requires c = bounds control_format control_right c.args.control (fitting c.fits.ensures (ap not c.if-not-fits.false))
+
+pub returns : goal.returns
+returns c = body_put c.fits.ensures
+    (ap not c.if-not-fits.false) c.octets-body.ensures
+    c.put.ensures

@@ -1,0 +1,12 @@
+-- `ucp_receiver::account::count_skipped` meets its contract. Assumes nothing.
+use Rattle.std.proofs.Common.{ℕ, refl, rules}
+use Rattle.ucp_receiver.specs.declared.Counts.{Counts}
+use Rattle.ucp_receiver.specs.Account.{counted_skipped}
+use Rattle.ucp_receiver.proofs.account.Counting.{many_rounded}
+use Rattle.ucp_receiver.proofs.account.count_skipped.Goals as goal
+
+pub returns : goal.returns
+returns c =
+    let a = c.args in
+    let put : ℕ → Counts = λ k. record { flags = a.counts.flags; delivered = a.counts.delivered; refused = a.counts.refused; skipped = k; unclosed = a.counts.unclosed } in
+    many_rounded put counted_skipped (λ k. refl) a.counts.skipped a.n c.rounded.result _ (search rules) c.rounded.ensures c.wrapping_add_u32.ensures.value
