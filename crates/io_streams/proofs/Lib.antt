@@ -1,3 +1,2 @@
-mod Answers
 pub mod Gathering
 pub mod Turns

@@ -39,9 +39,9 @@ module _ (block : List ℕ) where
     pub reached_some : BehindSome s c last block
     reached_some = record { taken = taken; within = r.0; leads = r.1 }
 
-  pub behind_all : (s : State) (c : Counts) (b : RecordBehind) → Leaves More s c b block → BehindSome s c b block
+  pub behind_all_lem : (s : State) (c : Counts) (b : RecordBehind) → Leaves More s c b block → BehindSome s c b block
   unfolding behind_all
-  behind_all s c b l =
+  behind_all_lem s c b l =
       record {
         taken = length block;
         within = omega arith;
@@ -103,4 +103,4 @@ pub done_block : (receiver : Record) (output : Output) (store block : List ℕ) 
     → let d = block_done receiver output in
     Leaves d.progress.input (state_of d.progress.receiver.rest store) d.progress.receiver.counts b block × WritesLines d.progress.input d.written lines
 done_block receiver (Wrote n) store block b lines written waiting k w e l o some = (l, w ∙ ap (λ (m : ℕ). (written + m) % 2 ^ 64) e ∙ o)
-done_block receiver WriteFailed store block b lines written waiting k w e l o some = (behind_all block _ _ b l, some (omega (arith, w, e)))
+done_block receiver WriteFailed store block b lines written waiting k w e l o some = (behind_all_lem block _ _ b l, some (omega (arith, w, e)))

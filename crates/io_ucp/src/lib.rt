@@ -1,22 +1,24 @@
 // What the programs that read the UCP line share, over the standard streams: the receiver's record from block to block, the
 // closing line, and clearing what was lent.
+#![tactic(auto)]
+
 ghost use Rattle.std.specs.Prelude.{◌≡◌, length};
 ghost use Rattle.io_streams.specs.Blocks.{Zeroed};
 ghost use Rattle.io_ucp.specs.Records.{Closed, Ends, block_done, Follows};
 
-use io_streams::{Input, Output, Turn};
+use io_streams::{Input, Output, Streams, Turn};
 use ucp_frame::BodyRoom;
 use ucp_receiver::{Counts, Record, Store};
 
 // The receiver's record besides its store, from block to block.
-#[derive(Drop)]
+#[derive(Clone, Copy)]
 pub struct Progress {
     pub receiver: Record,
     pub input: Input,
 }
 
 // What a block came to, and how many octets of text went out for it, modulo 2^64: so far a contract can say what is written.
-#[derive(Drop)]
+#[derive(Clone, Copy)]
 pub struct BlockDone {
     pub progress: Progress,
     pub written: usize,
@@ -46,7 +48,7 @@ pub fn block_done(receiver: Record, output: Output) -> BlockDone
 
 // What a turn came to: the receiver's record behind its block, the turn that follows, and how many octets of text went out,
 // modulo 2^64.
-#[derive(Drop)]
+#[derive(Clone, Copy)]
 pub struct TurnDone {
     pub receiver: Record,
     pub turn: Turn,
@@ -54,13 +56,13 @@ pub struct TurnDone {
 }
 
 // The turn that follows a block, by what the block came to. Nothing of it is held.
-pub fn follow(done: BlockDone, block: &mut [u8], left: u64) -> TurnDone
+pub fn follow(streams: Streams, done: BlockDone, block: &mut [u8], left: u64) -> TurnDone
     ensures { Follows done left (length block.old) result }
 {
     let progress = done.progress;
     let receiver = progress.receiver;
     let input = progress.input;
-    let turn = io_streams::next_turn(input, block, 0, left);
+    let turn = io_streams::next_turn(streams, input, block, 0, left);
     TurnDone {
         receiver: receiver,
         turn: turn,
@@ -70,7 +72,7 @@ pub fn follow(done: BlockDone, block: &mut [u8], left: u64) -> TurnDone
 
 // What a run came to: whether the input was read to its end and all was written; how many of its octets were worked on, and how
 // many of text went out before the closing line, both modulo 2^64.
-#[derive(Drop)]
+#[derive(Clone, Copy)]
 pub struct Run {
     pub whole: bool,
     pub octets: usize,
@@ -78,20 +80,20 @@ pub struct Run {
 }
 
 // The closing line, where text has room for it, and whether what was put there was written.
-pub fn write_closing(text: &mut [u8], counts: Counts) -> bool
+pub fn write_closing(streams: Streams, text: &mut [u8], counts: Counts) -> bool
     ensures { Closed counts text.old result text.new }
 {
     let n = text_ucp_listing::put_closing(text, 0, counts);
-    io_streams::write_out(&text[..n])
+    io_streams::write_out(streams, &text[..n])
 }
 
 // The closing line stands only behind an input that was read to its end: whether it was, and the line was written.
-pub fn write_ending(input: Input, text: &mut [u8], counts: Counts) -> bool
+pub fn write_ending(streams: Streams, input: Input, text: &mut [u8], counts: Counts) -> bool
     ensures { Ends input counts text.old result text.new }
 {
     match input {
         Input::More => false,
-        Input::Ended => write_closing(text, counts),
+        Input::Ended => write_closing(streams, text, counts),
         Input::Failed => false,
     }
 }

@@ -7,6 +7,8 @@
 //
 // Where a read or a write fails the line lister's rules hold: what was explained has been written out, the failure is said on
 // standard error, and no closing line follows.
+#![tactic(auto)]
+
 ghost use Rattle.std.specs.Prelude.{◌≤◌, length};
 ghost use Rattle.text_output.specs.Clips.{text_room};
 ghost use Rattle.ucp_receiver.specs.Account.{zero_counts};
@@ -16,7 +18,7 @@ ghost use Rattle.text_ucp_explanation.specs.Explanation.{every_explanation};
 ghost use Rattle.io_ucp.specs.Records.{Leaves, WritesLines, WorksTurn, RunsLine};
 ghost use Rattle.io_streams.specs.Blocks.{Zeroed};
 
-use io_streams::{Gathered, Output, Turn};
+use io_streams::{Gathered, Output, Streams, Turn};
 use io_ucp::{BlockDone, Run, TurnDone};
 use text_output::TextRoom;
 use ucp_frame::BodyRoom;
@@ -24,6 +26,7 @@ use ucp_receiver::{Record, Store};
 
 // Explains the octets of a block, and writes the lines out.
 fn explain_block(
+    streams: Streams,
     receiver: Record,
     store: &mut Store,
     room: &mut BodyRoom,
@@ -45,7 +48,7 @@ fn explain_block(
         let more = explained.taken;
         receiver = more.receiver;
         taken += more.taken;
-        let gathered = io_streams::gather(buffer, waiting, text, explained.written);
+        let gathered = io_streams::gather(streams, buffer, waiting, text, explained.written);
         match gathered {
             Gathered::Failed => {
                 return io_ucp::block_done(receiver, Output::Failed);
@@ -56,12 +59,13 @@ fn explain_block(
             }
         }
     }
-    let output = io_streams::write_waiting(buffer, waiting, written);
+    let output = io_streams::write_waiting(streams, buffer, waiting, written);
     io_ucp::block_done(receiver, output)
 }
 
 // A turn: explains its octets of the block, and reads on.
 fn explain_turn(
+    streams: Streams,
     receiver: Record,
     store: &mut Store,
     room: &mut BodyRoom,
@@ -74,12 +78,13 @@ fn explain_turn(
     ensures { WorksTurn every_explanation receiver store.old block.old turn result store.new }
 {
     let end = turn.octets;
-    let done = explain_block(receiver, store, room, &block[..end], text, buffer);
-    io_ucp::follow(done, block, turn.left)
+    let done = explain_block(streams, receiver, store, room, &block[..end], text, buffer);
+    io_ucp::follow(streams, done, block, turn.left)
 }
 
 // Explains all of the input, turn by turn from a fresh record.
 fn explain_input(
+    streams: Streams,
     store: &mut Store,
     room: &mut BodyRoom,
     block: &mut [u8],
@@ -90,19 +95,19 @@ fn explain_input(
     ensures { RunsLine every_explanation (state_of fresh_rest store.old) zero_counts result text.new }
 {
     let mut receiver = ucp_receiver::octet::fresh_record();
-    let mut turn = io_streams::first_turn(block);
+    let mut turn = io_streams::first_turn(streams, block);
     let mut octets = 0;
     let mut written = 0;
     while turn.left > 0 {
         octets = std::num::wrapping_add_usize(octets, turn.octets);
-        let done = explain_turn(receiver, store, room, block, text, buffer, turn);
+        let done = explain_turn(streams, receiver, store, room, block, text, buffer, turn);
         receiver = done.receiver;
         turn = done.turn;
         written = std::num::wrapping_add_usize(written, done.written);
     }
     let input = turn.input;
     let counts = receiver.counts;
-    let whole = io_ucp::write_ending(input, text, counts);
+    let whole = io_ucp::write_ending(streams, input, text, counts);
     Run {
         whole: whole,
         octets: octets,
@@ -130,18 +135,38 @@ fn clear_lent(
 
 // The call of `explain_block` with the cleared block, which brings no line, is there for its place: a function with two callers
 // is compiled as one of its own, and all that it leaves on the stack lies below main's part, where `clear_stack` clears.
-fn main() {
+fn main(rt: HostRuntime) {
+    let streams = Streams {
+        input: rt.stdin(),
+        output: rt.stdout(),
+        errors: rt.stderr(),
+    };
     let mut store = [0u8; ucp_receiver::STORE_OCTETS];
     let mut room = [0u8; ucp_frame::LONGEST_BODY];
-    let mut block = io::large_buffer();
+    let mut block = [0u8; 65536];
     let mut text = [0u8; text_output::TEXT_ROOM];
-    let mut buffer = io::large_buffer();
-    let run = explain_input(&mut store, &mut room, &mut block, &mut text, &mut buffer);
+    let mut buffer = [0u8; 65536];
+    let run = explain_input(
+        streams,
+        &mut store,
+        &mut room,
+        &mut block,
+        &mut text,
+        &mut buffer,
+    );
     clear_lent(&mut store, &mut room, &mut block, &mut text, &mut buffer);
     let none = ucp_receiver::octet::fresh_record();
-    explain_block(none, &mut store, &mut room, &block, &mut text, &mut buffer);
+    explain_block(
+        streams,
+        none,
+        &mut store,
+        &mut room,
+        &block,
+        &mut text,
+        &mut buffer,
+    );
     io_streams::clear_stack();
     if run.whole {
-        io_streams::close_output();
+        io_streams::close_output(&rt, streams);
     }
 }

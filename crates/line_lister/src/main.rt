@@ -7,7 +7,9 @@
 //
 // Where a read fails, what was listed so far has been written out already, the failure is said on standard error, and no
 // closing line follows: one stands only behind an input that was read to its end. Where a write fails the failure is said and
-// nothing more is written. A pipe that is closed behind the program ends it by a signal, and nothing is said.
+// nothing more is written. Where the output is a pipe that is closed behind the program, nothing more is written and nothing said.
+#![tactic(auto)]
+
 ghost use Rattle.std.specs.Prelude.{◌≤◌, length};
 ghost use Rattle.text_ucp_listing.specs.Listing.{longest_line};
 ghost use Rattle.ucp_receiver.specs.Account.{zero_counts};
@@ -15,13 +17,14 @@ ghost use Rattle.ucp_receiver.specs.Octet.{state_of, fresh_rest};
 ghost use Rattle.text_ucp_listing.specs.Lists.{behind_all, every_line};
 ghost use Rattle.io_ucp.specs.Records.{Leaves, WritesLines, WorksTurn, RunsLine};
 
-use io_streams::{Output, Turn};
+use io_streams::{Output, Streams, Turn};
 use io_ucp::{BlockDone, Run, TurnDone};
 use ucp_frame::BodyRoom;
 use ucp_receiver::{Record, Store};
 
 // Lists the octets of a block, and writes the text out each time that it is full, and at the block's end.
 fn list_block(
+    streams: Streams,
     receiver: Record,
     store: &mut Store,
     room: &mut BodyRoom,
@@ -39,7 +42,7 @@ fn list_block(
         let listed = text_ucp_listing::list_some(receiver, store, room, &block[taken..], text);
         receiver = listed.receiver;
         taken += listed.taken;
-        let output = io_streams::write_lines(text, listed.written);
+        let output = io_streams::write_lines(streams, text, listed.written);
         match output {
             Output::Failed => {
                 return io_ucp::block_done(receiver, Output::Failed);
@@ -54,6 +57,7 @@ fn list_block(
 
 // A turn: lists its octets of the block, and reads on.
 fn list_turn(
+    streams: Streams,
     receiver: Record,
     store: &mut Store,
     room: &mut BodyRoom,
@@ -65,29 +69,35 @@ fn list_turn(
     ensures { WorksTurn every_line receiver store.old block.old turn result store.new }
 {
     let end = turn.octets;
-    let done = list_block(receiver, store, room, &block[..end], text);
-    io_ucp::follow(done, block, turn.left)
+    let done = list_block(streams, receiver, store, room, &block[..end], text);
+    io_ucp::follow(streams, done, block, turn.left)
 }
 
 // Lists all of the input, turn by turn from a fresh record.
-fn list_input(store: &mut Store, room: &mut BodyRoom, block: &mut [u8], text: &mut [u8]) -> Run
+fn list_input(
+    streams: Streams,
+    store: &mut Store,
+    room: &mut BodyRoom,
+    block: &mut [u8],
+    text: &mut [u8],
+) -> Run
     requires { longest_line ≤ length text.old }
     ensures { RunsLine every_line (state_of fresh_rest store.old) zero_counts result text.new }
 {
     let mut receiver = ucp_receiver::octet::fresh_record();
-    let mut turn = io_streams::first_turn(block);
+    let mut turn = io_streams::first_turn(streams, block);
     let mut octets = 0;
     let mut written = 0;
     while turn.left > 0 {
         octets = std::num::wrapping_add_usize(octets, turn.octets);
-        let done = list_turn(receiver, store, room, block, text, turn);
+        let done = list_turn(streams, receiver, store, room, block, text, turn);
         receiver = done.receiver;
         turn = done.turn;
         written = std::num::wrapping_add_usize(written, done.written);
     }
     let input = turn.input;
     let counts = receiver.counts;
-    let whole = io_ucp::write_ending(input, text, counts);
+    let whole = io_ucp::write_ending(streams, input, text, counts);
     Run {
         whole: whole,
         octets: octets,
@@ -95,15 +105,20 @@ fn list_input(store: &mut Store, room: &mut BodyRoom, block: &mut [u8], text: &m
     }
 }
 
-fn main() {
+fn main(rt: HostRuntime) {
+    let streams = Streams {
+        input: rt.stdin(),
+        output: rt.stdout(),
+        errors: rt.stderr(),
+    };
     let mut store = [0u8; ucp_receiver::STORE_OCTETS];
     let mut room = [0u8; ucp_frame::LONGEST_BODY];
-    let mut block = io::large_buffer();
-    let mut text = io::large_buffer();
-    let run = list_input(&mut store, &mut room, &mut block, &mut text);
+    let mut block = [0u8; 65536];
+    let mut text = [0u8; 65536];
+    let run = list_input(streams, &mut store, &mut room, &mut block, &mut text);
     io_ucp::clear_lent(&mut store, &mut room, &mut block, &mut text);
     io_streams::clear_stack();
     if run.whole {
-        io_streams::close_output();
+        io_streams::close_output(&rt, streams);
     }
 }

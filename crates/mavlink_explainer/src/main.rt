@@ -8,6 +8,8 @@
 //
 // Where a read or a write fails the line lister's rules hold: what was explained has been written out, the failure is said on
 // standard error, and no closing line follows.
+#![tactic(auto)]
+
 ghost use Rattle.std.specs.Prelude.{◌≡◌, ◌-◌, ◌≤◌, length, drop, if◌then◌else◌};
 ghost use Rattle.std.proofs.Math.Seq.{paste};
 ghost use Rattle.io_streams.specs.declared.Input.TheVariants.{More, Ended, Failed};
@@ -16,13 +18,13 @@ ghost use Rattle.text_output.specs.Clips.{text_room};
 ghost use Rattle.text_mavlink_explanation.specs.Decided.{frame_room};
 ghost use Rattle.mavlink_explainer.specs.Blocks.{input_of, octets_out, explains, Explores, WorksFrames, FramesClosed, RunsFrames};
 
-use io_streams::{Gathered, Input, Output, Turn};
+use io_streams::{Gathered, Input, Output, Streams, Turn};
 use text_output::TextRoom;
 
 // How far the frames are explained: how many, the octets that they used, and how many octets behind them are left of the block.
 // The input has ended where it is at its end or a frame was refused. So many octets of text went out for the block, modulo
 // 2^64: so far a contract can say what is written.
-#[derive(Drop)]
+#[derive(Clone, Copy)]
 struct Progress {
     frames: u64,
     bytes: u64,
@@ -93,6 +95,7 @@ fn stopped(frames: u64, bytes: u64, count: usize, used: usize, left: usize) -> P
 // Explains the frames of a block, and writes their lines out. A frame is decided where 50 octets are there, or the input has
 // ended (`last`).
 fn explain_block(
+    streams: Streams,
     frames: u64,
     bytes: u64,
     last: bool,
@@ -111,20 +114,20 @@ fn explain_block(
     while least <= left {
         let used = block.len() - left;
         let explained = text_mavlink_explanation::explain_frame(&block[used..], text);
-        let gathered = io_streams::gather(buffer, waiting, text, explained.written);
+        let gathered = io_streams::gather(streams, buffer, waiting, text, explained.written);
         let Gathered::Waiting(next, out) = gathered else {
             return stopped(frames, bytes, count, used, left);
         };
         waiting = next;
         written = std::num::wrapping_add_usize(written, out);
         if explained.refused {
-            let output = io_streams::write_waiting(buffer, waiting, written);
+            let output = io_streams::write_waiting(streams, buffer, waiting, written);
             return progressed(frames, bytes, count, used, left, Input::Ended, output);
         }
         count += 1;
         left -= explained.used;
     }
-    let output = io_streams::write_waiting(buffer, waiting, written);
+    let output = io_streams::write_waiting(streams, buffer, waiting, written);
     let used = block.len() - left;
     progressed(frames, bytes, count, used, left, goes_on(last), output)
 }
@@ -142,15 +145,15 @@ fn carry(block: &mut [u8], from: usize, end: usize)
 }
 
 // The closing line, and whether it was written.
-fn write_closing(text: &mut TextRoom, frames: u64, bytes: u64) -> bool
+fn write_closing(streams: Streams, text: &mut TextRoom, frames: u64, bytes: u64) -> bool
     ensures { FramesClosed frames bytes text.old text.new }
 {
     let n = text_mavlink_explanation::put_closing(text, frames, bytes);
-    io_streams::write_first(text, n)
+    io_streams::write_first(streams, text, n)
 }
 
 // What a turn came to, and the turn that follows.
-#[derive(Drop)]
+#[derive(Clone, Copy)]
 struct TurnDone {
     progress: Progress,
     turn: Turn,
@@ -159,6 +162,7 @@ struct TurnDone {
 // A turn: explains the frames in its octets of the block, carries over those that do not decide a frame yet, and reads on
 // behind them.
 fn explain_turn(
+    streams: Streams,
     frames: u64,
     bytes: u64,
     block: &mut [u8],
@@ -172,11 +176,11 @@ fn explain_turn(
     let end = turn.octets;
     let input = turn.input;
     let last = io_streams::has_ended(input);
-    let progress = explain_block(frames, bytes, last, &block[..end], text, buffer);
+    let progress = explain_block(streams, frames, bytes, last, &block[..end], text, buffer);
     let held = progress.left;
     carry(block, end - held, end);
     let input = progress.input;
-    let next = io_streams::next_turn(input, block, held, turn.left);
+    let next = io_streams::next_turn(streams, input, block, held, turn.left);
     TurnDone {
         progress: progress,
         turn: next,
@@ -184,15 +188,15 @@ fn explain_turn(
 }
 
 // Explains all of the input, and answers whether it came to its end or to a refused frame, and all was written.
-fn explain_input(block: &mut [u8], text: &mut TextRoom, buffer: &mut [u8]) -> bool
+fn explain_input(streams: Streams, block: &mut [u8], text: &mut TextRoom, buffer: &mut [u8]) -> bool
     requires { text_room ≤ length buffer.old }
     ensures { RunsFrames result text.new }
 {
     let mut frames: u64 = 0;
     let mut bytes: u64 = 0;
-    let mut turn = io_streams::first_turn(block);
+    let mut turn = io_streams::first_turn(streams, block);
     while turn.left > 0 {
-        let done = explain_turn(frames, bytes, block, text, buffer, turn);
+        let done = explain_turn(streams, frames, bytes, block, text, buffer, turn);
         let progress = done.progress;
         frames = progress.frames;
         bytes = progress.bytes;
@@ -200,7 +204,7 @@ fn explain_input(block: &mut [u8], text: &mut TextRoom, buffer: &mut [u8]) -> bo
     }
     let input = turn.input;
     if io_streams::has_ended(input) {
-        return write_closing(text, frames, bytes);
+        return write_closing(streams, text, frames, bytes);
     }
     false
 }
@@ -218,15 +222,20 @@ fn clear_lent(block: &mut [u8], text: &mut TextRoom, buffer: &mut [u8])
 
 // The call of `explain_block` with no octets, which brings no line, is there for its place: a function with two callers is
 // compiled as one of its own, and all that it leaves on the stack lies below main's part, where `clear_stack` clears.
-fn main() {
-    let mut block = io::large_buffer();
+fn main(rt: HostRuntime) {
+    let streams = Streams {
+        input: rt.stdin(),
+        output: rt.stdout(),
+        errors: rt.stderr(),
+    };
+    let mut block = [0u8; 65536];
     let mut text = [0u8; text_output::TEXT_ROOM];
-    let mut buffer = io::large_buffer();
-    let whole = explain_input(&mut block, &mut text, &mut buffer);
+    let mut buffer = [0u8; 65536];
+    let whole = explain_input(streams, &mut block, &mut text, &mut buffer);
     clear_lent(&mut block, &mut text, &mut buffer);
-    explain_block(0, 0, whole, &[], &mut text, &mut buffer);
+    explain_block(streams, 0, 0, whole, &[], &mut text, &mut buffer);
     io_streams::clear_stack();
     if whole {
-        io_streams::close_output();
+        io_streams::close_output(&rt, streams);
     }
 }

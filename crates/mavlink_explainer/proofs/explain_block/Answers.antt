@@ -1,0 +1,95 @@
+-- `mavlink_explainer::explain_block` meets its contract. The loop's invariant: walking what is left walks the whole block, behind
+-- the lines so far, of which as many octets went out or wait. Assumes nothing.
+use Rattle.mavlink_explainer.proofs.Turns.{turn_within, turn_uses, from_start, next_frame, at_failure, at_refused, at_end}
+use Rattle.text_mavlink_explanation.specs.declared.Explained.{Explained}
+use Rattle.text_mavlink_explanation.specs.Calls.{ExplainsFrame}
+use Rattle.io_streams.specs.Gathering.{WritesWaiting}
+use Rattle.io_streams.proofs.Gathering.{gathered_line, makes_up}
+use Rattle.std.proofs.Common.{◌≡◌, ℕ, ◌+◌, ◌-◌, ◌%◌, ◌^◌, ◌≤◌, min, List, length, take, drop, refl, ap, ◌∙◌, subst, arith, length-drop, take_all}
+use Rattle.mavlink_explainer.proofs.explain_block.Goals as goal
+
+-- what a turn explains, of the part of the block that is left
+explained : (block : List ℕ) (left : ℕ) {text : List ℕ} {given : Explained} {after : List ℕ} → left ≤ length block
+    → ExplainsFrame (take (length block - (length block - left)) (drop (length block - left) block)) text given after
+    → ExplainsFrame (drop (length block - left) block) text given after
+explained block left h e =
+    let used = length block - left in
+    let all : take (length block - used) (drop used block) ≡ drop used block =
+    take_all (length block - used) (drop used block) (simp length-drop (omega arith)) in
+    rw all at e
+
+-- as many octets went out or wait as before, and the line's
+adds : (written waiting n out next now : ℕ) → now ≡ (written + out) % 2 ^ 64 → out + next ≡ waiting + n
+    → (now + next) % 2 ^ 64 ≡ ((written + waiting) % 2 ^ 64 + n) % 2 ^ 64
+adds written waiting n out next now e f = ap (λ (k : ℕ). (k + next) % 2 ^ 64) e ∙ makes_up written waiting n out next f
+
+pub loop-left-init : goal.loop-left-init
+loop-left-init c = (omega arith, from_start c.least_octets-least.result c.args.block.now, refl, omega arith)
+
+pub overflow_sub-used : goal.overflow_sub-used
+overflow_sub-used c = omega (arith, c.loop-left.invariant.0)
+
+pub shape_of-buffer-in_default : goal.shape_of-buffer-in_default
+shape_of-buffer-in_default c = c.gather-gathered.auto.buffer ∙ c.loop-left.invariant.2
+
+pub returns-in_default : goal.returns-in_default
+returns-in_default c =
+    let l = c.loop-left in
+    let a = c.args in
+    let least = c.least_octets-least in
+    rw c.stopped.ensures
+    (at_failure least.result a.block.now l.count l.left _ (omega (arith, l.invariant.0)) l.invariant.1 a.last least.ensures a.frames a.bytes)
+
+pub shape_of-buffer-then-explained : goal.shape_of-buffer-then-explained
+shape_of-buffer-then-explained c = c.gather-gathered.auto.buffer ∙ c.loop-left.invariant.2
+
+pub returns-then-explained : goal.returns-then-explained
+returns-then-explained c =
+    let l = c.loop-left in
+    let a = c.args in
+    let least = c.least_octets-least in
+    let next = c.in-Waiting.next in
+    let w = c.write_waiting-output in
+    let waits : min next (length c.gather-gathered.new.buffer) ≡ next = omega (arith, (gathered_line c.explain_frame-explained.new.text c.loop-left.waiting c.explain_frame-explained.result.written (rw c.in-Waiting.is at c.gather-gathered.ensures) c.loop-left.invariant.3 (omega (arith, (explained c.args.block.now c.loop-left.left (omega (arith, c.loop-left.invariant.0)) c.explain_frame-explained.ensures).line.within, c.loop-left.invariant.2, c.requires)) (omega (arith, (explained c.args.block.now c.loop-left.left (omega (arith, c.loop-left.invariant.0)) c.explain_frame-explained.ensures).line.within))).0, c.gather-gathered.auto.buffer) in
+    rw c.progressed.ensures
+    (at_refused least.result a.block.now l.count l.left _ (omega (arith, l.invariant.0)) l.invariant.1 a.last least.ensures a.frames a.bytes (explained c.args.block.now c.loop-left.left (omega (arith, c.loop-left.invariant.0)) c.explain_frame-explained.ensures) c.loop-left-test.true c.if-explained.true
+    c.wrapping_add_usize-written.result next (adds c.loop-left.written c.loop-left.waiting c.explain_frame-explained.result.written c.in-Waiting.out c.in-Waiting.next c.wrapping_add_usize-written.result c.wrapping_add_usize-written.ensures.value (gathered_line c.explain_frame-explained.new.text c.loop-left.waiting c.explain_frame-explained.result.written (rw c.in-Waiting.is at c.gather-gathered.ensures) c.loop-left.invariant.3 (omega (arith, (explained c.args.block.now c.loop-left.left (omega (arith, c.loop-left.invariant.0)) c.explain_frame-explained.ensures).line.within, c.loop-left.invariant.2, c.requires)) (omega (arith, (explained c.args.block.now c.loop-left.left (omega (arith, c.loop-left.invariant.0)) c.explain_frame-explained.ensures).line.within))).1) w.result (subst (λ (k : ℕ). WritesWaiting c.wrapping_add_usize-written.result k w.result) waits w.ensures))
+
+pub overflow_add-count : goal.overflow_add-count
+overflow_add-count c = omega (arith, c.loop-left.invariant.0, c.well_formed, turn_uses (explained c.args.block.now c.loop-left.left (omega (arith, c.loop-left.invariant.0)) c.explain_frame-explained.ensures) c.if-explained.false, simp length-drop at (turn_within (explained c.args.block.now c.loop-left.left (omega (arith, c.loop-left.invariant.0)) c.explain_frame-explained.ensures)))
+
+pub overflow_sub-left : goal.overflow_sub-left
+overflow_sub-left c = omega (arith, c.loop-left.invariant.0, simp length-drop at (turn_within (explained c.args.block.now c.loop-left.left (omega (arith, c.loop-left.invariant.0)) c.explain_frame-explained.ensures)))
+
+pub loop-left-smaller : goal.loop-left-smaller
+loop-left-smaller c = omega (arith, c.loop-left.invariant.0, turn_uses (explained c.args.block.now c.loop-left.left (omega (arith, c.loop-left.invariant.0)) c.explain_frame-explained.ensures) c.if-explained.false, simp length-drop at (turn_within (explained c.args.block.now c.loop-left.left (omega (arith, c.loop-left.invariant.0)) c.explain_frame-explained.ensures)))
+
+pub loop-left-preserved : goal.loop-left-preserved
+loop-left-preserved c =
+    let l = c.loop-left in
+    let a = c.args in
+    let least = c.least_octets-least in
+    let e = explained c.args.block.now c.loop-left.left (omega (arith, c.loop-left.invariant.0)) c.explain_frame-explained.ensures in
+    let kept = c.gather-gathered.auto.buffer in (
+      omega (arith, l.invariant.0, turn_uses e c.if-explained.false, simp length-drop at (turn_within e)),
+      next_frame least.result a.block.now l.count l.left _ (omega (arith, l.invariant.0)) l.invariant.1 e c.loop-left-test.true c.if-explained.false _ (adds c.loop-left.written c.loop-left.waiting c.explain_frame-explained.result.written c.in-Waiting.out c.in-Waiting.next c.wrapping_add_usize-written.result c.wrapping_add_usize-written.ensures.value (gathered_line c.explain_frame-explained.new.text c.loop-left.waiting c.explain_frame-explained.result.written (rw c.in-Waiting.is at c.gather-gathered.ensures) c.loop-left.invariant.3 (omega (arith, (explained c.args.block.now c.loop-left.left (omega (arith, c.loop-left.invariant.0)) c.explain_frame-explained.ensures).line.within, c.loop-left.invariant.2, c.requires)) (omega (arith, (explained c.args.block.now c.loop-left.left (omega (arith, c.loop-left.invariant.0)) c.explain_frame-explained.ensures).line.within))).1),
+      kept ∙ l.invariant.2,
+      omega (arith, (gathered_line c.explain_frame-explained.new.text c.loop-left.waiting c.explain_frame-explained.result.written (rw c.in-Waiting.is at c.gather-gathered.ensures) c.loop-left.invariant.3 (omega (arith, (explained c.args.block.now c.loop-left.left (omega (arith, c.loop-left.invariant.0)) c.explain_frame-explained.ensures).line.within, c.loop-left.invariant.2, c.requires)) (omega (arith, (explained c.args.block.now c.loop-left.left (omega (arith, c.loop-left.invariant.0)) c.explain_frame-explained.ensures).line.within))).0, kept),
+    )
+
+pub overflow_sub-used-2 : goal.overflow_sub-used-2
+overflow_sub-used-2 c = omega (arith, c.loop-left.invariant.0)
+
+pub shape_of-buffer : goal.shape_of-buffer
+shape_of-buffer c = c.loop-left.invariant.2
+
+pub returns : goal.returns
+returns c =
+    let l = c.loop-left in
+    let a = c.args in
+    let least = c.least_octets-least in
+    let w = c.write_waiting-output-2 in
+    let waits : min l.waiting (length l.buffer) ≡ l.waiting = omega (arith, l.invariant.3) in
+    rw (c.progressed-2.ensures, c.goes_on.ensures)
+    (at_end least.result a.block.now l.count l.left _ (omega (arith, l.invariant.0)) l.invariant.1 a.last least.ensures a.frames a.bytes (omega (arith, c.loop-left-test.false))
+    l.written l.waiting refl w.result (subst (λ (k : ℕ). WritesWaiting l.written k w.result) waits w.ensures))
