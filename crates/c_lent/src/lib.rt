@@ -1,5 +1,7 @@
 // What the calls of one kind answer and leave in what they are lent: definitions, the numbers that they answer with, and what
 // more than one kind's calls do.
+#![tactic(auto)]
+
 ghost use Rattle.std.specs.Prelude.{◌≡◌};
 ghost use Rattle.c_lent.specs.Sends.{FramesWritten};
 ghost use Rattle.c_lent.specs.Steps.{first_refusal, numbered_answer};

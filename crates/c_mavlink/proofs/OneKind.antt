@@ -10,7 +10,7 @@ use lib.ListN.{length, get_or}
 use Rattle.field_format.specs.Format.{value_in}
 use Rattle.mavlink_frame.specs.declared.Header.{Header}
 use Rattle.mavlink_frame.specs.Frame.{start}
-use Rattle.mavlink_frame.specs.Reader as found_as
+use Rattle.mavlink_frame.specs.Reader as answered
 use Rattle.mavlink_frame.specs.Reader.{FrameAnswer, payload_at, found}
 use Rattle.mavlink_frame.proofs.reader.Accepted.{accepted}
 use Rattle.mavlink_messages.specs.declared.Message.{Message}
@@ -92,8 +92,8 @@ module _ (s : List ℕ) (h : Header) (used : ℕ) (m : Message) (f : FailureAnsw
   is_found = go (found s) refl e
     where
       go : (l : FrameAnswer) → found s ≡ l → read_by l s ≡ means h used m f → Found
-      go (found_as.refused number) q d = let z : ◌≡◌ {A = ℕ} 0 1 = cc in absurd (omega arith)
-      go (found_as.frame id h₀ used₀) q d =
+      go (answered.refused number) q d = let z : ◌≡◌ {A = ℕ} 0 1 = cc in absurd (omega arith)
+      go (answered.frame id h₀ used₀) q d =
           let a = accepted s id h₀ used₀ q in
           let n = payload_named id h₀ used₀ (payload_at (used₀ - 8) s) h used m f d in
           record {

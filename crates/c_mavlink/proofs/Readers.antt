@@ -10,7 +10,7 @@ use lib.ListN.{length, get_or}
 use Rattle.field_format.specs.Format.{Format, value_in}
 use Rattle.mavlink_frame.specs.declared.Header.{Header}
 use Rattle.mavlink_frame.specs.declared.Kind.{Kind}
-use Rattle.mavlink_frame.specs.Reader as found_as
+use Rattle.mavlink_frame.specs.Reader as answered
 use Rattle.mavlink_frame.specs.Frame.{KindAnswer, known, mavlink_kind, start}
 use Rattle.mavlink_frame.specs.Reader.{FrameAnswer, header_at, payload_at, check_at, check_due, found_of, found_by, found}
 use Rattle.mavlink_frame.proofs.reader.Tests.{other_length, short, wrong, right}
@@ -31,7 +31,7 @@ module _ (id : ℕ) (s : List ℕ) where
   no_header h = rw (lt-leb _ _ h)
 
 module _ (k : Kind) (s : List ℕ) where
-  refusing : {number : ℕ} → 0 < number → found_as k.id s ≡ found_as.refused number → Before k s number
+  refusing : {number : ℕ} → 0 < number → found_as k.id s ≡ answered.refused number → Before k s number
   refusing some e = record { refused = λ h. e; whole = λ z. absurd (omega arith) }
 
   pub empty : length s ≡ 0 → Before k s 20
@@ -96,7 +96,7 @@ module _ (k : Kind) (s : List ℕ) where
 -- ---- the answers
 module _ (header message : List ℕ) where
   -- refused up to the check
-  pub frame_refused : (id : ℕ) (s : List ℕ) {number : ℕ} → found_as id s ≡ found_as.refused number
+  pub frame_refused : (id : ℕ) (s : List ℕ) {number : ℕ} → found_as id s ≡ answered.refused number
       → ReadsMavlink (read_as id s) header message number header message
   frame_refused id s e = rw e (record { answers = refl; leaves_header = refl; leaves_message = refl })
 

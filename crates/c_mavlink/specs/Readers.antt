@@ -2,7 +2,7 @@
 -- 25 and the paragraph below it). Assumes nothing.
 use Rattle.std.specs.Prelude.{◌≡◌, Bool, cond, not, ◌&&◌, List, ℕ, eqb, leb, length, get_or}
 use Rattle.refusals.specs.Numbers as because
-use Rattle.mavlink_frame.specs.Reader as found_as
+use Rattle.mavlink_frame.specs.Reader as answered
 use Rattle.mavlink_frame.specs.Frame.{start}
 use Rattle.mavlink_frame.specs.Reader.{FrameAnswer, found}
 use Rattle.mavlink_messages.specs.Messages.{MavlinkAnswer, refused, means, read_by}
@@ -15,7 +15,7 @@ is_other id s = leb 6 (length s) && (eqb (get_or s 0 0) start && not (eqb (get_o
 
 -- as `found` and `read_due`, but at the test of the message ID 22 for another kind's too
 unfoldable pub found_as : ℕ → List ℕ → FrameAnswer
-found_as id s = cond (is_other id s) (found_as.refused because.mavlink_unknown_id) (found s)
+found_as id s = cond (is_other id s) (answered.refused because.mavlink_unknown_id) (found s)
 
 abbrev pub read_as : ℕ → List ℕ → MavlinkAnswer
 read_as id s = read_by (found_as id s) s

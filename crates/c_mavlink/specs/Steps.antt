@@ -3,7 +3,7 @@ use Rattle.std.specs.Prelude.{◌≡◌, List, ℕ, ◌+◌, ◌<◌, ◌≤◌,
 use Rattle.mavlink_frame.specs.declared.Kind.{Kind}
 use Rattle.mavlink_frame.specs.Frame.{KindAnswer, known, unknown, mavlink_kind}
 use Rattle.mavlink_frame.specs.Reader.{frame, header_at, found_of}
-use Rattle.mavlink_frame.specs.Reader as found_as
+use Rattle.mavlink_frame.specs.Reader as answered
 use Rattle.c_mavlink.specs.Readers.{found_as}
 
 -- an input that begins with a right frame of a kind
@@ -23,10 +23,10 @@ pub record WholeOfKind (k : Kind) (s : List ℕ) : Type 0 where
 
 -- the refusal that is due before the check; 0 where there is none
 pub record Before (k : Kind) (s : List ℕ) (refusal : ℕ) : Type 0 where
-  pub refused : 0 < refusal → found_as k.id s ≡ found_as.refused refusal
+  pub refused : 0 < refusal → found_as k.id s ≡ answered.refused refusal
   pub whole : refusal ≡ 0 → WholeOfKind k s
 
 -- the refusal that is due up to the check; 0 where the frame is right
 pub record Tested (id : ℕ) (s : List ℕ) (refusal : ℕ) : Type 0 where
-  pub refused : 0 < refusal → found_as id s ≡ found_as.refused refusal
+  pub refused : 0 < refusal → found_as id s ≡ answered.refused refusal
   pub taken : refusal ≡ 0 → TakenBy (mavlink_kind id) s

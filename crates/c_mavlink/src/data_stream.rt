@@ -24,8 +24,7 @@ fn refusal_of(input: &[u8]) -> u32
 
 // Reads the message in the frame at the start of input into both structs: 0, or the refusal that is due, and then both are as
 // they were.
-#[unsafe(no_mangle)]
-pub extern "C" fn ostrogosz_mavlink_read_data_stream(
+pub fn ostrogosz_mavlink_read_data_stream(
     input: &[u8],
     header: &mut [u8; 3],
     message: &mut [u8; 6],
@@ -54,8 +53,7 @@ fn write(message: &[u8], header: &[u8], output: &mut [u8]) -> OstrogoszWritten
 }
 
 // Writes the frame of the message that a struct holds at the start of output: 8.
-#[unsafe(no_mangle)]
-pub extern "C" fn ostrogosz_mavlink_write_data_stream(
+pub fn ostrogosz_mavlink_write_data_stream(
     message: &[u8; 6],
     header: &[u8; 3],
     output: &mut [u8],

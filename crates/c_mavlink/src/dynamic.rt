@@ -22,8 +22,7 @@ fn fits(octets: &[u8]) -> bool
 
 // Reads the message in the frame at the start of input into both structs: 0, or the refusal that is due, and then both are as
 // they were.
-#[unsafe(no_mangle)]
-pub extern "C" fn ostrogosz_mavlink_read_dynamic(
+pub fn ostrogosz_mavlink_read_dynamic(
     input: &[u8],
     header: &mut [u8; 3],
     message: &mut [u8; 44],
@@ -54,8 +53,7 @@ fn write(message: &[u8], header: &[u8], output: &mut [u8]) -> OstrogoszWritten
 }
 
 // Writes the frame of the message that a struct holds at the start of output: 25, then 8.
-#[unsafe(no_mangle)]
-pub extern "C" fn ostrogosz_mavlink_write_dynamic(
+pub fn ostrogosz_mavlink_write_dynamic(
     message: &[u8; 44],
     header: &[u8; 3],
     output: &mut [u8],

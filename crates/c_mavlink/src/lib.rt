@@ -1,11 +1,13 @@
 // The MAVLink messages for C: a message and the header of its frame lie in the caller's structs, which are lent as their octets;
 // include/ostrogosz.h says the same in C.
-mod data_stream;
-mod dynamic;
+#![tactic(auto)]
+
+pub mod data_stream;
+pub mod dynamic;
 mod frames;
-mod static_data;
-mod status;
-mod traffic;
+pub mod static_data;
+pub mod status;
+pub mod traffic;
 
 ghost use Rattle.std.specs.Prelude.{◌≡◌, ◌≤◌, length};
 ghost use Rattle.mavlink_frame.specs.Reader.{found_of};
@@ -30,7 +32,7 @@ const FIELD: u32 = refusals::MAVLINK_FIELD as u32;
 
 // What kind of frame stands at the start of an input.
 #[repr(C)]
-#[derive(Drop)]
+#[derive(Clone, Copy)]
 pub struct OstrogoszMavlinkId {
     // 0, or a refusal's number: 20 to 23. On a refusal all else is 0.
     pub refusal: u32,
@@ -42,7 +44,7 @@ pub struct OstrogoszMavlinkId {
 
 // The failures that a status reports.
 #[repr(C)]
-#[derive(Drop)]
+#[derive(Clone, Copy)]
 pub struct OstrogoszMavlinkFailures {
     // How many of the failure bits 1 to 4 are set.
     pub count: u32,
@@ -82,8 +84,7 @@ fn id_of(kind: Kind, input: &[u8]) -> OstrogoszMavlinkId
 
 // The message ID of the frame at the start of input, and how many octets the frame has. Neither its check nor its fields are
 // looked at.
-#[unsafe(no_mangle)]
-pub extern "C" fn ostrogosz_mavlink_read_id(input: &[u8]) -> OstrogoszMavlinkId
+pub fn ostrogosz_mavlink_read_id(input: &[u8]) -> OstrogoszMavlinkId
     ensures { result ≡ mavlink_id_due input.now }
 {
     let n = input.len();
@@ -104,8 +105,7 @@ pub extern "C" fn ostrogosz_mavlink_read_id(input: &[u8]) -> OstrogoszMavlinkId
 }
 
 // The failure bits of a status.
-#[unsafe(no_mangle)]
-pub extern "C" fn ostrogosz_mavlink_count_failures(status: u8) -> OstrogoszMavlinkFailures
+pub fn ostrogosz_mavlink_count_failures(status: u8) -> OstrogoszMavlinkFailures
     ensures { result ≡ failure_numbers (failures_in status) }
 {
     OstrogoszMavlinkFailures {

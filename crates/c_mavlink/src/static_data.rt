@@ -42,8 +42,7 @@ fn fill(input: &[u8], message: &mut [u8; 20])
 
 // Reads the message in the frame at the start of input into both structs: 0, or the refusal that is due, and then both are as
 // they were.
-#[unsafe(no_mangle)]
-pub extern "C" fn ostrogosz_mavlink_read_static(
+pub fn ostrogosz_mavlink_read_static(
     input: &[u8],
     header: &mut [u8; 3],
     message: &mut [u8; 20],
@@ -102,8 +101,7 @@ fn write(message: &[u8], header: &[u8], output: &mut [u8]) -> OstrogoszWritten
 }
 
 // Writes the frame of the message that a struct holds at the start of output: 25, then 8.
-#[unsafe(no_mangle)]
-pub extern "C" fn ostrogosz_mavlink_write_static(
+pub fn ostrogosz_mavlink_write_static(
     message: &[u8; 20],
     header: &[u8; 3],
     output: &mut [u8],

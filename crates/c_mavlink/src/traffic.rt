@@ -19,8 +19,7 @@ fn fits(octets: &[u8]) -> bool
 
 // Reads the message in the frame at the start of input into both structs: 0, or the refusal that is due, and then both are as
 // they were.
-#[unsafe(no_mangle)]
-pub extern "C" fn ostrogosz_mavlink_read_traffic(
+pub fn ostrogosz_mavlink_read_traffic(
     input: &[u8],
     header: &mut [u8; 3],
     message: &mut [u8; 40],
@@ -51,8 +50,7 @@ fn write(message: &[u8], header: &[u8], output: &mut [u8]) -> OstrogoszWritten
 }
 
 // Writes the frame of the message that a struct holds at the start of output: 25, then 8.
-#[unsafe(no_mangle)]
-pub extern "C" fn ostrogosz_mavlink_write_traffic(
+pub fn ostrogosz_mavlink_write_traffic(
     message: &[u8; 40],
     header: &[u8; 3],
     output: &mut [u8],

@@ -1,4 +1,6 @@
 // Message 45, Control, for C: the message lies in the caller's struct, which is lent as its octets.
+#![tactic(auto)]
+
 ghost use Rattle.std.specs.Prelude.{◌≡◌, ◌&&◌, ltb, ◌++◌, ◌*◌, ◌<◌, ◌≤◌, length, get_or, take, drop};
 ghost use Rattle.field_words.specs.Words.{octets_up};
 ghost use Rattle.field_codes.specs.Codes.{is_squawk};
@@ -56,8 +58,7 @@ fn fill(body: &[u8], message: &mut [u8; 24])
 }
 
 // Reads a body into the struct: 0, or the refusal that is due, 10 to 13, and then the struct is as it was.
-#[unsafe(no_mangle)]
-pub extern "C" fn ostrogosz_ucp_read_control(body: &[u8], message: &mut [u8; 24]) -> u32
+pub fn ostrogosz_ucp_read_control(body: &[u8], message: &mut [u8; 24]) -> u32
     ensures { ReadsInto control_format control_struct body.now message.old result message.new }
 {
     let refusal = c_lent::first_refusal(body, 45, 18);
@@ -158,11 +159,7 @@ fn write(message: &[u8], output: &mut [u8]) -> OstrogoszWritten
 }
 
 // Writes the body of the message that a struct holds: 13, then 8.
-#[unsafe(no_mangle)]
-pub extern "C" fn ostrogosz_ucp_write_control(
-    message: &[u8; 24],
-    output: &mut [u8],
-) -> OstrogoszWritten
+pub fn ostrogosz_ucp_write_control(message: &[u8; 24], output: &mut [u8]) -> OstrogoszWritten
     ensures { WritesStructBody control_format (held control_struct message.now) output.old result output.new }
 {
     write(message, output)
@@ -220,11 +217,7 @@ fn send(message: &[u8], buffer: &mut [u8]) -> OstrogoszWritten
 }
 
 // Writes the frame of the message that a struct holds at the start of buffer, and leaves what is behind it: 13.
-#[unsafe(no_mangle)]
-pub extern "C" fn ostrogosz_ucp_send_control(
-    message: &[u8; 24],
-    buffer: &mut FrameBuffer,
-) -> OstrogoszWritten
+pub fn ostrogosz_ucp_send_control(message: &[u8; 24], buffer: &mut FrameBuffer) -> OstrogoszWritten
     ensures { SendsStruct control_format (held control_struct message.now) buffer.old result buffer.new }
 {
     send(message, buffer)

@@ -37,13 +37,13 @@ abbrev whole : List ℕ → List ℕ
 whole m = 11 ∷ get_or m 1 0 ∷ get_or m 0 0 ∷ get_or m 3 0 ∷ get_or m 2 0 ∷ []
 
 module _ (m : List ℕ) (n : length m ≡ 4) (is : Octets m) where
-  body_of : body_of geometric_format (held geometric_struct m) ≡ whole m
+  body_of_lem : body_of geometric_format (held geometric_struct m) ≡ whole m
   unfolding body_of held
-  body_of =
+  body_of_lem =
       ap (λ (xs : List ℕ). body_of geometric_format (held geometric_struct xs)) (by_elements 4 m n)
       ∙ (λ i. 11
       ∷ (ap (λ (n : ℕ). n / 256 ∷ n % 256 ∷ []) (signed_two (get_or m 0 0) (get_or m 1 0) (is 0) (is 1)) ∙ big_two (get_or m 0 0) (get_or m 1 0) (is 0)) i
       ++ big_two (get_or m 2 0) (get_or m 3 0) (is 2) i)
 
   pub body_put : (output : List ℕ) → 5 ≤ length output → sets output 0 (whole m) ≡ body_of geometric_format (held geometric_struct m) ++ drop 5 output
-  body_put output room = sets-eq (whole m) output 0 room ∙ ap (λ (body : List ℕ). body ++ drop 5 output) (sym body_of)
+  body_put output room = sets-eq (whole m) output 0 room ∙ ap (λ (body : List ℕ). body ++ drop 5 output) (sym body_of_lem)

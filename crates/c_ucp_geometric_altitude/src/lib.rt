@@ -1,4 +1,6 @@
 // Message 11, Ownship geometric altitude, for C: the message lies in the caller's struct, which is lent as its octets.
+#![tactic(auto)]
+
 ghost use Rattle.std.specs.Prelude.{◌≡◌, ◌++◌, ◌≤◌, length, drop};
 ghost use Rattle.field_format.specs.Format.{value_in, body_of};
 ghost use Rattle.ucp_messages.specs.GeometricAltitude11.{geometric_format};
@@ -22,8 +24,7 @@ fn fill(body: &[u8], message: &mut [u8; 4])
 }
 
 // Reads a body into the struct: 0, or the refusal that is due, 10 or 11, and then the struct is as it was.
-#[unsafe(no_mangle)]
-pub extern "C" fn ostrogosz_ucp_read_geometric_altitude(body: &[u8], message: &mut [u8; 4]) -> u32
+pub fn ostrogosz_ucp_read_geometric_altitude(body: &[u8], message: &mut [u8; 4]) -> u32
     ensures { ReadsInto geometric_format geometric_struct body.now message.old result message.new }
 {
     let refusal = c_lent::first_refusal(body, 11, 5);
@@ -66,8 +67,7 @@ fn write(message: &[u8; 4], output: &mut [u8]) -> OstrogoszWritten
 }
 
 // Writes the body of the message that a struct holds: 8.
-#[unsafe(no_mangle)]
-pub extern "C" fn ostrogosz_ucp_write_geometric_altitude(
+pub fn ostrogosz_ucp_write_geometric_altitude(
     message: &[u8; 4],
     output: &mut [u8],
 ) -> OstrogoszWritten
@@ -80,8 +80,7 @@ pub extern "C" fn ostrogosz_ucp_write_geometric_altitude(
 
 // Writes the frame of the message that a struct holds at the start of buffer, and leaves what is behind it. The body is
 // written into the buffer, and made its frame there.
-#[unsafe(no_mangle)]
-pub extern "C" fn ostrogosz_ucp_send_geometric_altitude(
+pub fn ostrogosz_ucp_send_geometric_altitude(
     message: &[u8; 4],
     buffer: &mut FrameBuffer,
 ) -> OstrogoszWritten

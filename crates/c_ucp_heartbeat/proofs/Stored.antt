@@ -38,9 +38,9 @@ abbrev whole : List ℕ → List ℕ
 whole m = 0 ∷ get_or m 0 0 ∷ get_or m 1 0 ∷ get_or m 2 0 ∷ get_or m 3 0 ∷ get_or m 5 0 ∷ get_or m 4 0 ∷ []
 
 module _ (m : List ℕ) (n : length m ≡ 6) (is : Octets m) where
-  body_of : body_of heartbeat_format (held heartbeat_struct m) ≡ whole m
+  body_of_lem : body_of heartbeat_format (held heartbeat_struct m) ≡ whole m
   unfolding body_of held
-  body_of =
+  body_of_lem =
       ap (λ (xs : List ℕ). body_of heartbeat_format (held heartbeat_struct xs)) (by_elements 6 m n)
       ∙ (λ i. 0
       ∷ get_or m 0 0
@@ -49,4 +49,4 @@ module _ (m : List ℕ) (n : length m ≡ 6) (is : Octets m) where
       ++ big_two (get_or m 4 0) (get_or m 5 0) (is 4) i)
 
   pub body_put : (output : List ℕ) → 7 ≤ length output → sets output 0 (whole m) ≡ body_of heartbeat_format (held heartbeat_struct m) ++ drop 7 output
-  body_put output room = sets-eq (whole m) output 0 room ∙ ap (λ (body : List ℕ). body ++ drop 7 output) (sym body_of)
+  body_put output room = sets-eq (whole m) output 0 room ∙ ap (λ (body : List ℕ). body ++ drop 7 output) (sym body_of_lem)

@@ -1,4 +1,6 @@
 // Message 0, Heartbeat, for C: the message lies in the caller's struct, which is lent as its octets.
+#![tactic(auto)]
+
 ghost use Rattle.std.specs.Prelude.{◌≡◌, ◌++◌, ◌≤◌, length, drop};
 ghost use Rattle.field_format.specs.Format.{value_in, body_of};
 ghost use Rattle.ucp_messages.specs.Heartbeat0.{heartbeat_format};
@@ -22,8 +24,7 @@ fn fill(body: &[u8], message: &mut [u8; 6])
 }
 
 // Reads a body into the struct: 0, or the refusal that is due, 10 or 11, and then the struct is as it was.
-#[unsafe(no_mangle)]
-pub extern "C" fn ostrogosz_ucp_read_heartbeat(body: &[u8], message: &mut [u8; 6]) -> u32
+pub fn ostrogosz_ucp_read_heartbeat(body: &[u8], message: &mut [u8; 6]) -> u32
     ensures { ReadsInto heartbeat_format heartbeat_struct body.now message.old result message.new }
 {
     let refusal = c_lent::first_refusal(body, 0, 7);
@@ -68,11 +69,7 @@ fn write(message: &[u8; 6], output: &mut [u8]) -> OstrogoszWritten
 }
 
 // Writes the body of the message that a struct holds: 8.
-#[unsafe(no_mangle)]
-pub extern "C" fn ostrogosz_ucp_write_heartbeat(
-    message: &[u8; 6],
-    output: &mut [u8],
-) -> OstrogoszWritten
+pub fn ostrogosz_ucp_write_heartbeat(message: &[u8; 6], output: &mut [u8]) -> OstrogoszWritten
     ensures { WritesStructBody heartbeat_format (held heartbeat_struct message.now) output.old result output.new }
 {
     write(message, output)
@@ -82,11 +79,7 @@ pub extern "C" fn ostrogosz_ucp_write_heartbeat(
 
 // Writes the frame of the message that a struct holds at the start of buffer, and leaves what is behind it. The body is
 // written into the buffer, and made its frame there.
-#[unsafe(no_mangle)]
-pub extern "C" fn ostrogosz_ucp_send_heartbeat(
-    message: &[u8; 6],
-    buffer: &mut FrameBuffer,
-) -> OstrogoszWritten
+pub fn ostrogosz_ucp_send_heartbeat(message: &[u8; 6], buffer: &mut FrameBuffer) -> OstrogoszWritten
     ensures { SendsStruct heartbeat_format (held heartbeat_struct message.now) buffer.old result buffer.new }
 {
     let written = write(message, buffer);

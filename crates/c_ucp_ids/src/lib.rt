@@ -1,9 +1,11 @@
 // The ID of a body, for C: by it a caller chooses the kind's reader.
+#![tactic(auto)]
+
 ghost use Rattle.std.specs.Prelude.{◌≡◌};
 ghost use Rattle.c_ucp_ids.specs.Ids.{id_due};
 
 #[repr(C)]
-#[derive(Drop)]
+#[derive(Clone, Copy)]
 pub struct OstrogoszId {
     // 0, or the refusal's number.
     pub refusal: u32,
@@ -12,8 +14,7 @@ pub struct OstrogoszId {
 }
 
 // The ID of a body's kind, or 10: no octet, or an unknown ID. Nothing behind the first octet is looked at.
-#[unsafe(no_mangle)]
-pub extern "C" fn ostrogosz_ucp_read_id(body: &[u8]) -> OstrogoszId
+pub fn ostrogosz_ucp_read_id(body: &[u8]) -> OstrogoszId
     ensures { result ≡ id_due body.now }
 {
     if body.len() == 0 {

@@ -103,9 +103,9 @@ module _ (m : List ℕ) (n : length m ≡ 24) where
       record { address = at 1; lateral = at 6; longitudinal = at 7 }
 
   module _ (is : Octets m) (s : SmallFields m) where
-    body_of : body_of initialization_format (held initialization_struct m) ≡ whole m
+    body_of_lem : body_of initialization_format (held initialization_struct m) ≡ whole m
     unfolding body_of held
-    body_of =
+    body_of_lem =
         ap (λ (xs : List ℕ). body_of initialization_format (held initialization_struct xs)) (by_elements 24 m n)
         ∙ (λ i. 117
         ∷ 65
@@ -117,4 +117,4 @@ module _ (m : List ℕ) (n : length m ≡ 24) where
     pub body_put : (output : List ℕ) {after : List ℕ} → 19 ≤ length output → after ≡ sets output 0 (whole m)
         → after ≡ body_of initialization_format (held initialization_struct m) ++ drop 19 output
     body_put output room put =
-        put ∙ sets-eq (whole m) output 0 room ∙ ap (λ (body : List ℕ). body ++ drop 19 output) (sym body_of)
+        put ∙ sets-eq (whole m) output 0 room ∙ ap (λ (body : List ℕ). body ++ drop 19 output) (sym body_of_lem)

@@ -1,4 +1,6 @@
 // Message 117, Initialization, for C: the message lies in the caller's struct, which is lent as its octets.
+#![tactic(auto)]
+
 ghost use Rattle.std.specs.Prelude.{◌≡◌, true, ◌++◌, ◌≤◌, length, drop};
 ghost use Rattle.std.proofs.lemmas.List.Edits.{sets};
 ghost use Rattle.field_format.specs.Format.{value_in, body_of, fits};
@@ -63,8 +65,7 @@ fn fill(body: &[u8], message: &mut [u8; 24])
 }
 
 // Reads a body into the struct: 0, or the refusal that is due, 10 to 13, and then the struct is as it was.
-#[unsafe(no_mangle)]
-pub extern "C" fn ostrogosz_ucp_read_initialization(body: &[u8], message: &mut [u8; 24]) -> u32
+pub fn ostrogosz_ucp_read_initialization(body: &[u8], message: &mut [u8; 24]) -> u32
     ensures { ReadsInto initialization_format initialization_struct body.now message.old result message.new }
 {
     let refusal = c_lent::first_refusal(body, 117, 19);
@@ -141,11 +142,7 @@ fn write_body(message: &[u8; 24], output: &mut [u8]) -> u32
 }
 
 // Writes the body of the message that a struct holds: 13, then 8.
-#[unsafe(no_mangle)]
-pub extern "C" fn ostrogosz_ucp_write_initialization(
-    message: &[u8; 24],
-    output: &mut [u8],
-) -> OstrogoszWritten
+pub fn ostrogosz_ucp_write_initialization(message: &[u8; 24], output: &mut [u8]) -> OstrogoszWritten
     ensures { WritesStructBody initialization_format (held initialization_struct message.now) output.old result output.new }
 {
     c_lent::numbered(write_body(message, output), 19)
@@ -155,8 +152,7 @@ pub extern "C" fn ostrogosz_ucp_write_initialization(
 
 // Writes the frame of the message that a struct holds at the start of buffer, and leaves what is behind it: 13. The body is
 // written into the buffer, and made its frame there.
-#[unsafe(no_mangle)]
-pub extern "C" fn ostrogosz_ucp_send_initialization(
+pub fn ostrogosz_ucp_send_initialization(
     message: &[u8; 24],
     buffer: &mut FrameBuffer,
 ) -> OstrogoszWritten

@@ -1,4 +1,6 @@
 // What the raw numbers of messages 10, 11 and 20 mean, for C and Rust; include/ostrogosz/ucp.h says the same in C.
+#![tactic(auto)]
+
 ghost use Rattle.std.specs.Prelude.{◌≡◌};
 ghost use Rattle.ucp_meanings.specs.Meanings.{altitude_answer, rate_answer, altitude_means, rate_means, geometric_means, degrees_e7};
 ghost use Rattle.c_ucp_meanings.specs.Measures.{measure_of};
@@ -7,7 +9,7 @@ use ucp_meanings::{Altitude, Rate};
 
 // A value, or no data.
 #[repr(C)]
-#[derive(Drop)]
+#[derive(Clone, Copy)]
 pub struct OstrogoszMeasure {
     // 1, or 0 for no data.
     pub known: u32,
@@ -40,32 +42,28 @@ fn feet_per_minute(rate: Rate) -> OstrogoszMeasure
 }
 
 // The pressure altitude of messages 10 and 20, in feet.
-#[unsafe(no_mangle)]
-pub extern "C" fn ostrogosz_ucp_altitude_in_feet(altitude: u16) -> OstrogoszMeasure
+pub fn ostrogosz_ucp_altitude_in_feet(altitude: u16) -> OstrogoszMeasure
     ensures { result ≡ measure_of (altitude_means altitude) }
 {
     feet(ucp_meanings::altitude_in_feet(altitude))
 }
 
 // The vertical rate of messages 10 and 20, in feet per minute.
-#[unsafe(no_mangle)]
-pub extern "C" fn ostrogosz_ucp_rate_in_feet_per_minute(vertical_rate: i16) -> OstrogoszMeasure
+pub fn ostrogosz_ucp_rate_in_feet_per_minute(vertical_rate: i16) -> OstrogoszMeasure
     ensures { result ≡ measure_of (rate_means vertical_rate) }
 {
     feet_per_minute(ucp_meanings::rate_in_feet_per_minute(vertical_rate))
 }
 
 // The geometric altitude of message 11, in feet.
-#[unsafe(no_mangle)]
-pub extern "C" fn ostrogosz_ucp_geometric_altitude_in_feet(altitude: i16) -> i32
+pub fn ostrogosz_ucp_geometric_altitude_in_feet(altitude: i16) -> i32
     ensures { result ≡ geometric_means altitude }
 {
     ucp_meanings::geometric_altitude_in_feet(altitude)
 }
 
 // A latitude or longitude of messages 10 and 20, in whole units of 1E-7 degree, toward zero.
-#[unsafe(no_mangle)]
-pub extern "C" fn ostrogosz_ucp_degrees_e7(angle: i32) -> i64
+pub fn ostrogosz_ucp_degrees_e7(angle: i32) -> i64
     ensures { result ≡ degrees_e7 angle }
 {
     ucp_meanings::degrees_e7(angle)

@@ -1,5 +1,5 @@
 -- Where `stored` fits 32 bits before a call, it does behind it, and so does the number of the answer. Assumes nothing.
-use Rattle.std.proofs.Common.{◌≡◌, ℕ, ◌^◌, ◌<◌, Bool, true, false, cond, eqb, ltb, List, [], ◌∷◌, length, get_or, take, sym, refl, ap, ◌∙◌, subst, arith, length-take, ltb-true, ne_eqb}
+use Rattle.std.proofs.Common.{◌≡◌, ℕ, ◌^◌, ◌<◌, Bool, true, false, cond, eqb, ltb, List, [], ◌∷◌, length, get_or, take, sym, refl, ap, subst, arith, length-take, ltb-true, ne_eqb}
 use Rattle.crc_gdl90.specs.Check.{frame_check}
 use Rattle.ucp_frame.specs.Frame.{flag, escape}
 use Rattle.ucp_frame.specs.Stretch.{Verdict, silent, refused, delivered, store_octets, at_flag, without_check, check_sent}

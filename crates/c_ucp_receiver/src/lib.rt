@@ -1,5 +1,7 @@
 // The receiver for C and Rust: the store, the line and the output are the caller's. `line` is the rest of the record as seven
 // numbers, in the order of `record_numbers` of specs/Numbers.antt.
+#![tactic(auto)]
+
 ghost use Rattle.std.specs.Prelude.{◌≡◌, ℕ, ◌^◌, ◌<◌, List, length, ◌≢◌, slice_index};
 ghost use Rattle.c_ucp_receiver.specs.Numbers.{phase_of, phase_number, rest_in, counts_in, record_in, record_numbers, answer_kind, answer_value, ReceivesFitting, TakesFitting, ReceivesNumbers, TakesNumbers, StartsNumbers};
 
@@ -13,7 +15,7 @@ const STORE_OCTETS: u32 = ucp_receiver::STORE_OCTETS as u32;
 
 // kind: 0 nothing, 1 delivered, 2 refused. value: how many octets were delivered, or the refusal's number.
 #[repr(C)]
-#[derive(Drop)]
+#[derive(Clone, Copy)]
 pub struct OstrogoszAnswer {
     pub kind: u32,
     pub value: u32,
@@ -21,7 +23,7 @@ pub struct OstrogoszAnswer {
 
 // The same, and how many octets of the slice were taken.
 #[repr(C)]
-#[derive(Drop)]
+#[derive(Clone, Copy)]
 pub struct OstrogoszTaken {
     pub kind: u32,
     pub value: u32,
@@ -154,8 +156,7 @@ fn value_of(answer: Answer) -> u32
 // ---- the calls
 
 // A fresh receiver.
-#[unsafe(no_mangle)]
-pub extern "C" fn ostrogosz_ucp_start(store: &mut Store, line: &mut RecordNumbers)
+pub fn ostrogosz_ucp_start(store: &mut Store, line: &mut RecordNumbers)
     ensures { StartsNumbers store.new line.new }
 {
     *store = [0; ucp_receiver::STORE_OCTETS];
@@ -227,8 +228,7 @@ fn receive_other(
 }
 
 // One octet of the line. The flag is apart, so that a call with any other octet touches little.
-#[unsafe(no_mangle)]
-pub extern "C" fn ostrogosz_ucp_receive(
+pub fn ostrogosz_ucp_receive(
     store: &mut Store,
     line: &mut RecordNumbers,
     octet: u8,
@@ -262,8 +262,7 @@ fn taken_by(store: &mut Store, line: &RecordNumbers, octets: &[u8], output: &mut
 }
 
 // Octets of the line up to and including the one that brings the next answer.
-#[unsafe(no_mangle)]
-pub extern "C" fn ostrogosz_ucp_receive_slice(
+pub fn ostrogosz_ucp_receive_slice(
     store: &mut Store,
     line: &mut RecordNumbers,
     octets: &[u8],

@@ -104,9 +104,9 @@ module _ (m : List ℕ) (n : length m ≡ 40) where
           spare = at 15;
         }
 
-    pub body_of : (id : ℕ) → Small m → body_of (report_format id) (held report_struct m) ≡ whole id m
+    pub body_of_lem : (id : ℕ) → Small m → body_of (report_format id) (held report_struct m) ≡ whole id m
     unfolding body_of held
-    body_of id s =
+    body_of_lem id s =
         let lat = s.latitude in
         let lon = s.longitude in
         let x : ℕ → ℕ = λ r. little16 m 22 * 1048576 + (r * 256 + get_or m 26 0) in
@@ -137,4 +137,4 @@ module _ (m : List ℕ) (n : length m ≡ 40) where
     body_put id s output room put =
         put
         ∙ sets-eq (whole id m) output 0 room
-        ∙ ap (λ (body : List ℕ). body ++ drop 28 output) (sym (body_of id s))
+        ∙ ap (λ (body : List ℕ). body ++ drop 28 output) (sym (body_of_lem id s))

@@ -1,4 +1,6 @@
 // Messages 10 and 20, Ownship and Traffic report, for C: the message lies in the caller's struct, which is lent as its octets.
+#![tactic(auto)]
+
 ghost use Rattle.std.specs.Prelude.{◌≡◌, true, ◌++◌, ◌+◌, ◌*◌, ◌/◌, ◌%◌, ◌<◌, ◌≤◌, length, get_or, drop};
 ghost use Rattle.std.proofs.lemmas.List.Edits.{sets};
 ghost use Rattle.field_layout.specs.Steps.{big16, big24, big32};
@@ -20,7 +22,7 @@ use ucp_frame::FrameBuffer;
 // ---- reading
 
 // Octets 2 to 7.
-#[derive(Drop)]
+#[derive(Clone, Copy)]
 struct LeftPart {
     address: u32,
     latitude: u32,
@@ -39,7 +41,7 @@ fn left(body: &[u8]) -> LeftPart
 }
 
 // Octets 8 to 15.
-#[derive(Drop)]
+#[derive(Clone, Copy)]
 struct RightPart {
     longitude: u32,
     height: u16,
@@ -172,15 +174,13 @@ fn read(body: &[u8], id: u8, message: &mut [u8; 40]) -> u32
 }
 
 // Reads a body into the struct: 0, or the refusal that is due, 10 or 11, and then the struct is as it was.
-#[unsafe(no_mangle)]
-pub extern "C" fn ostrogosz_ucp_read_ownship(body: &[u8], message: &mut [u8; 40]) -> u32
+pub fn ostrogosz_ucp_read_ownship(body: &[u8], message: &mut [u8; 40]) -> u32
     ensures { ReadsInto (report_format 10) report_struct body.now message.old result message.new }
 {
     read(body, 10, message)
 }
 
-#[unsafe(no_mangle)]
-pub extern "C" fn ostrogosz_ucp_read_traffic(body: &[u8], message: &mut [u8; 40]) -> u32
+pub fn ostrogosz_ucp_read_traffic(body: &[u8], message: &mut [u8; 40]) -> u32
     ensures { ReadsInto (report_format 20) report_struct body.now message.old result message.new }
 {
     read(body, 20, message)
@@ -328,21 +328,13 @@ fn write_body(id: u8, message: &[u8; 40], output: &mut [u8]) -> u32
 }
 
 // Writes the body of the message that a struct holds: 13, then 8.
-#[unsafe(no_mangle)]
-pub extern "C" fn ostrogosz_ucp_write_ownship(
-    message: &[u8; 40],
-    output: &mut [u8],
-) -> OstrogoszWritten
+pub fn ostrogosz_ucp_write_ownship(message: &[u8; 40], output: &mut [u8]) -> OstrogoszWritten
     ensures { WritesStructBody (report_format 10) (held report_struct message.now) output.old result output.new }
 {
     c_lent::numbered(write_body(10, message, output), 28)
 }
 
-#[unsafe(no_mangle)]
-pub extern "C" fn ostrogosz_ucp_write_traffic(
-    message: &[u8; 40],
-    output: &mut [u8],
-) -> OstrogoszWritten
+pub fn ostrogosz_ucp_write_traffic(message: &[u8; 40], output: &mut [u8]) -> OstrogoszWritten
     ensures { WritesStructBody (report_format 20) (held report_struct message.now) output.old result output.new }
 {
     c_lent::numbered(write_body(20, message, output), 28)
@@ -359,21 +351,13 @@ fn send(id: u8, message: &[u8; 40], buffer: &mut FrameBuffer) -> OstrogoszWritte
 }
 
 // Writes the frame of the message that a struct holds at the start of buffer, and leaves what is behind it: 13.
-#[unsafe(no_mangle)]
-pub extern "C" fn ostrogosz_ucp_send_ownship(
-    message: &[u8; 40],
-    buffer: &mut FrameBuffer,
-) -> OstrogoszWritten
+pub fn ostrogosz_ucp_send_ownship(message: &[u8; 40], buffer: &mut FrameBuffer) -> OstrogoszWritten
     ensures { SendsStruct (report_format 10) (held report_struct message.now) buffer.old result buffer.new }
 {
     send(10, message, buffer)
 }
 
-#[unsafe(no_mangle)]
-pub extern "C" fn ostrogosz_ucp_send_traffic(
-    message: &[u8; 40],
-    buffer: &mut FrameBuffer,
-) -> OstrogoszWritten
+pub fn ostrogosz_ucp_send_traffic(message: &[u8; 40], buffer: &mut FrameBuffer) -> OstrogoszWritten
     ensures { SendsStruct (report_format 20) (held report_struct message.now) buffer.old result buffer.new }
 {
     send(20, message, buffer)

@@ -32,10 +32,10 @@ abbrev whole : List ℕ → List ℕ
 whole m = 44 ∷ 2 ∷ get_or m 0 0 ∷ []
 
 module _ (m : List ℕ) (n : length m ≡ 1) where
-  body_of : body_of request_format (held request_struct m) ≡ whole m
+  body_of_lem : body_of request_format (held request_struct m) ≡ whole m
   unfolding body_of held
-  body_of =
+  body_of_lem =
       ap (λ (xs : List ℕ). body_of request_format (held request_struct xs)) (by_elements 1 m n)
 
   pub body_put : (output : List ℕ) → 3 ≤ length output → sets output 0 (whole m) ≡ body_of request_format (held request_struct m) ++ drop 3 output
-  body_put output room = sets-eq (whole m) output 0 room ∙ ap (λ (body : List ℕ). body ++ drop 3 output) (sym body_of)
+  body_put output room = sets-eq (whole m) output 0 room ∙ ap (λ (body : List ℕ). body ++ drop 3 output) (sym body_of_lem)

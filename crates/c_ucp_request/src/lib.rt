@@ -1,4 +1,6 @@
 // Message 44, Message Request, for C: the message lies in the caller's struct, which is lent as its octets.
+#![tactic(auto)]
+
 ghost use Rattle.std.specs.Prelude.{◌≡◌, ◌++◌, ◌≤◌, length, drop};
 ghost use Rattle.field_format.specs.Format.{value_in, body_of};
 ghost use Rattle.ucp_messages.specs.Request44.{request_format};
@@ -21,8 +23,7 @@ fn fill(body: &[u8], message: &mut [u8; 1])
 }
 
 // Reads a body into the struct: 0, or the refusal that is due, 10 to 12, and then the struct is as it was.
-#[unsafe(no_mangle)]
-pub extern "C" fn ostrogosz_ucp_read_request(body: &[u8], message: &mut [u8; 1]) -> u32
+pub fn ostrogosz_ucp_read_request(body: &[u8], message: &mut [u8; 1]) -> u32
     ensures { ReadsInto request_format request_struct body.now message.old result message.new }
 {
     let refusal = c_lent::first_refusal(body, 44, 3);
@@ -66,11 +67,7 @@ fn write(message: &[u8; 1], output: &mut [u8]) -> OstrogoszWritten
 }
 
 // Writes the body of the message that a struct holds: 8.
-#[unsafe(no_mangle)]
-pub extern "C" fn ostrogosz_ucp_write_request(
-    message: &[u8; 1],
-    output: &mut [u8],
-) -> OstrogoszWritten
+pub fn ostrogosz_ucp_write_request(message: &[u8; 1], output: &mut [u8]) -> OstrogoszWritten
     ensures { WritesStructBody request_format (held request_struct message.now) output.old result output.new }
 {
     write(message, output)
@@ -80,11 +77,7 @@ pub extern "C" fn ostrogosz_ucp_write_request(
 
 // Writes the frame of the message that a struct holds at the start of buffer, and leaves what is behind it. The body is
 // written into the buffer, and made its frame there.
-#[unsafe(no_mangle)]
-pub extern "C" fn ostrogosz_ucp_send_request(
-    message: &[u8; 1],
-    buffer: &mut FrameBuffer,
-) -> OstrogoszWritten
+pub fn ostrogosz_ucp_send_request(message: &[u8; 1], buffer: &mut FrameBuffer) -> OstrogoszWritten
     ensures { SendsStruct request_format (held request_struct message.now) buffer.old result buffer.new }
 {
     let written = write(message, buffer);

@@ -1,0 +1,15 @@
+-- `ostrogosz_ucp_send_heartbeat` meets its contract: its two halves make up a send. Assumes nothing.
+use native.Mathlib.Omega.{arith}
+use Rattle.ucp_messages.specs.Heartbeat0.{heartbeat_format}
+use Rattle.c_lent.specs.Structs.{held}
+use Rattle.c_lent.proofs.Sends.{struct_sends}
+use Rattle.c_ucp_heartbeat.specs.Struct.{heartbeat_struct}
+use Rattle.c_ucp_heartbeat.proofs.Stored.{body_length}
+use Rattle.c_ucp_heartbeat.proofs.ostrogosz_ucp_send_heartbeat.Goals as goal
+
+pub returns : goal.returns
+returns c =
+    let a = c.args in
+    let m = held heartbeat_struct a.message.now in
+    struct_sends heartbeat_format m a.buffer.now (omega (arith, body_length m)) (omega (arith, body_length m)) c.write-written.ensures
+    c.write-written.auto.output c.frame_written.ensures
