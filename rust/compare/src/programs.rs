@@ -13,7 +13,7 @@ pub fn output_of(program: &str, input: &[u8]) -> Vec<u8> {
         .stdout(Stdio::piped())
         .spawn()
         .unwrap_or_else(|error| {
-            panic!("{error}: run `rt check {program}` at the root of the repository")
+            panic!("{error}: run `scripts/programs {program}` at the root of the repository")
         });
     let mut into = run.stdin.take().expect("a pipe");
     // Fed from beside, since the program writes while it reads. One that stops
