@@ -1,10 +1,14 @@
 -- What every writer answers, and what it leaves in the output that it is lent (document 01, the paragraph below the table); the same
 -- in numbers, for C. Assumes nothing.
-use Rattle.std.specs.Prelude.{◌≡◌, cond, List, ◌++◌, ℕ, ltb, length, drop}
+use Rattle.std.specs.Prelude.{◌≡◌, cond, List, ◌++◌, ℕ, ltb, length, drop, Result, Ok, Err}
 use Rattle.refusals.specs.Numbers as because
-use Rattle.output_writing.specs.declared.Written.{Written}
-use Rattle.output_writing.specs.declared.Written.TheVariants.{Wrote, Refused}
+use Rattle.refusals.specs.Refusals.{refusal_number}
+use Rattle.refusals.specs.declared.Refusal.{Refusal}
 use Rattle.output_writing.specs.declared.OstrogoszWritten.{OstrogoszWritten}
+
+-- a writer's answer: how many octets were written, or why the call was refused
+abbrev pub Written : Type 0
+Written = Result ℕ Refusal
 
 -- an answer in the paper's terms: a refusal's number, or how many octets were written
 pub data WriterAnswer : Type 0 where
@@ -13,8 +17,8 @@ pub data WriterAnswer : Type 0 where
 
 -- the paper's number and values of each case
 abbrev pub writer_answer : Written → WriterAnswer
-writer_answer (Refused number) = refused number
-writer_answer (Wrote octets) = wrote octets
+writer_answer (Err refusal) = refused (refusal_number refusal)
+writer_answer (Ok octets) = wrote octets
 
 -- the last test of every writer: 8 for an output shorter than so many octets, else they are written
 abbrev pub room_for : ℕ → List ℕ → WriterAnswer
@@ -35,6 +39,10 @@ pub record Writing (due : WriterAnswer) (octets output : List ℕ) (answer : Wri
 abbrev pub written_numbers : WriterAnswer → OstrogoszWritten
 written_numbers (refused number) = record { refusal = number; length = 0 }
 written_numbers (wrote octets) = record { refusal = 0; length = octets }
+
+-- what an answer is in numbers
+abbrev pub IsWrittenInNumbers : Written → OstrogoszWritten → Type 0
+IsWrittenInNumbers written given = given ≡ written_numbers (writer_answer written)
 
 -- one call, whole: the answer that is due, the octets to write and the output as at entry; what is given back, and the output
 -- as at return

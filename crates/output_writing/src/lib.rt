@@ -1,17 +1,13 @@
 // What a writer answers: of frames, of bodies and of MAVLink frames.
 #![tactic(auto)]
 
-ghost use Rattle.std.specs.Prelude.{◌≡◌};
-ghost use Rattle.output_writing.specs.Writing.{writer_answer, written_numbers};
+ghost use Rattle.output_writing.specs.Writing.{IsWrittenInNumbers};
 
-// A writer's answer. `writer_answer` of specs/Writing.antt gives the paper's number and values of each case.
-#[derive(Clone, Copy)]
-pub enum Written {
-    // Accepted: how many octets were written.
-    Wrote(usize),
-    // Refused, by its number.
-    Refused(u8),
-}
+use refusals::Refusal;
+
+// A writer's answer: how many octets were written, or why the call was refused. `writer_answer` of specs/Writing.antt gives the
+// paper's number and values of each case.
+pub type Written = Result<usize, Refusal>;
 
 // The same as two numbers, for C.
 #[repr(C)]
@@ -23,17 +19,19 @@ pub struct OstrogoszWritten {
     pub length: usize,
 }
 
-pub fn in_numbers(written: Written) -> OstrogoszWritten
-    ensures { result ≡ written_numbers (writer_answer written) }
-{
-    match written {
-        Written::Wrote(octets) => OstrogoszWritten {
-            refusal: 0,
-            length: octets,
-        },
-        Written::Refused(number) => OstrogoszWritten {
-            refusal: number as u32,
-            length: 0,
-        },
+impl From<Written> for OstrogoszWritten {
+    ghost from_gives = { IsWrittenInNumbers };
+
+    fn from(written: Written) -> OstrogoszWritten {
+        match written {
+            Ok(octets) => OstrogoszWritten {
+                refusal: 0,
+                length: octets,
+            },
+            Err(refusal) => OstrogoszWritten {
+                refusal: refusal.number() as u32,
+                length: 0,
+            },
+        }
     }
 }
