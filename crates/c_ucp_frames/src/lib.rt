@@ -18,5 +18,5 @@ pub fn ostrogosz_ucp_frame_check(body: &[u8]) -> u16
 pub fn ostrogosz_ucp_write_frame(body: &[u8], output: &mut [u8]) -> OstrogoszWritten
     ensures { WritesFrameNumbers body.now output.old result output.new }
 {
-    output_writing::in_numbers(ucp_writer::write_frame(body, output))
+    OstrogoszWritten::from(ucp_writer::write_frame(body, output))
 }

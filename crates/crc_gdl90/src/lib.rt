@@ -54,10 +54,8 @@ pub fn frame_check(body: &[u8]) -> u16
 {
     let table = table();
     let mut check: u16 = 0;
-    let mut i = 0;
-    while i < body.len() {
-        check = next_check(&table, check, body[i]);
-        i += 1;
+    for octet in body {
+        check = next_check(&table, check, *octet);
     }
     check
 }
@@ -99,7 +97,7 @@ pub fn frame_check_by_shifts(body: &[u8]) -> u16
     ensures { result ≡ frame_check body.now }
 {
     let start = head_length(body.len());
-    check_words(body, start, head_check(body, start))
+    check_words(&body[start..], head_check(body, start))
 }
 
 // How many octets to take first, of so many: one or two, so that an even number is left.
@@ -129,30 +127,28 @@ fn wide(octet: u8) -> u16
     octet as u16
 }
 
-// The check of a body whose octets before start have this check; an even number of octets is left.
-fn check_words(body: &[u8], start: usize, check: u16) -> u16
-    requires { (start ≤ length body.now) × ((length body.now - start) % 2 ≡ 0) }
-    ensures { result ≡ divided check (bits_of_octets (drop start body.now)) }
+// The check of octets that follow others, an even number of them. The check is that of those before.
+fn check_words(octets: &[u8], check: u16) -> u16
+    requires { length octets.now % 2 ≡ 0 }
+    ensures { result ≡ divided check (bits_of_octets octets.now) }
 {
+    let (words, rest) = octets.as_chunks::<8>();
     let mut check = check;
-    let mut i = start;
-    while body.len() - i > 7 {
-        check = next_check_eight(check, field_words::big_64(body, i));
-        i += 8;
+    for word in words {
+        check = next_check_eight(check, field_words::turned(field_words::word(*word)));
     }
-    check_pairs(body, i, check)
+    check_pairs(rest, check)
 }
 
 // The same, two octets at a time.
-fn check_pairs(body: &[u8], start: usize, check: u16) -> u16
-    requires { (start ≤ length body.now) × ((length body.now - start) % 2 ≡ 0) }
-    ensures { result ≡ divided check (bits_of_octets (drop start body.now)) }
+fn check_pairs(octets: &[u8], check: u16) -> u16
+    requires { length octets.now % 2 ≡ 0 }
+    ensures { result ≡ divided check (bits_of_octets octets.now) }
 {
+    let (pairs, _) = octets.as_chunks::<2>();
     let mut check = check;
-    let mut i = start;
-    while i < body.len() {
-        check = next_check_pair(check, body[i], body[i + 1]);
-        i += 2;
+    for pair in pairs {
+        check = next_check_pair(check, pair[0], pair[1]);
     }
     check
 }

@@ -3,13 +3,12 @@
 use mathlib.Core.Path.{◌≡◌, refl, sym, ap, ap₂, ◌∙◌}
 use mathlib.Core.Bool.{Bool, true, false, xor}
 use mathlib.Core.List.{List, [], ◌∷◌, ◌++◌, append-nil, append_assoc}
-use Prim.Native.Nat.{ℕ, zero, suc, ◌+◌, ◌*◌, ◌/◌, ◌%◌, ◌^◌, ◌<◌, ◌≤◌}
+use Prim.Native.Nat.{ℕ, zero, suc, ◌+◌, ◌*◌, ◌/◌, ◌%◌, ◌^◌, ◌<◌}
 use native.Mathlib.Omega.{arith}
-use native.Mathlib.Nat.{add-suc}
 use native.Mathlib.Numerals.{add-one}
 use lib.Dec.{eqb}
-use lib.ListN.{length, get_or, take, drop, replicate, length-append, length-drop, get_or-append, take-append-drop}
-use lib.Seq.{drop-cons, drop_at, drop-drop, take-append-le, drop-append-le}
+use lib.ListN.{length, get_or, take, drop, replicate}
+use lib.Seq.{drop-cons}
 use lib.Bits.{bit_xor, differ, xor_lt, xor_zero_r, xor_comm, xor_mod, xor_shr}
 use lib.Pow.{shr-shr}
 use Rattle.crc_polynomial.specs.Polynomial.{odd, coefficient, degree16, step, reduced, polynomial}
@@ -20,6 +19,7 @@ use Rattle.crc_x25.proofs.Shifts.{shifted, shifted_linear, paired, paired_linear
 use Rattle.crc_x25.proofs.Words.{eight, eight_pairs, pairs}
 use Rattle.field_words.proofs.Digits.{lows, below}
 use Rattle.field_words.proofs.Pairs.{double, two_of}
+use Rattle.field_words.proofs.Parts.{part}
 use Rattle.field_words.specs.Words.{octets_up}
 use Rattle.crc_x25.specs.Check.{bits_up, wire_bits, next, register, mirrored, x25, x25_from}
 
@@ -180,47 +180,6 @@ pub starts : (octets : List ℕ) → x25_from 0xFFFF octets ≡ x25 octets
 unfolding x25_from x25 mirrored bits_up polynomial
 starts octets = refl
 
--- octets and then one more: the two octets at i, and then the others
-pub pair_next : (check : ℕ) (octets : List ℕ) (extra i : ℕ) → i + 1 < length octets
-    → x25_from check (drop i (octets ++ extra ∷ []))
-    ≡ x25_from (x25_from check (get_or octets i 0 ∷ get_or octets (i + 1) 0 ∷ [])) (drop (i + 2) (octets ++ extra ∷ []))
-pair_next check octets extra i h =
-    let all = octets ++ extra ∷ [] in
-    let more : i + 2 ≡ i + 1 + 1 = omega arith in
-    let first = get_or-append octets (extra ∷ []) 0 i (omega arith) in
-    let second = get_or-append octets (extra ∷ []) 0 (i + 1) h in
-    octet_first check all i (simp length-append (omega arith))
-    ∙ octet_first _ all (i + 1) (simp length-append (omega arith))
-    ∙ rw (more, first, second)
-    (ap (λ (n : ℕ). x25_from n (drop (i + 1 + 1) all))
-    (sym (octet_first check (get_or octets i 0 ∷ get_or octets (i + 1) 0 ∷ []) 0 (omega arith))))
-
--- n octets, from the k-th behind i on, and the extra
-abbrev pub end_of : ℕ → ℕ → ℕ → List ℕ → ℕ → List ℕ
-end_of zero k i octets extra = extra ∷ []
-end_of (suc n) k i octets extra = get_or octets (i + k) 0 ∷ end_of n (suc k) i octets extra
-
-end_at : (n k : ℕ) (octets : List ℕ) (extra i : ℕ) → i + k + n ≡ length octets
-    → drop (i + k) (octets ++ extra ∷ []) ≡ end_of n k i octets extra
-end_at zero k octets extra i e = drop_at octets (extra ∷ []) (i + k) (omega arith)
-end_at (suc n) k octets extra i e =
-    drop-cons (octets ++ extra ∷ []) (i + k) 0 (simp length-append (omega arith))
-    ∙ ap₂ (λ (x : ℕ) (xs : List ℕ). x ∷ xs) (get_or-append octets (extra ∷ []) 0 (i + k) (omega arith))
-    (ap (λ (m : ℕ). drop m (octets ++ extra ∷ [])) (sym (add-suc i k)) ∙ end_at n (suc k) octets extra i (omega arith))
-
--- at last the octet at i, those that follow it, and the extra
-pub end_from : (n : ℕ) (octets : List ℕ) (extra i : ℕ) → i + suc n ≡ length octets
-    → drop i (octets ++ extra ∷ []) ≡ get_or octets i 0 ∷ end_of n 1 i octets extra
-end_from n octets extra i e =
-    drop-cons (octets ++ extra ∷ []) i 0 (simp length-append (omega arith))
-    ∙ ap₂ (λ (x : ℕ) (xs : List ℕ). x ∷ xs) (get_or-append octets (extra ∷ []) 0 i (omega arith))
-    (rw (sym (add-one i)) (end_at n 1 octets extra i (omega arith)))
-
--- or the extra alone
-pub octet_last : (check : ℕ) (octets : List ℕ) (extra i : ℕ) → i ≡ length octets
-    → x25_from check (drop i (octets ++ extra ∷ [])) ≡ x25_from check (extra ∷ [])
-octet_last check octets extra i e = ap (x25_from check) (drop_at octets (extra ∷ []) i (sym e))
-
 -- ---- eight octets at once
 wire_bits_append : (xs ys : List ℕ) → wire_bits (xs ++ ys) ≡ wire_bits xs ++ wire_bits ys
 unfolding wire_bits
@@ -285,17 +244,13 @@ pub zeros_passed : (xs : List ℕ) → x25_from 0 (0 ∷ 0 ∷ 0 ∷ 0 ∷ xs) �
 unfolding x25_from mirrored bits_up polynomial register next step reduced wire_bits
 zeros_passed xs = from_append 0 (0 ∷ 0 ∷ 0 ∷ 0 ∷ []) xs
 
--- octets and then one more: the eight octets at i, and then the others
-pub eight_next : (check : ℕ) (octets : List ℕ) (extra i : ℕ) (first : List ℕ) → i + 8 ≤ length octets
-    → first ≡ take 8 (drop i octets)
-    → x25_from check (drop i (octets ++ extra ∷ [])) ≡ x25_from (x25_from check first) (drop (i + 8) (octets ++ extra ∷ []))
-eight_next check octets extra i first h e =
-    let all = octets ++ extra ∷ [] in
-    let few : 8 ≤ length (drop i octets) = simp length-drop (omega arith) in
-    let front : take 8 (drop i all) ≡ first =
-    ap (take 8) (drop-append-le i octets (extra ∷ []) (omega arith)) ∙ take-append-le 8 (drop i octets) (extra ∷ []) few ∙ sym e in
-    ap (x25_from check) (sym (take-append-drop 8 (drop i all)) ∙ ap₂ (λ (xs ys : List ℕ). xs ++ ys) front (drop-drop 8 i all))
-    ∙ from_append check first (drop (i + 8) all)
+-- octets and then one more: k octets from i on, and then the others
+pub part_next : (k check : ℕ) (octets : List ℕ) (extra i : ℕ) {first : List ℕ} → first ≡ take k (drop i octets)
+    → x25_from check (drop i octets ++ extra ∷ []) ≡ x25_from (x25_from check first) (drop (i + k) octets ++ extra ∷ [])
+part_next k check octets extra i {first} e =
+    ap (λ (xs : List ℕ). x25_from check (xs ++ extra ∷ [])) (part k octets i e)
+    ∙ ap (x25_from check) (append_assoc first (drop (i + k) octets) (extra ∷ []))
+    ∙ from_append check first (drop (i + k) octets ++ extra ∷ [])
 
 -- the check of octets that follow others, from the start on
 pub after : (xs ys : List ℕ) → x25_from (x25 xs) ys ≡ x25 (xs ++ ys)

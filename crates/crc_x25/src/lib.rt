@@ -1,7 +1,7 @@
 // The X.25 check that MAVLink carries, by shifts.
 #![tactic(auto)]
 
-ghost use Rattle.std.specs.Prelude.{◌≡◌, [], ◌∷◌, ◌++◌, ◌≤◌, length, drop};
+ghost use Rattle.std.specs.Prelude.{◌≡◌, [], ◌∷◌, ◌++◌};
 ghost use Rattle.field_words.specs.Words.{octets_up};
 ghost use Rattle.crc_x25.specs.Check.{x25, x25_from};
 
@@ -83,65 +83,40 @@ pub fn x25_check(octets: &[u8], extra: u8) -> u16
 pub fn x25_after(check: u16, octets: &[u8], extra: u8) -> u16
     ensures { result ≡ x25_from check (octets.now ++ extra ∷ []) }
 {
+    let (words, rest) = octets.as_chunks::<8>();
     let mut check = check;
-    let mut i = 0;
-    while octets.len() - i > 7 {
-        check = next_eight(check, field_words::little_64(octets, i));
-        i += 8;
+    for word in words {
+        check = next_eight(check, field_words::word(*word));
     }
-    check_last(octets, i, check, extra)
+    check_last(check, rest, extra)
 }
 
-// Fewer than eight octets, from start on, and then the extra: none, which 201 leaves, seven, which 202 leaves, and three, which 246
-// leaves, in one step. The check is that of the octets before.
-fn check_last(octets: &[u8], start: usize, check: u16, extra: u8) -> u16
-    requires { start ≤ length octets.now }
-    ensures { result ≡ x25_from check (drop start (octets.now ++ extra ∷ [])) }
+// Fewer than eight octets, and then the extra: none, which 201 leaves, seven, which 202 leaves, and three, which 246 leaves, in one step.
+// The check is that of the octets before.
+fn check_last(check: u16, octets: &[u8], extra: u8) -> u16
+    ensures { result ≡ x25_from check (octets.now ++ extra ∷ []) }
 {
-    let left = octets.len() - start;
-    if left == 0 {
-        return next_octet(check, extra);
+    match *octets {
+        [] => next_octet(check, extra),
+        [a, b, c, d, e, f, g] => {
+            next_eight(check, field_words::word_of(a, b, c, d, e, f, g, extra))
+        }
+        [a, b, c] => next_four(check, field_words::word_of(a, b, c, extra, 0, 0, 0, 0)),
+        _ => check_rest(check, octets, extra),
     }
-    if left == 7 {
-        return next_eight(
-            check,
-            field_words::word_of(
-                octets[start],
-                octets[start + 1],
-                octets[start + 2],
-                octets[start + 3],
-                octets[start + 4],
-                octets[start + 5],
-                octets[start + 6],
-                extra,
-            ),
-        );
-    }
-    if left == 3 {
-        let first = octets[start];
-        let second = octets[start + 1];
-        let third = octets[start + 2];
-        return next_four(
-            check,
-            field_words::word_of(first, second, third, extra, 0, 0, 0, 0),
-        );
-    }
-    check_rest(octets, start, check, extra)
 }
 
-// The octets from start on and then the extra, two by two. The check is that of the octets before.
-fn check_rest(octets: &[u8], start: usize, check: u16, extra: u8) -> u16
-    requires { start ≤ length octets.now }
-    ensures { result ≡ x25_from check (drop start (octets.now ++ extra ∷ [])) }
+// The octets and then the extra, two by two. The check is that of the octets before.
+fn check_rest(check: u16, octets: &[u8], extra: u8) -> u16
+    ensures { result ≡ x25_from check (octets.now ++ extra ∷ []) }
 {
+    let (pairs, rest) = octets.as_chunks::<2>();
     let mut check = check;
-    let mut i = start;
-    while octets.len() - i > 1 {
-        check = next_pair(check, octets[i], octets[i + 1]);
-        i += 2;
+    for pair in pairs {
+        check = next_pair(check, pair[0], pair[1]);
     }
-    if i < octets.len() {
-        return next_pair(check, octets[i], extra);
+    match *rest {
+        [last] => next_pair(check, last, extra),
+        _ => next_octet(check, extra),
     }
-    next_octet(check, extra)
 }

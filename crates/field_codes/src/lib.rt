@@ -28,6 +28,7 @@ pub fn is_squawk(code: u16) -> bool
 }
 
 // Whether a number is an emitter category.
+#[tactic(auto, unfolding(crate::specs::Codes::is_emitter))]
 pub fn is_emitter(category: u8) -> bool
     ensures { result ≡ is_emitter category }
 {
@@ -35,6 +36,7 @@ pub fn is_emitter(category: u8) -> bool
 }
 
 // Whether a number is a code of the aircraft's length and width.
+#[tactic(auto, unfolding(crate::specs::Codes::is_size_code))]
 pub fn is_size_code(code: u8) -> bool
     ensures { result ≡ is_size_code code }
 {

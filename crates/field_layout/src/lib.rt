@@ -29,13 +29,7 @@ pub fn octet(octets: &[u8], at: u8) -> u8
 fn octet_at(octets: &[u8], at: usize) -> u8
     ensures { result ≡ get_or octets.now at 0 }
 {
-    if at < octets.len() { octets[at] } else { 0 }
-}
-
-fn wide(octets: &[u8], at: usize) -> u32
-    ensures { (result ≡ get_or octets.now at 0) × (result < 256) }
-{
-    octet_at(octets, at) as u32
+    octets.get(at).copied().unwrap_or(0)
 }
 
 // The text from a place on.
@@ -80,27 +74,39 @@ pub fn no_text() -> Text
     }
 }
 
+// Stays: the new form is no plainer: these six differ in their integer's type, its octets and the library's method, which no const
+// parameter chooses.
+
 // ---- most significant octet first
 pub fn big_16(octets: &[u8], at: u8) -> u16
     ensures { result ≡ big16 octets.now at }
 {
     let i = at as usize;
-    (wide(octets, i) * 256 + wide(octets, i + 1)) as u16
-}
-
-pub fn big_32(octets: &[u8], at: u8) -> u32
-    ensures { result ≡ big32 octets.now at }
-{
-    let i = at as usize;
-    wide(octets, i) * 16777216
-        + (wide(octets, i + 1) * 65536 + (wide(octets, i + 2) * 256 + wide(octets, i + 3)))
+    u16::from_be_bytes([octet_at(octets, i), octet_at(octets, i + 1)])
 }
 
 pub fn big_24(octets: &[u8], at: u8) -> u32
     ensures { result ≡ big24 octets.now at }
 {
     let i = at as usize;
-    wide(octets, i) * 65536 + (wide(octets, i + 1) * 256 + wide(octets, i + 2))
+    u32::from_be_bytes([
+        0,
+        octet_at(octets, i),
+        octet_at(octets, i + 1),
+        octet_at(octets, i + 2),
+    ])
+}
+
+pub fn big_32(octets: &[u8], at: u8) -> u32
+    ensures { result ≡ big32 octets.now at }
+{
+    let i = at as usize;
+    u32::from_be_bytes([
+        octet_at(octets, i),
+        octet_at(octets, i + 1),
+        octet_at(octets, i + 2),
+        octet_at(octets, i + 3),
+    ])
 }
 
 // ---- least significant octet first
@@ -108,22 +114,31 @@ pub fn little_16(octets: &[u8], at: u8) -> u16
     ensures { result ≡ little16 octets.now at }
 {
     let i = at as usize;
-    (wide(octets, i + 1) * 256 + wide(octets, i)) as u16
+    u16::from_le_bytes([octet_at(octets, i), octet_at(octets, i + 1)])
 }
 
 pub fn little_24(octets: &[u8], at: u8) -> u32
     ensures { result ≡ little24 octets.now at }
 {
     let i = at as usize;
-    wide(octets, i + 2) * 65536 + (wide(octets, i + 1) * 256 + wide(octets, i))
+    u32::from_le_bytes([
+        octet_at(octets, i),
+        octet_at(octets, i + 1),
+        octet_at(octets, i + 2),
+        0,
+    ])
 }
 
 pub fn little_32(octets: &[u8], at: u8) -> u32
     ensures { result ≡ little32 octets.now at }
 {
     let i = at as usize;
-    wide(octets, i + 3) * 16777216
-        + (wide(octets, i + 2) * 65536 + (wide(octets, i + 1) * 256 + wide(octets, i)))
+    u32::from_le_bytes([
+        octet_at(octets, i),
+        octet_at(octets, i + 1),
+        octet_at(octets, i + 2),
+        octet_at(octets, i + 3),
+    ])
 }
 
 // ---- writing
@@ -142,10 +157,6 @@ pub fn store(octets: &[u8], output: &mut [u8]) -> bool
     if output.len() < octets.len() {
         return false;
     }
-    let mut i = 0;
-    while i < octets.len() {
-        output[i] = octets[i];
-        i += 1;
-    }
+    output[..octets.len()].copy_from_slice(octets);
     true
 }

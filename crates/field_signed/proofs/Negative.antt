@@ -1,8 +1,7 @@
 -- A signed number and its magnitude, by its sign. Assumes nothing.
 use mathlib.Core.Path.{◌≡◌, refl, ap, ◌∙◌, subst⁻¹}
 use mathlib.Core.Bool.{true, false}
-use Prim.Native.Nat.{ℕ, zero, suc, ◌-◌, ◌<◌, ◌≤◌}
-use native.Mathlib.Nat.{zero-add}
+use Prim.Native.Nat.{ℕ, suc, ◌-◌, ◌<◌, ◌≤◌}
 use native.Mathlib.Omega.{arith}
 use borrow.Author.Tests.{ltb-true, le-ltb}
 use lib.IntN.{ℤ, pos, negsuc, ◌-ℤ◌}
@@ -10,17 +9,12 @@ use lib.Signed.{mag, lt_z}
 use mir.Syntax.{Width, w16, w32}
 use mir.Val.{SFits, to_z, of_z}
 use mir.ValLaws.{to_z-of_z}
-use Rattle.field_signed.specs.Signed.{signed, complement}
+use Rattle.field_signed.specs.Signed.{signed}
 use Rattle.field_signed.proofs.Signed.{magnitude_signed}
 
 -- the magnitude fits as the number does
 pub magnitude_fits : {w : Width} (z : ℤ) → SFits w z → SFits w (pos (mag z))
 magnitude_fits z f = record { sfits = f.sfits }
-
--- -1 less a number
-pub less : (n : ℕ) → negsuc 0 -ℤ pos n ≡ negsuc n
-less zero = refl
-less (suc n) = ap (λ (k : ℕ). negsuc (suc k)) (zero-add n)
 
 less_negative : (n : ℕ) → negsuc 0 -ℤ negsuc n ≡ pos n
 less_negative n =
@@ -53,13 +47,6 @@ module _ {w : Width} (z : ℤ) (f : SFits w z) where
 pub wider : (z : ℤ) → SFits w16 z → SFits w32 z
 wider z f = record { sfits = omega arith }
 
-pub widened_back : (z y : ℤ) → SFits w16 z → y ≡ to_z w16 (of_z w16 z) → to_z w32 (of_z w32 y) ≡ z
-widened_back z y f e = ap (λ (x : ℤ). to_z w32 (of_z w32 x)) (e ∙ to_z-of_z w16 z f) ∙ to_z-of_z w32 z (wider z f)
-
-pub complement_16 : (half : ℕ) (z : ℤ) → half ≤ 32768 → SFits w16 z → complement half z < 65536
-complement_16 half (pos n) h f = omega arith
-complement_16 half (negsuc n) h f = omega arith
-
 module _ (half n : ℕ) (some : 0 < half) (few : half ≤ 32768) where
   signed_16 : SFits w16 (signed half n)
   signed_16 = let l = magnitude_signed half n some in record { sfits = omega arith }
@@ -69,6 +56,3 @@ module _ (half n : ℕ) (some : 0 < half) (few : half ≤ 32768) where
 
   pub narrow_fits : (z : ℤ) → z ≡ signed half n → SFits w16 (to_z w32 (of_z w32 z))
   narrow_fits z e = subst⁻¹ (SFits w16) (narrow_back z e) signed_16
-
-  pub narrowed_back : (z y : ℤ) → z ≡ signed half n → y ≡ to_z w32 (of_z w32 z) → to_z w16 (of_z w16 y) ≡ signed half n
-  narrowed_back z y e d = ap (λ (x : ℤ). to_z w16 (of_z w16 x)) (d ∙ narrow_back z e) ∙ to_z-of_z w16 (signed half n) signed_16

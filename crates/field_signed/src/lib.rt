@@ -26,12 +26,6 @@ fn below_zero(n: u32) -> i32
     -1 - (n as i32)
 }
 
-fn widened(number: i16) -> i32
-    ensures { result ≡ number }
-{
-    number as i32
-}
-
 fn narrowed(number: i32) -> i16
     requires { SFits w16 number }
     ensures { result ≡ number }
@@ -39,6 +33,7 @@ fn narrowed(number: i32) -> i16
     number as i16
 }
 
+#[tactic(auto, unfolding(crate::specs::Signed::signed))]
 fn to_signed(bits: u32, half: u32) -> i32
     requires { half ≤ 2147483648 }
     ensures { result ≡ signed half bits }
@@ -79,16 +74,19 @@ fn to_bits(number: i32, half: u32) -> u32
     n
 }
 
+// Stays: the new form is no plainer: of 12 and of 24 bits each function is one call of what both share, and a const parameter, as in
+// signed::<2048>(bits) as i16, would only move the half and the cast to each caller.
 pub fn signed_12(bits: u16) -> i16
     ensures { result ≡ signed 2048 bits }
 {
     narrowed(to_signed(bits as u32, 2048))
 }
 
+#[tactic(auto, unfolding(crate::specs::Signed::signed))]
 pub fn signed_16(bits: u16) -> i16
     ensures { result ≡ signed 32768 bits }
 {
-    narrowed(to_signed(bits as u32, 32768))
+    bits.cast_signed()
 }
 
 pub fn signed_24(bits: u32) -> i32
@@ -97,23 +95,24 @@ pub fn signed_24(bits: u32) -> i32
     to_signed(bits, 8388608)
 }
 
+#[tactic(auto, unfolding(crate::specs::Signed::signed))]
 pub fn signed_32(bits: u32) -> i32
     ensures { result ≡ signed 2147483648 bits }
 {
-    to_signed(bits, 2147483648)
+    bits.cast_signed()
 }
 
 // The bits of a number that has too many for the width are of no meaning: `holds_12` and `holds_24` say whether it has.
 pub fn bits_12(number: i16) -> u16
     ensures { result ≡ complement 2048 number }
 {
-    to_bits(widened(number), 2048) as u16
+    to_bits(i32::from(number), 2048) as u16
 }
 
 pub fn bits_16(number: i16) -> u16
     ensures { result ≡ complement 32768 number }
 {
-    to_bits(widened(number), 32768) as u16
+    number.cast_unsigned()
 }
 
 pub fn bits_24(number: i32) -> u32
@@ -125,15 +124,17 @@ pub fn bits_24(number: i32) -> u32
 pub fn bits_32(number: i32) -> u32
     ensures { result ≡ complement 2147483648 number }
 {
-    to_bits(number, 2147483648)
+    number.cast_unsigned()
 }
 
+#[tactic(auto, unfolding(crate::specs::Signed::holds))]
 pub fn holds_12(number: i16) -> bool
     ensures { result ≡ holds 2048 number }
 {
-    magnitude(widened(number)) < 2048
+    magnitude(i32::from(number)) < 2048
 }
 
+#[tactic(auto, unfolding(crate::specs::Signed::holds))]
 pub fn holds_24(number: i32) -> bool
     ensures { result ≡ holds 8388608 number }
 {

@@ -1,14 +1,9 @@
 // The rule of a spaced text at a place, each octet by itself: no step waits for another.
-ghost use Rattle.std.specs.Prelude.{◌≡◌, ◌||◌, ◌+◌, ◌≤◌, length};
+ghost use Rattle.std.specs.Prelude.{◌≡◌, ◌+◌, ◌≤◌, length};
 ghost use Rattle.field_layout.specs.Layout.{text_at, text_octets};
-ghost use Rattle.field_texts.specs.Text.{is_letter_or_digit, is_space, is_spaced};
+ghost use Rattle.field_texts.specs.Text.{is_spaced};
 
-// Whether an octet is 0 to 9, A to Z or a space.
-fn is_spaced_octet(c: u8) -> bool
-    ensures { result ≡ (is_letter_or_digit c || is_space c) }
-{
-    (0x30 <= c) & (c <= 0x39) | (0x41 <= c) & (c <= 0x5A) | (c == 0x20)
-}
+use super::is_spaced_octet;
 
 // Whether the eight octets from a place on are of 0 to 9, A to Z and spaces.
 pub fn is_spaced_at(octets: &[u8], at: usize) -> bool

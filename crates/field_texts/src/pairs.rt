@@ -1,19 +1,13 @@
 // The rule of a padded text, each octet by itself and the next: no step waits for another.
 ghost use Rattle.std.specs.Prelude.{◌≡◌, ◌+◌, ◌≤◌, length};
 ghost use Rattle.field_layout.specs.Layout.{text_at, text_octets};
-ghost use Rattle.field_texts.specs.Text.{is_letter_or_digit, is_padded};
+ghost use Rattle.field_texts.specs.Text.{is_padded};
 ghost use Rattle.field_texts.specs.Pairs.{goes_on};
-
-fn is_letter_or_digit(c: u8) -> bool
-    ensures { result ≡ is_letter_or_digit c }
-{
-    (0x30 <= c) & (c <= 0x39) | (0x41 <= c) & (c <= 0x5A)
-}
 
 fn goes_on(c: u8, next: u8) -> bool
     ensures { result ≡ goes_on c next }
 {
-    is_letter_or_digit(c) | (c == 0x20) & (next == 0x20)
+    super::is_letter_or_digit(c) | (c == 0x20) & (next == 0x20)
 }
 
 // Whether the eight octets from a place on are of 0 to 9 and A to Z, with spaces only at their end.

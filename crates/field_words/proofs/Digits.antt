@@ -8,6 +8,7 @@ use native.Mathlib.Numerals.{add-one}
 use lib.Arith.{mod-mul}
 use lib.ListN.{length, get_or, take, drop}
 use lib.Seq.{drop-cons}
+use Rattle.std.proofs.lemmas.List.{take_all}
 use Rattle.field_words.specs.Words.{octets_up, octets_down, eight}
 
 -- ---- digits to the base 256
@@ -126,3 +127,7 @@ from xs i (suc n) k h =
 pub eight_from : (xs : List ℕ) (i : ℕ) → i + 8 ≤ length xs → take 8 (drop i xs) ≡ get_or xs i 0 ∷ elements xs i 1 7
 eight_from xs i fits =
     one_more 7 xs i (i + 1) refl (omega arith) ∙ ap (λ (ys : List ℕ). get_or xs i 0 ∷ ys) (from xs i 7 1 (omega arith))
+
+-- all of a list that has so many
+pub whole : (n : ℕ) (xs : List ℕ) → length xs ≡ n → elements xs 0 0 n ≡ xs
+whole n xs e = sym (from xs 0 n 0 (omega arith)) ∙ take_all n xs (omega arith)

@@ -7,8 +7,8 @@ use lib.ListN.{take, drop}
 use lib.Seq.{take_at}
 use Rattle.ucp_frame.specs.Frame.{frame, frames_of}
 use Rattle.ucp_frame.proofs.Frame.{frames_injective}
-use Rattle.output_writing.specs.declared.Written.{Written}
-use Rattle.output_writing.specs.declared.Written.TheVariants.{Wrote, Refused}
+use Rattle.std.specs.Prelude.{Ok, Err}
+use Rattle.output_writing.specs.Writing.{Written}
 use Rattle.ucp_writer.specs.Writes.{WritesFrame}
 use Rattle.ucp_writer.proofs.room.Due.{accepted_so}
 use Rattle.thm_ucp_writer.specs.Calls.{WriterCall, adds, accepts, line_octets, accepted_bodies, WriterLists}
@@ -18,8 +18,8 @@ use Rattle.thm_ucp_writer.proofs.Differ.{differ_so}
 one : (body output : List ℕ) (answer : Written) (after : List ℕ) → WritesFrame body output answer after
     → adds answer after ≡ frames_of (accepts answer body)
 unfolding frames_of
-one body output (Refused number) after w = refl
-one body output (Wrote octets) after w =
+one body output (Err refusal) after w = refl
+one body output (Ok octets) after w =
     ap (take octets) w.leaves
     ∙ take_at (frame body) (drop octets output) octets (accepted_so body output octets w.answers).exact
     ∙ sym (append-nil (frame body))

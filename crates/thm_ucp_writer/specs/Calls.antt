@@ -1,8 +1,6 @@
 -- Whole lists of calls to the frame writer (document 01, "Demand 3 in exact terms", the writer's part). Assumes nothing.
-use Rattle.std.specs.Prelude.{◌≡◌, List, [], ◌∷◌, ◌++◌, ◌⊎◌, ℕ, ◌<◌, length, get_or, take}
-use Rattle.output_writing.specs.declared.Written.{Written}
-use Rattle.output_writing.specs.declared.Written.TheVariants.{Wrote, Refused}
-use Rattle.output_writing.specs.Writing.{writer_answer}
+use Rattle.std.specs.Prelude.{◌≡◌, List, [], ◌∷◌, ◌++◌, ◌⊎◌, ℕ, ◌<◌, length, get_or, take, Ok, Err}
+use Rattle.output_writing.specs.Writing.{Written, writer_answer}
 use Rattle.ucp_frame.specs.Frame.{frames_of}
 use Rattle.ucp_writer.specs.Room.{frame_due}
 use Rattle.ucp_writer.specs.Writes.{WritesFrame}
@@ -18,13 +16,13 @@ pub record WriterCall : Type 0 where
 
 -- a refused call adds no line octets; every other adds the frame that it wrote, as it stands at its return
 abbrev pub adds : Written → List ℕ → List ℕ
-adds (Refused number) after = []
-adds (Wrote octets) after = take octets after
+adds (Err refusal) after = []
+adds (Ok octets) after = take octets after
 
 -- and its body, as at entry, is accepted
 abbrev pub accepts : Written → List ℕ → List (List ℕ)
-accepts (Refused number) body = []
-accepts (Wrote octets) body = body ∷ []
+accepts (Err refusal) body = []
+accepts (Ok octets) body = body ∷ []
 
 -- the line octets of a list of calls: the frames in the order of the calls, with nothing between
 unfoldable pub line_octets : List WriterCall → List ℕ

@@ -1,3 +1,3 @@
 mod Plain
 mod Lengths
-mod Numbers
+pub mod Both

@@ -2,7 +2,7 @@
 // share it.
 #![tactic(auto)]
 
-ghost use Rattle.std.specs.Prelude.{◌≡◌, true, ◌||◌, ◌++◌, ◌+◌, ◌≤◌, eqb, length, drop};
+ghost use Rattle.std.specs.Prelude.{◌≡◌, true, ◌||◌, ◌++◌, ◌+◌, ◌≤◌, eqb, length};
 ghost use Rattle.field_words.specs.Words.{octets_up};
 ghost use Rattle.ucp_frame.specs.Frame.{flag, escape, escaped, stuffed, longest_body};
 ghost use Rattle.output_writing.specs.Puts.{Puts};
@@ -35,53 +35,35 @@ pub fn stuffed_length(body: &[u8]) -> usize
     requires { length body.now ≤ longest_body }
     ensures { result ≡ length (stuffed body.now) }
 {
+    let (words, rest) = body.as_chunks::<8>();
     let mut count = 0;
-    let mut i = 0;
-    while body.len() - i > 7 {
-        count += word_length(field_words::little_64(body, i));
-        i += 8;
+    for word in words {
+        count += word_length(*word);
     }
-    count + tail_length(body, i)
+    count + counted_length(rest)
 }
 
-// The same of the octets from start on, one by one.
-fn tail_length(body: &[u8], start: usize) -> usize
-    requires { (length body.now ≤ longest_body) × (start ≤ length body.now) }
-    ensures { result ≡ length (stuffed (drop start body.now)) }
+// The same, octet by octet.
+fn counted_length(octets: &[u8]) -> usize
+    requires { length octets.now ≤ longest_body }
+    ensures { result ≡ length (stuffed octets.now) }
 {
     let mut count = 0;
-    let mut i = start;
-    while i < body.len() {
-        count += escaped_length(body[i]);
-        i += 1;
+    for octet in octets {
+        count += escaped_length(*octet);
     }
     count
 }
 
 // How many octets eight take on the line.
-fn word_length(word: u64) -> usize
-    ensures { result ≡ length (stuffed (octets_up 8 word)) }
+fn word_length(octets: [u8; 8]) -> usize
+    ensures { result ≡ length (stuffed octets) }
 {
-    if is_plain(word) {
+    if is_plain(field_words::word(octets)) {
         8
     } else {
-        word_length_counted(word)
+        counted_length(&octets)
     }
-}
-
-// The same, octet by octet.
-fn word_length_counted(word: u64) -> usize
-    ensures { result ≡ length (stuffed (octets_up 8 word)) }
-{
-    let mut count = 0;
-    let mut word = word;
-    let mut left: usize = 8;
-    while left > 0 {
-        count += escaped_length((word % 256) as u8);
-        word = word / 256;
-        left -= 1;
-    }
-    count
 }
 
 // Puts eight octets, stuffed, at a place of output, and gives the next place: at once where none needs an escape.
@@ -93,23 +75,18 @@ pub fn put_eight(output: &mut [u8], at: usize, word: u64) -> usize
         field_words::put_64(output, at, word);
         at + 8
     } else {
-        let next = put_octets(output, at, word);
-        put_octets(output, next, word >> 32)
+        put_octets(output, at, &word.to_le_bytes())
     }
 }
 
-// Puts the four lowest octets of a number, stuffed, at a place of output, and gives the next place.
-fn put_octets(output: &mut [u8], at: usize, word: u64) -> usize
-    requires { at + length (stuffed (octets_up 4 word)) ≤ length output.old }
-    ensures { Puts output.old at (stuffed (octets_up 4 word)) result output.new }
+// Puts octets, stuffed, at a place of output, one by one, and gives the next place.
+fn put_octets(output: &mut [u8], at: usize, octets: &[u8]) -> usize
+    requires { at + length (stuffed octets.now) ≤ length output.old }
+    ensures { Puts output.old at (stuffed octets.now) result output.new }
 {
     let mut at = at;
-    let mut word = word;
-    let mut left: usize = 4;
-    while left > 0 {
-        at = put(output, at, (word % 256) as u8);
-        word = word / 256;
-        left -= 1;
+    for octet in octets {
+        at = put(output, at, *octet);
     }
     at
 }

@@ -4,8 +4,7 @@ use Rattle.std.specs.Prelude.{Bool, cond, List, ℕ}
 use Rattle.refusals.specs.Numbers as because
 use Rattle.ucp_frame.specs.Frame.{frame}
 use Rattle.ucp_writer.specs.Room.{frame_due}
-use Rattle.output_writing.specs.declared.Written.{Written}
-use Rattle.output_writing.specs.Writing.{WriterAnswer, refused, Writing}
+use Rattle.output_writing.specs.Writing.{Written, WriterAnswer, refused, Writing}
 
 -- the answer that is due: 13 for a field outside its range, then what the frame writer answers to the message's body
 unfoldable pub send_due : Bool → List ℕ → List ℕ → WriterAnswer

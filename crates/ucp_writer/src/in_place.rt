@@ -6,22 +6,19 @@ ghost use Rattle.ucp_frame.specs.Frame.{stuffed, frame, longest_body, longest_fr
 ghost use Rattle.ucp_writer.specs.Writes.{FramesInPlace};
 ghost use Rattle.ucp_writer.specs.Steps.{Moves, ToMove};
 
-// Makes of the first octets of buffer their frame, where a body may have so many: how many octets the frame has, else 0.
-pub fn frame_front(buffer: &mut [u8], octets: usize) -> usize
+use output_writing::Written;
+
+// Makes of the first octets of buffer their frame, where a body may have so many.
+pub fn frame_front(buffer: &mut [u8], octets: usize) -> Written
     requires { length buffer.old ≡ longest_frame }
     ensures { FramesInPlace buffer.old octets result buffer.new }
 {
-    if octets == 0 {
-        return 0;
-    }
-    if ucp_frame::LONGEST_BODY < octets {
-        return 0;
-    }
+    super::room::admit_length(octets)?;
     let end = 1 + ucp_stuffing::stuffed_length(&buffer[..octets]);
     let check = crc_gdl90::frame_check_by_shifts(&buffer[..octets]);
     move_words(buffer, octets, end);
     buffer[0] = 0x7E;
-    super::close(buffer, end, check)
+    Ok(super::close(buffer, end, check))
 }
 
 // Puts the first octets of buffer, stuffed, behind its first place, so that they end at a place: eight at a time.
@@ -29,13 +26,12 @@ fn move_words(buffer: &mut [u8], octets: usize, end: usize)
     requires { Moves buffer.old octets end }
     ensures { buffer.new ≡ sets buffer.old 1 (stuffed (take octets buffer.old)) }
 {
-    let mut left = octets;
+    let first = octets % 8;
     let mut end = end;
-    while left > 7 {
-        left -= 8;
-        end = move_word(buffer, left, end);
+    for word in (0..octets / 8).rev() {
+        end = move_word(buffer, first + word * 8, end);
     }
-    move_octets(buffer, 0, left, end);
+    move_octets(buffer, 0, first, end);
 }
 
 // Of the octets that are left, puts the eight from a place on, and gives where they start: at once where none needs an escape, else
@@ -58,11 +54,9 @@ fn move_octets(buffer: &mut [u8], from: usize, octets: usize, end: usize) -> usi
     requires { (from ≤ octets) × Moves buffer.old octets end }
     ensures { ToMove buffer.new from result (sets buffer.old 1 (stuffed (take octets buffer.old))) }
 {
-    let mut left = octets;
     let mut end = end;
-    while left > from {
-        left -= 1;
-        let octet = buffer[left];
+    for at in (from..octets).rev() {
+        let octet = buffer[at];
         end -= ucp_stuffing::escaped_length(octet);
         ucp_stuffing::put(buffer, end, octet);
     }

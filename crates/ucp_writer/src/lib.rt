@@ -18,16 +18,13 @@ use ucp_frame::FrameBuffer;
 pub fn write_frame(body: &[u8], output: &mut [u8]) -> Written
     ensures { WritesFrame body.now output.old result output.new }
 {
-    let refusal = room::refusal(body, output);
-    if refusal != 0 {
-        return Written::Refused(refusal);
-    }
-    Written::Wrote(fill(body, output))
+    room::admit(body, output)?;
+    Ok(fill(body, output))
 }
 
-// Makes of the body in the first octets of buffer its frame, where it lies, so that no body needs a place of its own: how many octets
-// the frame has. For 0 or more than 436 octets nothing is done, and it gives 0.
-pub fn frame_in_place(buffer: &mut FrameBuffer, octets: usize) -> usize
+// Makes of the body in the first octets of buffer its frame, where it lies, so that no body needs a place of its own. Refusal: 7, 0 or
+// more than 436 octets. On a refusal nothing is done.
+pub fn frame_in_place(buffer: &mut FrameBuffer, octets: usize) -> Written
     ensures { FramesInPlace buffer.old octets result buffer.new }
 {
     in_place::frame_front(buffer, octets)
@@ -64,32 +61,36 @@ pub fn fill_words(body: &[u8], output: &mut [u8], start: usize, check: u16, at: 
     requires { (start ≤ length body.now) × ((length body.now - start) % 2 ≡ 0) × (at + length (frame_rest check (drop start body.now)) ≤ length output.old) }
     ensures { Puts output.old at (frame_rest check (drop start body.now)) result output.new }
 {
+    fill_left(&body[start..], output, check, at)
+}
+
+// The same of the octets that are left.
+fn fill_left(octets: &[u8], output: &mut [u8], check: u16, at: usize) -> usize
+    requires { (length octets.now % 2 ≡ 0) × (at + length (frame_rest check octets.now) ≤ length output.old) }
+    ensures { Puts output.old at (frame_rest check octets.now) result output.new }
+{
+    let (words, rest) = octets.as_chunks::<8>();
     let mut check = check;
     let mut at = at;
-    let mut i = start;
-    while body.len() - i > 7 {
-        let word = field_words::little_64(body, i);
+    for word in words {
+        let word = field_words::word(*word);
         check = crc_gdl90::next_check_eight(check, field_words::turned(word));
         at = ucp_stuffing::put_eight(output, at, word);
-        i += 8;
     }
-    fill_pairs(body, output, i, check, at)
+    fill_pairs(rest, output, check, at)
 }
 
 // The same, two octets at a time.
-fn fill_pairs(body: &[u8], output: &mut [u8], start: usize, check: u16, at: usize) -> usize
-    requires { (start ≤ length body.now) × ((length body.now - start) % 2 ≡ 0) × (at + length (frame_rest check (drop start body.now)) ≤ length output.old) }
-    ensures { Puts output.old at (frame_rest check (drop start body.now)) result output.new }
+fn fill_pairs(octets: &[u8], output: &mut [u8], check: u16, at: usize) -> usize
+    requires { (length octets.now % 2 ≡ 0) × (at + length (frame_rest check octets.now) ≤ length output.old) }
+    ensures { Puts output.old at (frame_rest check octets.now) result output.new }
 {
+    let (pairs, _) = octets.as_chunks::<2>();
     let mut check = check;
     let mut at = at;
-    let mut i = start;
-    while i < body.len() {
-        let first = body[i];
-        let second = body[i + 1];
-        check = crc_gdl90::next_check_pair(check, first, second);
-        at = ucp_stuffing::put_pair(output, at, first, second);
-        i += 2;
+    for pair in pairs {
+        check = crc_gdl90::next_check_pair(check, pair[0], pair[1]);
+        at = ucp_stuffing::put_pair(output, at, pair[0], pair[1]);
     }
     close(output, at, check)
 }

@@ -1,28 +1,39 @@
 // Whether a body may become a frame in an output: tested before anything is written.
 ghost use Rattle.std.specs.Prelude.{◌≡◌, ◌≤◌, length};
 ghost use Rattle.ucp_frame.specs.Frame.{frame, longest_body};
-ghost use Rattle.ucp_writer.specs.Room.{frame_due, refusal_number};
+ghost use Rattle.ucp_writer.specs.Refusals.{AdmitsLength, Admits};
 
-// The refusal that is due: 7, a body of 0 or more than 436 octets; 8, an output shorter than the frame; 0, none.
-pub fn refusal(body: &[u8], output: &[u8]) -> u8
-    ensures { result ≡ refusal_number (frame_due body.now output.now) }
+use refusals::Refusal;
+
+// Whether a body may have so many octets. Refusal: 7, 0 or more than 436.
+pub fn admit_length(n: usize) -> Result<(), Refusal>
+    ensures { AdmitsLength n result }
 {
-    let n = body.len();
     if n == 0 {
-        return refusals::BODY_LENGTH;
+        return Err(Refusal::BodyLength);
     }
     if ucp_frame::LONGEST_BODY < n {
-        return refusals::BODY_LENGTH;
+        return Err(Refusal::BodyLength);
     }
+    Ok(())
+}
+
+// Whether the body may become a frame in the output. Refusals: 7, a body of 0 or more than 436 octets; 8, an output shorter than the
+// frame.
+pub fn admit(body: &[u8], output: &[u8]) -> Result<(), Refusal>
+    ensures { Admits body.now output.now result }
+{
+    let n = body.len();
+    admit_length(n)?;
     // The most that a frame of n octets takes. Only where that is too much is this very frame measured.
     let most = 2 * n + 6;
     if output.len() < most {
         let exact = frame_length(body);
         if output.len() < exact {
-            return refusals::OUTPUT_LENGTH;
+            return Err(Refusal::OutputLength);
         }
     }
-    0
+    Ok(())
 }
 
 // How many octets the frame of body has.

@@ -1,17 +1,12 @@
 -- `crc_x25::check_rest` meets its contract. The loop's invariant: the octets that are left, from the running check on, have the
--- check of all that was left at the start. Assumes nothing.
+-- check of all. Assumes nothing.
 use mathlib.Core.Path.{◌≡◌}
 use mathlib.Core.List.{[], ◌∷◌, ◌++◌}
-use Prim.Native.Nat.{◌-◌, ◌<◌, ◌≤◌}
-use lib.ListN.{length, drop}
+use Prim.Native.Nat.{◌*◌}
+use lib.ListN.{drop}
 use Rattle.crc_x25.specs.Check.{x25_from}
 use Rattle.crc_x25.proofs.check_rest.Given as goal
 
-abbrev pub invariant-loop-i : goal.invariant-loop-i
-invariant-loop-i l =
-    (l.i ≤ length l.octets)
-    × (l.check < 65536)
-    × (x25_from l.check (drop l.i (l.octets ++ l.extra ∷ [])) ≡ x25_from l.check-2 (drop l.start (l.octets ++ l.extra ∷ [])))
-
-abbrev pub decreases-loop-i : goal.decreases-loop-i
-decreases-loop-i l = length l.octets - l.i
+abbrev pub invariant-loop-pair : goal.invariant-loop-pair
+invariant-loop-pair l =
+    x25_from l.check (drop (l.pair-index * 2) l.octets ++ l.extra ∷ []) ≡ x25_from l.fn.check (l.octets ++ l.extra ∷ [])

@@ -2,16 +2,11 @@
 -- check of all. Assumes nothing.
 use mathlib.Core.Path.{◌≡◌}
 use mathlib.Core.List.{[], ◌∷◌, ◌++◌}
-use Prim.Native.Nat.{◌-◌, ◌<◌, ◌≤◌}
-use lib.ListN.{length, drop}
+use Prim.Native.Nat.{◌*◌}
+use lib.ListN.{drop}
 use Rattle.crc_x25.specs.Check.{x25_from}
 use Rattle.crc_x25.proofs.x25_after.Given as goal
 
-abbrev pub invariant-loop-i : goal.invariant-loop-i
-invariant-loop-i l =
-    (l.i ≤ length l.octets)
-    × (l.check < 65536)
-    × (x25_from l.check (drop l.i (l.octets ++ l.extra ∷ [])) ≡ x25_from l.check-2 (l.octets ++ l.extra ∷ []))
-
-abbrev pub decreases-loop-i : goal.decreases-loop-i
-decreases-loop-i l = length l.octets - l.i
+abbrev pub invariant-loop-word : goal.invariant-loop-word
+invariant-loop-word l =
+    x25_from l.check (drop (l.word-index * 8) l.octets ++ l.extra ∷ []) ≡ x25_from l.fn.check (l.octets ++ l.extra ∷ [])

@@ -1,31 +1,14 @@
--- `field_texts::is_padded` meets its contract: from the end to the front, the rule holds of what was passed. Assumes nothing.
-use mathlib.Core.Path.{◌≡◌, sym, ◌∙◌, ap}
-use Prim.Native.Nat.{ℕ}
-use native.Mathlib.Omega.{arith}
-use lib.ListN.{drop}
-use lib.Seq.{drop-length}
-use Rattle.field_texts.specs.Text.{is_padded, all_spaces}
-use Rattle.field_texts.proofs.Last.{padded_before, spaces_before}
+-- `field_texts::is_padded` meets its contract: once the spaces at the end are passed, each octet is a letter or a digit. Assumes nothing.
+use Rattle.std.proofs.Common.{◌∙◌, rules, tests}
+use Rattle.std.proofs.lemmas.Iterator.Adapters.{YieldsList-from_rev_slice, YieldsList-from_skip_while}
+use Rattle.std.proofs.lemmas.Iterator.Search.{all_from_yields_List}
+use Rattle.field_texts.specs.Text.{is_letter_or_digit, is_space}
+use Rattle.field_texts.proofs.Ends.{padded}
 use Rattle.field_texts.proofs.is_padded.Goals as goal
-
-pub loop-i-init : goal.loop-i-init
-unfolding is_padded all_spaces
-loop-i-init c =
-    let e = sym (drop-length c.args.text.now) in
-    (omega arith, ap is_padded e, ap all_spaces e)
-
-pub loop-i-preserved : goal.loop-i-preserved
-loop-i-preserved c =
-    let l = c.loop-i in
-    let text = c.args.text.now in
-    let some = c.loop-i-test.true in (
-      omega arith,
-      padded_before text l.i some l.invariant.0 c.is_letter_or_digit.ensures l.invariant.1 l.invariant.2,
-      spaces_before text l.i some l.invariant.0 l.invariant.2,
-    )
 
 pub returns : goal.returns
 returns c =
-    let l = c.loop-i in
-    let e : l.i ≡ 0 = omega arith in
-    l.invariant.1 ∙ ap (λ (n : ℕ). is_padded (drop n c.args.text.now)) e
+    all_from_yields_List is_letter_or_digit _ _ _ c.all.ensures.ran
+    (YieldsList-from_skip_while _ _ _ is_space _ (λ x b q k. search (rules, tests)) (YieldsList-from_rev_slice c.args.text.now cc) c.skip_while.ensures.closure c.skip_while.ensures.done_skipping)
+    (λ x b q k. search (rules, tests))
+    ∙ padded c.args.text.now

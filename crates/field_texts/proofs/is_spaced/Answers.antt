@@ -1,25 +1,13 @@
--- `field_texts::is_spaced` meets its contract: from the end to the front, the rule holds of what was passed. Assumes nothing.
-use mathlib.Core.Path.{◌≡◌, sym, ◌∙◌, ap}
-use Prim.Native.Nat.{ℕ}
-use native.Mathlib.Omega.{arith}
-use lib.ListN.{drop}
-use lib.Seq.{drop-length}
-use Rattle.field_texts.specs.Text.{is_spaced}
-use Rattle.field_texts.proofs.Last.{spaced_before}
+-- `field_texts::is_spaced` meets its contract: it asks of each octet what the rule does. Assumes nothing.
+use Rattle.std.proofs.Common.{◌||◌, ◌∙◌, rules, tests}
+use Rattle.std.proofs.lemmas.Iterator.{YieldsList-from_slice}
+use Rattle.std.proofs.lemmas.Iterator.Search.{all_from_yields_List}
+use Rattle.field_texts.specs.Text.{is_letter_or_digit, is_space}
+use Rattle.field_texts.proofs.Ends.{spaced}
 use Rattle.field_texts.proofs.is_spaced.Goals as goal
-
-pub loop-i-init : goal.loop-i-init
-unfolding is_spaced
-loop-i-init c = (omega arith, ap is_spaced (sym (drop-length c.args.text.now)))
-
-pub loop-i-preserved : goal.loop-i-preserved
-loop-i-preserved c =
-    let l = c.loop-i in
-    let text = c.args.text.now in
-    (omega arith, spaced_before text l.i c.loop-i-test.true l.invariant.0 c.is_letter_or_digit.ensures l.invariant.1)
 
 pub returns : goal.returns
 returns c =
-    let l = c.loop-i in
-    let e : l.i ≡ 0 = omega arith in
-    l.invariant.1 ∙ ap (λ (n : ℕ). is_spaced (drop n c.args.text.now)) e
+    all_from_yields_List (λ x. is_letter_or_digit x || is_space x) _ _ _ c.all.ensures.ran (YieldsList-from_slice c.args.text.now cc)
+    (λ x b q k. search (rules, tests))
+    ∙ spaced c.args.text.now

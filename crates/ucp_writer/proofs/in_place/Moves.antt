@@ -34,10 +34,6 @@ pub none_left : {buffer final : List ℕ} {end : ℕ} → ToMove buffer 0 end fi
 unfolding stuffed
 none_left t = t.gives
 
--- the buffer is as long as it was
-pub as_long : (before vs : List ℕ) {buffer : List ℕ} {left end : ℕ} → ToMove buffer left end (sets before 1 vs) → length buffer ≡ length before
-as_long before vs {buffer} {left} t = sym (length-sets buffer 1 (stuffed (take left buffer))) ∙ ap length t.gives ∙ length-sets before 1 vs
-
 -- moved further
 pub then_moved : {buffer middle final : List ℕ} {left end next at : ℕ} → ToMove buffer left end final
     → ToMove middle next at (sets buffer 1 (stuffed (take left buffer))) → ToMove middle next at final

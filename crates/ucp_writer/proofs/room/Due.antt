@@ -1,5 +1,5 @@
 -- The writer's three answers, with what holds where each is due. Assumes nothing.
-use mathlib.Core.Path.{◌≡◌, refl, ap}
+use mathlib.Core.Path.{◌≡◌, refl, sym, ap, ◌∙◌}
 use mathlib.Core.Bool.{Bool, true, false, cond, ◌||◌}
 use mathlib.Core.List.{List}
 use mathlib.Core.Logic.{◌⊎◌, inl, inr, ◌↔◌}
@@ -10,8 +10,8 @@ use lib.ListN.{length}
 use borrow.Author.Tests.{eqb-true, eqb-false, ltb-true, ltb-false, eq-eqb, ne_eqb, lt-ltb, le-ltb}
 use Rattle.ucp_frame.specs.Frame.{frame, longest_body}
 use Rattle.output_writing.specs.Writing.{WriterAnswer, refused, wrote}
-use Rattle.ucp_writer.specs.Room.{frame_due, refusal_number}
-use Rattle.ucp_writer.specs.Refusals.{WrongBodyLength, NoRoomForFrame}
+use Rattle.ucp_writer.specs.Room.{frame_due}
+use Rattle.ucp_writer.specs.Refusals.{WrongBodyLength, NoRoomForFrame, FrameWriterRefuses}
 
 data Due (body output : List ℕ) : WriterAnswer → Type 0 where
   empty : length body ≡ 0 → Due body output (refused 7)
@@ -102,23 +102,7 @@ due_accepted body output least most room =
     let some : length body ≡ 0 → ⊥ = omega arith in
     rw (ne_eqb (length body) 0 some, le-ltb longest_body (length body) most, le-ltb (length output) (length (frame body)) room)
 
--- what a number says of the answer
-pub refused_by : (body output : List ℕ) {number : ℕ} → number ≡ refusal_number (frame_due body output) → (number ≡ 0 → ⊥)
-    → refused number ≡ frame_due body output
-refused_by body output {number} = go (frame_due body output) (due body output)
-  where
-    go : (a : WriterAnswer) → Due body output a → number ≡ refusal_number a → (number ≡ 0 → ⊥) → refused number ≡ a
-    go a (empty h) e ne = ap refused e
-    go a (too_long h) e ne = ap refused e
-    go a (short least most h) e ne = ap refused e
-    go a (accepted least most room) e ne = absurd (ne e)
-
-pub accepted_by : (body output : List ℕ) {number : ℕ} → number ≡ refusal_number (frame_due body output) → number ≡ 0
-    → wrote (length (frame body)) ≡ frame_due body output
-accepted_by body output {number} = go (frame_due body output) (due body output)
-  where
-    go : (a : WriterAnswer) → Due body output a → number ≡ refusal_number a → number ≡ 0 → wrote (length (frame body)) ≡ a
-    go a (empty h) e z = absurd (omega arith)
-    go a (too_long h) e z = absurd (omega arith)
-    go a (short least most h) e z = absurd (omega arith)
-    go a (accepted least most room) e z = refl
+-- a body that the tests refuse is refused with that number
+pub due_refused : (body output : List ℕ) (number : ℕ) → FrameWriterRefuses body output number → refused number ≡ frame_due body output
+due_refused body output number (inl h) = ap refused h.0 ∙ sym ((refused_7 body output).1 h.1)
+due_refused body output number (inr h) = ap refused h.0 ∙ sym ((refused_8 body output).1 h.1)

@@ -1,84 +1,58 @@
 -- `ucp_writer::in_place::frame_front` meets its contract: nothing is done, or the octets are moved and the frame is closed around them.
 -- Assumes nothing.
-use mathlib.Core.Path.{◌≡◌, refl, sym, ◌∙◌}
+use mathlib.Core.Path.{◌≡◌, ap}
 use mathlib.Core.List.{List}
 use mathlib.Core.Logic.{◌⊎◌, inl, inr}
 use Prim.Native.Nat.{ℕ, ◌≤◌, ◌<◌}
 use native.Mathlib.Omega.{arith}
-use lib.ListN.{length, take, length-set}
+use lib.ListN.{length, take}
 use lib.Seq.{length-take-le}
-use Rattle.ucp_frame.specs.Frame.{frame, longest_body}
+use Rattle.std.specs.Prelude.{Ok}
+use Rattle.ucp_frame.specs.Frame.{frame, longest_body, longest_frame}
 use Rattle.ucp_frame.proofs.Stuffing.{stuffed_length_most}
 use Rattle.ucp_frame.proofs.Frame.{frame_length_longest}
 use Rattle.ucp_writer.proofs.in_place.Moves.{end_room, framed}
-use Rattle.ucp_writer.proofs.in_place.frame_front.Lts as lts
-use Rattle.ucp_writer.proofs.in_place.frame_front.Tie as tie
-use Rattle.ucp_writer.proofs.in_place.frame_front.Reads as reads
 use Rattle.ucp_writer.proofs.in_place.frame_front.Goals as goal
 
-abbrev From-Else2 : Type 0
-From-Else2 = lts.Else2 tie.the-claims reads.Pre reads.Post
+-- the first octets of a buffer for any frame are as many as they are said to be
+size : (buffer : List ℕ) (octets : ℕ) → length buffer ≡ longest_frame → octets ≤ longest_body → length (take octets buffer) ≡ octets
+size buffer octets n most = length-take-le octets buffer (omega (arith, n))
 
--- the body, where the call goes on
-abbrev body_of : From-Else2 → List ℕ
-body_of c = take c.args.octets c.args.buffer.now
-
-size : (c : From-Else2) → length (body_of c) ≡ c.args.octets
-size c = length-take-le _ _ (omega (arith, c.requires))
+-- and their frame has room
+room : (buffer : List ℕ) (octets : ℕ) → length buffer ≡ longest_frame → octets ≤ longest_body
+    → length (frame (take octets buffer)) ≤ length buffer
+room buffer octets n most = omega (arith, frame_length_longest (take octets buffer) (omega (arith, size buffer octets n most)))
 
 -- no octet or too many
-neither : (n : ℕ) → (n ≡ 0 → ⊥) → n ≤ longest_body → (n ≡ 0) ⊎ (longest_body < n) → ⊥
-neither n some few (inl e) = some e
+neither : (n : ℕ) → 1 ≤ n → n ≤ longest_body → (n ≡ 0) ⊎ (longest_body < n) → ⊥
+neither n some few (inl e) = omega arith
 neither n some few (inr h) = omega arith
 
-room : (c : From-Else2) → length (frame (body_of c)) ≤ length c.args.buffer.now
-room c = omega (arith, c.requires, size c, frame_length_longest (body_of c) (omega (arith, size c)))
-
-pub returns-then-octets-eq0 : goal.returns-then-octets-eq0
-returns-then-octets-eq0 c = record { frames = λ some few. absurd (omega arith); leaves = λ none. (refl, refl); size = c.requires }
-
-pub returns-then-octets-gt-LONGEST_BODY : goal.returns-then-octets-gt-LONGEST_BODY
-returns-then-octets-gt-LONGEST_BODY c = record { frames = λ some few. absurd (omega arith); leaves = λ none. (refl, refl); size = c.requires }
-
-pub slice_bounds-stuffed_length-end-2 : goal.slice_bounds-stuffed_length-end-2
-slice_bounds-stuffed_length-end-2 c = sym (size c)
-
-pub stuffed_length-end-requires : goal.stuffed_length-end-requires
-stuffed_length-end-requires c = omega (arith, size c)
-
 pub overflow_add-end : goal.overflow_add-end
-overflow_add-end c = omega (arith, size c.before, stuffed_length_most (body_of c.before))
-
-pub slice_bounds-frame_check_by_shifts-end-2 : goal.slice_bounds-frame_check_by_shifts-end-2
-slice_bounds-frame_check_by_shifts-end-2 c = sym (size c.before)
+overflow_add-end c =
+    let a = c.args in
+    omega (arith, size a.buffer.now a.octets c.requires c.in_ok-admit_length.ensures.1, stuffed_length_most (take a.octets a.buffer.now))
 
 pub move_words-requires : goal.move_words-requires
 move_words-requires c =
+    let a = c.args in
+    let few = c.in_ok-admit_length.ensures.1 in
     record {
-      within = omega (arith, c.requires);
-      room = omega (arith, c.requires, size c.before.before.before, stuffed_length_most (body_of c.before.before.before), c.stuffed_length-end.ensures);
-      ends = omega (arith, c.stuffed_length-end.ensures);
+      within = omega (arith, c.requires, few);
+      room = omega (arith, c.requires, size a.buffer.now a.octets c.requires few, stuffed_length_most (take a.octets a.buffer.now));
+      ends = omega arith;
     }
 
 pub close-requires : goal.close-requires
 close-requires c =
-    end_room (body_of c.before.before.before.before.before.before.before) c.args.buffer.now (room c.before.before.before.before.before.before.before) c.frame_check_by_shifts-check.ensures
-    (omega (arith, c.stuffed_length-end.ensures)) c.move_words.ensures
-
-pub bounds-buffer-0 : goal.bounds-buffer-0
-bounds-buffer-0 c =
-    omega (arith, c.requires, c.move_words.auto.buffer)
-
-pub shape_of-buffer : goal.shape_of-buffer
-shape_of-buffer c = c.close.auto.output ∙ simp length-set c.move_words.auto.buffer
+    let a = c.args in
+    end_room (take a.octets a.buffer.now) a.buffer.now (room a.buffer.now a.octets c.requires c.in_ok-admit_length.ensures.1)
+    c.frame_check_by_shifts-check.ensures (omega arith) c.move_words.ensures
 
 pub returns : goal.returns
 returns c =
-    record {
-      frames = λ some few. framed (body_of c.before.before.before.before.before.before.before.before.before.before.before) c.args.buffer.now (room c.before.before.before.before.before.before.before.before.before.before.before)
-          c.frame_check_by_shifts-check.ensures
-          (omega (arith, c.stuffed_length-end.ensures)) c.move_words.ensures
-          c.close.ensures;
-      leaves = λ none. absurd (neither c.args.octets c.if-octets-eq0.false c.if-octets-gt-LONGEST_BODY.false none);
-      size = c.requires;
-    }
+    let a = c.args in
+    let ok = c.in_ok-admit_length.ensures in
+    let f = framed (take a.octets a.buffer.now) a.buffer.now (room a.buffer.now a.octets c.requires ok.1)
+    c.frame_check_by_shifts-check.ensures (omega arith) c.move_words.ensures c.close.ensures in
+    record { frames = λ some few. (ap Ok f.0, rw f.0 at f.1); leaves = λ none. absurd (neither a.octets ok.0 ok.1 none); size = c.requires }

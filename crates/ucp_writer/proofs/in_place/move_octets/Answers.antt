@@ -7,14 +7,8 @@ use native.Mathlib.Omega.{arith}
 use lib.ListN.{length, get_or, take, drop}
 use Rattle.ucp_frame.specs.Frame.{escaped, stuffed}
 use Rattle.ucp_writer.specs.Steps.{ToMove}
-use Rattle.ucp_writer.proofs.in_place.Moves.{to_move, as_long, octet_part, part_room, part_moved}
+use Rattle.ucp_writer.proofs.in_place.Moves.{octet_part, part_room, part_moved}
 use Rattle.ucp_writer.proofs.in_place.move_octets.Goals as goal
-
-pub loop-left-init : goal.loop-left-init
-loop-left-init c = (c.requires.0, to_move c.requires.1)
-
-pub bounds-buffer-left : goal.bounds-buffer-left
-bounds-buffer-left c = omega (arith, c.loop-left.invariant.1.moves.within)
 
 -- the last octet that is left
 cut : (left from : ℕ) → from < left → left - 1 + 1 ≡ left
@@ -30,30 +24,19 @@ octet_room {buffer} {final} {left} {end} {from} h t =
     )
 
 pub overflow_sub-end : goal.overflow_sub-end
-overflow_sub-end c = omega (arith, octet_room c.loop-left-test.true c.loop-left.invariant.1)
+overflow_sub-end c = omega (arith, octet_room c.loop-at-test.true c.loop-at.invariant.1)
 
 pub put-requires : goal.put-requires
-put-requires c = omega (arith, octet_room c.loop-left-test.true c.loop-left.invariant.1, c.loop-left.invariant.1.moves.room)
+put-requires c = omega (arith, octet_room c.loop-at-test.true c.loop-at.invariant.1, c.loop-at.invariant.1.moves.room)
 
-pub loop-left-preserved : goal.loop-left-preserved
-loop-left-preserved c =
-    let l = c.loop-left in
-    let h = c.loop-left-test.true in
-    let octet : stuffed (take 1 (drop (l.left - 1) l.buffer)) ≡ escaped (get_or l.buffer (l.left - 1) 0) =
-    octet_part l.buffer (l.left - 1) (omega (arith, l.invariant.1.moves.within)) in (
+pub loop-at-preserved : goal.loop-at-preserved
+loop-at-preserved c =
+    let l = c.loop-at in
+    let h = c.loop-at-test.true in
+    let octet : stuffed (take 1 (drop (l.at - 1) l.buffer)) ≡ escaped (get_or l.buffer (l.at - 1) 0) =
+    octet_part l.buffer (l.at - 1) (omega (arith, l.invariant.1.moves.within)) in (
       omega arith,
-      part_moved l.invariant.1 1 (l.left - 1) (cut l.left c.args.from h)
+      part_moved l.invariant.1 1 (l.at - 1) (cut l.at c.args.from h)
           (omega (arith, ap length octet, octet_room h l.invariant.1))
           (rw octet c.put.ensures.leaves),
     )
-
-pub returns : goal.returns
-returns c =
-    let l = c.loop-left in
-    let z : l.left ≡ c.args.from = omega (arith, l.invariant.0, c.loop-left-test.false) in
-    rw z at l.invariant.1
-
-pub shape_of-buffer : goal.shape_of-buffer
-shape_of-buffer c =
-    let a = c.args in
-    as_long a.buffer.now (stuffed (take a.octets a.buffer.now)) c.loop-left.invariant.1

@@ -7,9 +7,6 @@ use Rattle.ucp_frame.specs.Frame.{stuffed}
 use Rattle.ucp_writer.specs.Steps.{ToMove}
 use Rattle.ucp_writer.proofs.in_place.move_octets.Given as goal
 
-abbrev pub invariant-loop-left : goal.invariant-loop-left
-invariant-loop-left l =
-    (l.from ≤ l.left) × ToMove l.buffer l.left l.end (sets l.initial.buffer 1 (stuffed (take l.octets l.initial.buffer)))
-
-abbrev pub decreases-loop-left : goal.decreases-loop-left
-decreases-loop-left l = l.left
+abbrev pub invariant-loop-at : goal.invariant-loop-at
+invariant-loop-at l =
+    (l.from ≤ l.at) × ToMove l.buffer l.at l.end (sets l.initial.buffer 1 (stuffed (take l.octets l.initial.buffer)))

@@ -1,59 +1,35 @@
--- `ucp_writer::in_place::move_word` meets its contract, by its two ways. Assumes nothing.
+-- `ucp_writer::in_place::move_word` meets its contract: where eight octets are plain, they go as they are. Assumes nothing.
 use mathlib.Core.Path.{◌≡◌, refl, sym, ap, ◌∙◌}
-use Prim.Native.Nat.{◌+◌, ◌-◌, ◌≤◌}
+use mathlib.Core.List.{List}
+use Prim.Native.Nat.{ℕ, ◌-◌, ◌≤◌}
 use native.Mathlib.Omega.{arith}
 use lib.ListN.{length, take, drop}
 use lib.Seq.{sets}
+use Rattle.field_words.specs.Words.{octets_up}
 use Rattle.ucp_frame.specs.Frame.{stuffed}
-use Rattle.field_words.proofs.Digits.{eight_from}
-use Rattle.ucp_writer.proofs.in_place.Moves.{to_move, as_long, part_room, part_moved}
-use Rattle.ucp_writer.proofs.in_place.move_word.Lts as lts
-use Rattle.ucp_writer.proofs.in_place.move_word.Tie as tie
-use Rattle.ucp_writer.proofs.in_place.move_word.Reads as reads
+use Rattle.ucp_writer.proofs.in_place.Moves.{to_move, part_room, part_moved}
 use Rattle.ucp_writer.proofs.in_place.move_word.Goals as goal
 
-abbrev From-Then1 : Type 0
-From-Then1 = lts.Then1 tie.the-claims reads.Pre reads.Post
+plain : (word : ℕ) {part : List ℕ} → octets_up 8 word ≡ part → stuffed (octets_up 8 word) ≡ octets_up 8 word → stuffed part ≡ part
+plain word is e = ap stuffed (sym is) ∙ e ∙ is
 
--- the eight octets go as they are
-plain : (c : From-Then1)
-    → stuffed (take 8 (drop c.args.from c.args.buffer.now))
-    ≡ take 8 (drop c.args.from c.args.buffer.now)
-plain c =
-    let is = c.little_64-word.ensures in
-    ap stuffed (sym is) ∙ c.is_plain.ensures c.if-is_plain.true ∙ is
+size : (word : ℕ) {part : List ℕ} → octets_up 8 word ≡ part → stuffed (octets_up 8 word) ≡ octets_up 8 word → length (stuffed part) ≡ 8
+unfolding octets_up
+size word is e = ap length (ap stuffed (sym is) ∙ e)
 
--- and so they have eight places
-size : (c : From-Then1)
-    → length (stuffed (take 8 (drop c.args.from c.args.buffer.now))) ≡ 8
-size c =
-    ap length (plain c ∙ eight_from c.args.buffer.now c.args.from c.requires.within)
-
-room : (c : From-Then1) → 8 ≤ c.args.end
-room c =
-    omega (arith, size c, part_room (to_move c.requires) 8 c.args.from refl)
-
-pub put_64-requires : goal.put_64-requires
-put_64-requires c = omega (arith, room c.before, c.requires.room)
+pub overflow_sub-at : goal.overflow_sub-at
+overflow_sub-at c =
+    omega (
+      arith,
+      size c.little_64-word.result c.little_64-word.ensures (c.is_plain.ensures c.if-is_plain.true),
+      part_room (to_move c.requires) 8 c.args.from refl,
+    )
 
 pub returns-then-is_plain : goal.returns-then-is_plain
 returns-then-is_plain c =
-    part_moved (to_move c.requires) 8 c.args.from refl (omega (arith, size c.before.before.before.before.before, room c.before.before.before.before.before))
-    (c.put_64.ensures ∙ ap (sets c.args.buffer.now (c.args.end - 8)) (c.little_64-word.ensures ∙ sym (plain c.before.before.before.before.before)))
-
-pub shape_of-buffer : goal.shape_of-buffer
-shape_of-buffer c =
-    let a = c.args in
-    as_long a.buffer.now (stuffed (take (a.from + 8) a.buffer.now)) c.move_octets.ensures
-
-pub little_64-word-requires : goal.little_64-word-requires
-little_64-word-requires c = c.requires.within
-
-pub overflow_sub-at : goal.overflow_sub-at
-overflow_sub-at c = omega (arith, room c)
-
-pub move_octets-requires : goal.move_octets-requires
-move_octets-requires c = (omega arith, c.requires)
-
-pub returns : goal.returns
-returns c = c.move_octets.ensures
+    let is = c.little_64-word.ensures in
+    let e = c.is_plain.ensures c.if-is_plain.true in
+    let n : length (stuffed (take 8 (drop c.args.from c.args.buffer.now))) ≡ 8 = size c.little_64-word.result is e in
+    let room : 8 ≤ c.args.end = omega (arith, n, part_room (to_move c.requires) 8 c.args.from refl) in
+    part_moved (to_move c.requires) 8 c.args.from refl (omega (arith, n, room))
+    (c.put_64.ensures ∙ ap (sets c.args.buffer.now (c.args.end - 8)) (is ∙ sym (plain c.little_64-word.result is e)))
