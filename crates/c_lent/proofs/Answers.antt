@@ -10,9 +10,33 @@ use lib.ListN.{length, get_or, drop}
 use Rattle.field_format.specs.Format.{Format, stand_at, body_size, value_in}
 use Rattle.ucp_answers.specs.Refusals.{refusal_by, refusal_of}
 use Rattle.ucp_answers.proofs.Refusals.{exactly_11, exactly_12, exactly_13, exactly_0}
+use Rattle.refusals.specs.Refusals.{refusal_number}
+use Rattle.refusals.specs.declared.Refusal.{Refusal}
+use Rattle.refusals.specs.declared.Refusal.TheVariants as it
 use Rattle.c_lent.specs.Structs.{Struct, stored}
 use Rattle.c_lent.specs.Reads.{has_id, refusal_as, ReadsInto}
 use Rattle.c_lent.specs.Steps.{first_refusal}
+
+-- no refusal has the number 0
+pub some_number : (r : Refusal) → refusal_number r ≡ 0 → ⊥
+some_number it.BadEscape e = omega arith
+some_number it.EscapeBeforeFlag e = omega arith
+some_number it.TooLong e = omega arith
+some_number it.TooShort e = omega arith
+some_number it.WrongCheck e = omega arith
+some_number it.Room e = omega arith
+some_number it.BodyLength e = omega arith
+some_number it.OutputLength e = omega arith
+some_number it.UnknownId e = omega arith
+some_number it.MessageLength e = omega arith
+some_number it.Fixed e = omega arith
+some_number it.Field e = omega arith
+some_number it.MavlinkShort e = omega arith
+some_number it.MavlinkStart e = omega arith
+some_number it.MavlinkUnknownId e = omega arith
+some_number it.MavlinkLength e = omega arith
+some_number it.MavlinkWrongCheck e = omega arith
+some_number it.MavlinkField e = omega arith
 
 its_id : (id : ℕ) (body : List ℕ) → (length body ≡ 0 → ⊥) → get_or body 0 0 ≡ id → has_id id body ≡ true
 its_id id body some is = rw (lt-ltb 0 (length body) (omega arith), eq-eqb _ _ is)
@@ -52,12 +76,12 @@ module _ (id size : ℕ) (body : List ℕ) where
     first-0 n = sym (first-right (its_id id body some is) (eq-eqb _ _ n))
 
   -- past both
-  pub past_first : {r : ℕ} → r ≡ first_refusal id size body → r ≡ 0 → (has_id id body ≡ true) × (length body ≡ size)
-  past_first {r} is none = go (has_id id body) refl (eqb (length body) size) refl
+  pub past_first : 0 ≡ first_refusal id size body → (has_id id body ≡ true) × (length body ≡ size)
+  past_first none = go (has_id id body) refl (eqb (length body) size) refl
     where
       go : (own : Bool) → has_id id body ≡ own → (right : Bool) → eqb (length body) size ≡ right → (has_id id body ≡ true) × (length body ≡ size)
-      go false h right e = absurd (omega (arith, is, none, first-other h))
-      go true h false e = absurd (omega (arith, is, none, first-size h e))
+      go false h right e = absurd (omega (arith, none, first-other h))
+      go true h false e = absurd (omega (arith, none, first-size h e))
       go true h true e = (h, eqb-true _ _ e)
 
 module _ {A : Type 0} (f : Format A) (s : Struct A) (body before : List ℕ) where
@@ -89,10 +113,10 @@ module _ {A : Type 0} (f : Format A) (s : Struct A) (body before : List ℕ) whe
         unfolding refusal_as
         read r is = rw (own, (exactly_0 f body).1 (n, h, r)) (record { answers = refl; leaves = is })
 
-  pub first-refused : {r : ℕ} → r ≡ first_refusal id (body_size f) body → (r ≡ 0 → ⊥) → ReadsInto f s body before r before
-  first-refused {r} is some = go (has_id id body) refl (eqb (length body) (body_size f)) refl
+  pub first-refused : (r : Refusal) → refusal_number r ≡ first_refusal id (body_size f) body → ReadsInto f s body before (refusal_number r) before
+  first-refused r is = go (has_id id body) refl (eqb (length body) (body_size f)) refl
     where
-      go : (own : Bool) → has_id id body ≡ own → (right : Bool) → eqb (length body) (body_size f) ≡ right → ReadsInto f s body before r before
+      go : (own : Bool) → has_id id body ≡ own → (right : Bool) → eqb (length body) (body_size f) ≡ right → ReadsInto f s body before (refusal_number r) before
       go false h right e = rw (is ∙ first-other id (body_size f) body h) (other-kind h)
       go true h false e = rw (is ∙ first-size id (body_size f) body h e) (refused_11 h (eqb-false _ _ e))
-      go true h true e = absurd (some (is ∙ first-right id (body_size f) body h e))
+      go true h true e = absurd (some_number r (is ∙ first-right id (body_size f) body h e))

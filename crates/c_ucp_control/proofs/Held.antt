@@ -15,7 +15,9 @@ use Rattle.field_codes.specs.Codes.{is_squawk}
 use Rattle.field_texts.specs.Text.{is_padded}
 use Rattle.ucp_frame.specs.Frame.{frame}
 use Rattle.ucp_frame.proofs.Frame.{frame_length_most}
-use Rattle.ucp_writer.specs.Sends.{send_due}
+use Rattle.std.specs.Prelude.{Ok, Err}
+use Rattle.refusals.specs.declared.Refusal.TheVariants.{Field}
+use Rattle.ucp_writer.specs.Sends.{send_due, SendsBody}
 use Rattle.ucp_writer.proofs.room.Due.{due_accepted}
 use Rattle.ucp_messages.specs.declared.Control.{Control}
 use Rattle.field_format.specs.Format.{body_of, fits}
@@ -23,7 +25,6 @@ use Rattle.field_format.proofs.Formats.{fitting, bound}
 use Rattle.ucp_messages.specs.Control45.{control_format}
 use Rattle.ucp_messages.proofs.Formats.{control_right}
 use Rattle.c_lent.specs.Structs.{held}
-use Rattle.c_lent.specs.Sends.{SendsStruct}
 use Rattle.c_ucp_control.specs.Struct.{control_struct, control_state}
 use Rattle.c_ucp_control.proofs.Stored.{body_held}
 
@@ -82,13 +83,13 @@ module _ (message : List ℕ) (n : length message ≡ 24) where
 pub frame_room : (c : Control) → length (frame (body_of control_format c)) ≤ 878
 frame_room c = omega (arith, frame_length_most (body_of control_format c), body_length c)
 
-pub not_sent : (c : Control) (buffer : List ℕ) → fits control_format c ≡ false → SendsStruct control_format c buffer (record { refusal = 13; length = 0 }) buffer
+pub not_sent : (c : Control) (buffer : List ℕ) → fits control_format c ≡ false → SendsBody (fits control_format c) (body_of control_format c) buffer (Err Field) buffer
 unfolding send_due
 not_sent c buffer e = rw e (record { answers = refl; leaves = refl })
 
 pub sent : (c : Control) (buffer : List ℕ) {octets : ℕ} {after : List ℕ} → fits control_format c ≡ true → length buffer ≡ 878
     → octets ≡ length (frame (body_of control_format c)) → after ≡ frame (body_of control_format c) ++ drop octets buffer
-    → SendsStruct control_format c buffer (record { refusal = 0; length = octets }) after
+    → SendsBody (fits control_format c) (body_of control_format c) buffer (Ok octets) after
 unfolding send_due
 sent c buffer e n whole is =
     rw (e, due_accepted (body_of control_format c) buffer (omega (arith, body_length c)) (omega (arith, body_length c)) (omega (arith, frame_room c)), ← whole)

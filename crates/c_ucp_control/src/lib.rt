@@ -7,16 +7,19 @@ ghost use Rattle.field_codes.specs.Codes.{is_squawk};
 ghost use Rattle.ucp_frame.specs.Frame.{frame};
 ghost use Rattle.field_layout.specs.Steps.{little16};
 ghost use Rattle.field_layout.specs.Layout.{bit_of};
-ghost use Rattle.field_format.specs.Format.{value_in, body_of};
+ghost use Rattle.field_format.specs.Format.{value_in, body_of, fits};
 ghost use Rattle.ucp_messages.specs.Control45.{control_format};
+ghost use Rattle.ucp_writer.specs.Sends.{SendsBody};
+ghost use Rattle.c_lent.specs.Steps.{number_in};
 ghost use Rattle.c_lent.specs.Reads.{ReadsInto};
-ghost use Rattle.c_lent.specs.Writes.{WritesStructBody};
+ghost use Rattle.c_lent.specs.Writes.{WritesStructBody, WritesStruct};
 ghost use Rattle.c_lent.specs.Sends.{SendsStruct};
 ghost use Rattle.c_lent.specs.Structs.{is_yes, stored, held};
 ghost use Rattle.c_ucp_control.specs.Struct.{control_struct, control_state};
 ghost use Rattle.c_ucp_control.specs.Steps.{state_fields, marks};
 
-use output_writing::OstrogoszWritten;
+use output_writing::{OstrogoszWritten, Written};
+use refusals::Refusal;
 use ucp_frame::FrameBuffer;
 
 // ---- reading
@@ -57,22 +60,25 @@ fn fill(body: &[u8], message: &mut [u8; 24])
     field_words::put_64(message, 15, field_words::little_64(body, 10));
 }
 
+fn read(body: &[u8], message: &mut [u8; 24]) -> Result<(), Refusal>
+    ensures { ReadsInto control_format control_struct body.now message.old (number_in result) message.new }
+{
+    c_lent::first_refusal(body, 45, 18)?;
+    if body[1] != 1 {
+        return Err(Refusal::Fixed);
+    }
+    if !body_fits(body) {
+        return Err(Refusal::Field);
+    }
+    fill(body, message);
+    Ok(())
+}
+
 // Reads a body into the struct: 0, or the refusal that is due, 10 to 13, and then the struct is as it was.
 pub fn ostrogosz_ucp_read_control(body: &[u8], message: &mut [u8; 24]) -> u32
     ensures { ReadsInto control_format control_struct body.now message.old result message.new }
 {
-    let refusal = c_lent::first_refusal(body, 45, 18);
-    if refusal != 0 {
-        return refusal;
-    }
-    if body[1] != 1 {
-        return c_lent::FIXED;
-    }
-    if !body_fits(body) {
-        return c_lent::FIELD;
-    }
-    fill(body, message);
-    0
+    c_lent::read_number(read(body, message))
 }
 
 // ---- writing
@@ -121,6 +127,7 @@ fn numbers_fit(message: &[u8]) -> bool
 }
 
 // Puts the body at the start of output.
+#[tactic(auto, using(c_lent::proofs::Sizes::sizes))]
 fn put(message: &[u8], output: &mut [u8])
     requires { (length message.now ≡ 24) × (get_or message.now 5 0 < 4) × (18 ≤ length output.old) }
     ensures { output.new ≡ body_of control_format (held control_struct message.now) ++ drop 18 output.old }
@@ -135,34 +142,25 @@ fn put(message: &[u8], output: &mut [u8])
     field_words::put_64(output, 10, field_words::little_64(message, 15));
 }
 
-fn write(message: &[u8], output: &mut [u8]) -> OstrogoszWritten
+fn write(message: &[u8], output: &mut [u8]) -> Result<(), Refusal>
     requires { length message.now ≡ 24 }
-    ensures { WritesStructBody control_format (held control_struct message.now) output.old result output.new }
+    ensures { WritesStruct control_format (held control_struct message.now) 18 output.old result output.new }
 {
     if !(numbers_fit(message) & field_texts::pairs::is_padded_at(message, 15)) {
-        return OstrogoszWritten {
-            refusal: c_lent::FIELD,
-            length: 0,
-        };
+        return Err(Refusal::Field);
     }
     if output.len() < 18 {
-        return OstrogoszWritten {
-            refusal: c_lent::OUTPUT_LENGTH,
-            length: 0,
-        };
+        return Err(Refusal::OutputLength);
     }
     put(message, output);
-    OstrogoszWritten {
-        refusal: 0,
-        length: 18,
-    }
+    Ok(())
 }
 
 // Writes the body of the message that a struct holds: 13, then 8.
 pub fn ostrogosz_ucp_write_control(message: &[u8; 24], output: &mut [u8]) -> OstrogoszWritten
     ensures { WritesStructBody control_format (held control_struct message.now) output.old result output.new }
 {
-    write(message, output)
+    c_lent::numbered(write(message, output), 18)
 }
 
 // ---- sending
@@ -200,25 +198,19 @@ fn put_frame(message: &[u8], buffer: &mut [u8]) -> usize
     ucp_writer::fill_words(&message[15..23], buffer, 0, check, at)
 }
 
-fn send(message: &[u8], buffer: &mut [u8]) -> OstrogoszWritten
+fn send(message: &[u8], buffer: &mut [u8]) -> Written
     requires { (length message.now ≡ 24) × (length buffer.old ≡ 878) }
-    ensures { SendsStruct control_format (held control_struct message.now) buffer.old result buffer.new }
+    ensures { SendsBody (fits control_format (held control_struct message.now)) (body_of control_format (held control_struct message.now)) buffer.old result buffer.new }
 {
     if !(numbers_fit(message) & field_texts::pairs::is_padded_at(message, 15)) {
-        return OstrogoszWritten {
-            refusal: c_lent::FIELD,
-            length: 0,
-        };
+        return Err(Refusal::Field);
     }
-    OstrogoszWritten {
-        refusal: 0,
-        length: put_frame(message, buffer),
-    }
+    Ok(put_frame(message, buffer))
 }
 
 // Writes the frame of the message that a struct holds at the start of buffer, and leaves what is behind it: 13.
 pub fn ostrogosz_ucp_send_control(message: &[u8; 24], buffer: &mut FrameBuffer) -> OstrogoszWritten
     ensures { SendsStruct control_format (held control_struct message.now) buffer.old result buffer.new }
 {
-    send(message, buffer)
+    OstrogoszWritten::from(send(message, buffer))
 }

@@ -5,12 +5,14 @@ ghost use Rattle.std.specs.Prelude.{◌≡◌, ◌++◌, ◌≤◌, length, drop
 ghost use Rattle.field_format.specs.Format.{value_in, body_of};
 ghost use Rattle.ucp_messages.specs.GeometricAltitude11.{geometric_format};
 ghost use Rattle.c_lent.specs.Reads.{ReadsInto};
-ghost use Rattle.c_lent.specs.Writes.{WritesStructBody};
+ghost use Rattle.c_lent.specs.Writes.{WritesStructBody, WritesStruct};
 ghost use Rattle.c_lent.specs.Sends.{SendsStruct};
+ghost use Rattle.c_lent.specs.Steps.{number_in};
 ghost use Rattle.c_lent.specs.Structs.{stored, held};
 ghost use Rattle.c_ucp_geometric_altitude.specs.Struct.{geometric_struct};
 
 use output_writing::OstrogoszWritten;
+use refusals::Refusal;
 use ucp_frame::FrameBuffer;
 
 // ---- reading
@@ -23,21 +25,25 @@ fn fill(body: &[u8], message: &mut [u8; 4])
     *message = [body[2], body[1], body[4], body[3]];
 }
 
+fn read(body: &[u8], message: &mut [u8; 4]) -> Result<(), Refusal>
+    ensures { ReadsInto geometric_format geometric_struct body.now message.old (number_in result) message.new }
+{
+    c_lent::first_refusal(body, 11, 5)?;
+    fill(body, message);
+    Ok(())
+}
+
 // Reads a body into the struct: 0, or the refusal that is due, 10 or 11, and then the struct is as it was.
 pub fn ostrogosz_ucp_read_geometric_altitude(body: &[u8], message: &mut [u8; 4]) -> u32
     ensures { ReadsInto geometric_format geometric_struct body.now message.old result message.new }
 {
-    let refusal = c_lent::first_refusal(body, 11, 5);
-    if refusal != 0 {
-        return refusal;
-    }
-    fill(body, message);
-    0
+    c_lent::read_number(read(body, message))
 }
 
 // ---- writing
 
 // Puts the body at the start of output.
+#[tactic(auto, using(c_lent::proofs::Sizes::sizes))]
 fn put(message: &[u8], output: &mut [u8])
     requires { (length message.now ≡ 4) × (5 ≤ length output.old) }
     ensures { output.new ≡ body_of geometric_format (held geometric_struct message.now) ++ drop 5 output.old }
@@ -50,20 +56,14 @@ fn put(message: &[u8], output: &mut [u8])
 }
 
 // Every field has room in the body.
-fn write(message: &[u8; 4], output: &mut [u8]) -> OstrogoszWritten
-    ensures { WritesStructBody geometric_format (held geometric_struct message.now) output.old result output.new }
+fn write(message: &[u8; 4], output: &mut [u8]) -> Result<(), Refusal>
+    ensures { WritesStruct geometric_format (held geometric_struct message.now) 5 output.old result output.new }
 {
     if output.len() < 5 {
-        return OstrogoszWritten {
-            refusal: c_lent::OUTPUT_LENGTH,
-            length: 0,
-        };
+        return Err(Refusal::OutputLength);
     }
     put(message, output);
-    OstrogoszWritten {
-        refusal: 0,
-        length: 5,
-    }
+    Ok(())
 }
 
 // Writes the body of the message that a struct holds: 8.
@@ -73,7 +73,7 @@ pub fn ostrogosz_ucp_write_geometric_altitude(
 ) -> OstrogoszWritten
     ensures { WritesStructBody geometric_format (held geometric_struct message.now) output.old result output.new }
 {
-    write(message, output)
+    c_lent::numbered(write(message, output), 5)
 }
 
 // ---- sending
@@ -87,5 +87,5 @@ pub fn ostrogosz_ucp_send_geometric_altitude(
     ensures { SendsStruct geometric_format (held geometric_struct message.now) buffer.old result buffer.new }
 {
     let written = write(message, buffer);
-    c_lent::frame_written(written, buffer)
+    OstrogoszWritten::from(c_lent::frame_written(written, 5, buffer))
 }

@@ -5,12 +5,14 @@ ghost use Rattle.std.specs.Prelude.{◌≡◌, ◌++◌, ◌≤◌, length, drop
 ghost use Rattle.field_format.specs.Format.{value_in, body_of};
 ghost use Rattle.ucp_messages.specs.Heartbeat0.{heartbeat_format};
 ghost use Rattle.c_lent.specs.Reads.{ReadsInto};
-ghost use Rattle.c_lent.specs.Writes.{WritesStructBody};
+ghost use Rattle.c_lent.specs.Writes.{WritesStructBody, WritesStruct};
 ghost use Rattle.c_lent.specs.Sends.{SendsStruct};
+ghost use Rattle.c_lent.specs.Steps.{number_in};
 ghost use Rattle.c_lent.specs.Structs.{stored, held};
 ghost use Rattle.c_ucp_heartbeat.specs.Struct.{heartbeat_struct};
 
 use output_writing::OstrogoszWritten;
+use refusals::Refusal;
 use ucp_frame::FrameBuffer;
 
 // ---- reading
@@ -23,21 +25,25 @@ fn fill(body: &[u8], message: &mut [u8; 6])
     *message = [body[1], body[2], body[3], body[4], body[6], body[5]];
 }
 
+fn read(body: &[u8], message: &mut [u8; 6]) -> Result<(), Refusal>
+    ensures { ReadsInto heartbeat_format heartbeat_struct body.now message.old (number_in result) message.new }
+{
+    c_lent::first_refusal(body, 0, 7)?;
+    fill(body, message);
+    Ok(())
+}
+
 // Reads a body into the struct: 0, or the refusal that is due, 10 or 11, and then the struct is as it was.
 pub fn ostrogosz_ucp_read_heartbeat(body: &[u8], message: &mut [u8; 6]) -> u32
     ensures { ReadsInto heartbeat_format heartbeat_struct body.now message.old result message.new }
 {
-    let refusal = c_lent::first_refusal(body, 0, 7);
-    if refusal != 0 {
-        return refusal;
-    }
-    fill(body, message);
-    0
+    c_lent::read_number(read(body, message))
 }
 
 // ---- writing
 
 // Puts the body at the start of output.
+#[tactic(auto, using(c_lent::proofs::Sizes::sizes))]
 fn put(message: &[u8], output: &mut [u8])
     requires { (length message.now ≡ 6) × (7 ≤ length output.old) }
     ensures { output.new ≡ body_of heartbeat_format (held heartbeat_struct message.now) ++ drop 7 output.old }
@@ -52,27 +58,21 @@ fn put(message: &[u8], output: &mut [u8])
 }
 
 // Every field has room in the body.
-fn write(message: &[u8; 6], output: &mut [u8]) -> OstrogoszWritten
-    ensures { WritesStructBody heartbeat_format (held heartbeat_struct message.now) output.old result output.new }
+fn write(message: &[u8; 6], output: &mut [u8]) -> Result<(), Refusal>
+    ensures { WritesStruct heartbeat_format (held heartbeat_struct message.now) 7 output.old result output.new }
 {
     if output.len() < 7 {
-        return OstrogoszWritten {
-            refusal: c_lent::OUTPUT_LENGTH,
-            length: 0,
-        };
+        return Err(Refusal::OutputLength);
     }
     put(message, output);
-    OstrogoszWritten {
-        refusal: 0,
-        length: 7,
-    }
+    Ok(())
 }
 
 // Writes the body of the message that a struct holds: 8.
 pub fn ostrogosz_ucp_write_heartbeat(message: &[u8; 6], output: &mut [u8]) -> OstrogoszWritten
     ensures { WritesStructBody heartbeat_format (held heartbeat_struct message.now) output.old result output.new }
 {
-    write(message, output)
+    c_lent::numbered(write(message, output), 7)
 }
 
 // ---- sending
@@ -83,5 +83,5 @@ pub fn ostrogosz_ucp_send_heartbeat(message: &[u8; 6], buffer: &mut FrameBuffer)
     ensures { SendsStruct heartbeat_format (held heartbeat_struct message.now) buffer.old result buffer.new }
 {
     let written = write(message, buffer);
-    c_lent::frame_written(written, buffer)
+    OstrogoszWritten::from(c_lent::frame_written(written, 7, buffer))
 }

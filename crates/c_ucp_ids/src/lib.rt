@@ -2,7 +2,9 @@
 #![tactic(auto)]
 
 ghost use Rattle.std.specs.Prelude.{◌≡◌};
-ghost use Rattle.c_ucp_ids.specs.Ids.{id_due};
+ghost use Rattle.c_ucp_ids.specs.Ids.{id_due, ucp_id_numbers};
+
+use refusals::Refusal;
 
 #[repr(C)]
 #[derive(Clone, Copy)]
@@ -13,25 +15,31 @@ pub struct OstrogoszId {
     pub id: u32,
 }
 
+fn read(body: &[u8]) -> Result<u8, Refusal>
+    ensures { ucp_id_numbers result ≡ id_due body.now }
+{
+    if body.len() == 0 {
+        return Err(Refusal::UnknownId);
+    }
+    let id = body[0];
+    if !ucp_messages::is_known(ucp_messages::kind_of(id)) {
+        return Err(Refusal::UnknownId);
+    }
+    Ok(id)
+}
+
 // The ID of a body's kind, or 10: no octet, or an unknown ID. Nothing behind the first octet is looked at.
 pub fn ostrogosz_ucp_read_id(body: &[u8]) -> OstrogoszId
     ensures { result ≡ id_due body.now }
 {
-    if body.len() == 0 {
-        return OstrogoszId {
-            refusal: c_lent::UNKNOWN_ID,
+    match read(body) {
+        Ok(id) => OstrogoszId {
+            refusal: 0,
+            id: id as u32,
+        },
+        Err(refusal) => OstrogoszId {
+            refusal: refusal.number() as u32,
             id: 0,
-        };
-    }
-    let id = body[0];
-    if !ucp_messages::is_known(ucp_messages::kind_of(id)) {
-        return OstrogoszId {
-            refusal: c_lent::UNKNOWN_ID,
-            id: 0,
-        };
-    }
-    OstrogoszId {
-        refusal: 0,
-        id: id as u32,
+        },
     }
 }

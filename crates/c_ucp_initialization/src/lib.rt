@@ -6,14 +6,15 @@ ghost use Rattle.std.proofs.lemmas.List.Edits.{sets};
 ghost use Rattle.field_format.specs.Format.{value_in, body_of, fits};
 ghost use Rattle.ucp_messages.specs.Initialization117.{initialization_format};
 ghost use Rattle.c_lent.specs.Reads.{ReadsInto};
-ghost use Rattle.c_lent.specs.Writes.{WritesStructBody};
-ghost use Rattle.c_lent.specs.Steps.{numbered_answer};
+ghost use Rattle.c_lent.specs.Writes.{WritesStructBody, WritesStruct};
+ghost use Rattle.c_lent.specs.Steps.{number_in};
 ghost use Rattle.c_lent.specs.Sends.{SendsStruct};
 ghost use Rattle.c_lent.specs.Structs.{stored, held};
 ghost use Rattle.c_ucp_initialization.specs.Struct.{initialization_struct};
 ghost use Rattle.c_ucp_initialization.specs.Steps.{first_octets, SmallFields};
 
 use output_writing::OstrogoszWritten;
+use refusals::Refusal;
 use ucp_frame::FrameBuffer;
 
 // ---- reading
@@ -64,25 +65,28 @@ fn fill(body: &[u8], message: &mut [u8; 24])
     field_words::put_64(message, 9, field_words::little_64(body, 8));
 }
 
+fn read(body: &[u8], message: &mut [u8; 24]) -> Result<(), Refusal>
+    ensures { ReadsInto initialization_format initialization_struct body.now message.old (number_in result) message.new }
+{
+    c_lent::first_refusal(body, 117, 19)?;
+    if body[1] != 65 {
+        return Err(Refusal::Fixed);
+    }
+    if body[2] != 1 {
+        return Err(Refusal::Fixed);
+    }
+    if !body_fits(body) {
+        return Err(Refusal::Field);
+    }
+    fill(body, message);
+    Ok(())
+}
+
 // Reads a body into the struct: 0, or the refusal that is due, 10 to 13, and then the struct is as it was.
 pub fn ostrogosz_ucp_read_initialization(body: &[u8], message: &mut [u8; 24]) -> u32
     ensures { ReadsInto initialization_format initialization_struct body.now message.old result message.new }
 {
-    let refusal = c_lent::first_refusal(body, 117, 19);
-    if refusal != 0 {
-        return refusal;
-    }
-    if body[1] != 65 {
-        return c_lent::FIXED;
-    }
-    if body[2] != 1 {
-        return c_lent::FIXED;
-    }
-    if !body_fits(body) {
-        return c_lent::FIELD;
-    }
-    fill(body, message);
-    0
+    c_lent::read_number(read(body, message))
 }
 
 // ---- writing
@@ -101,6 +105,7 @@ fn fits(message: &[u8]) -> bool
 }
 
 // Puts octets 0 to 7 of the body.
+#[tactic(auto, using(c_lent::proofs::Sizes::sizes))]
 fn put_first(message: &[u8], output: &mut [u8])
     requires { (length message.now ≡ 24) × (19 ≤ length output.old) }
     ensures { output.new ≡ sets output.old 0 (first_octets message.now) }
@@ -116,6 +121,7 @@ fn put_first(message: &[u8], output: &mut [u8])
 }
 
 // Puts the body at the start of output. The callsign goes at once, as in `fill`.
+#[tactic(auto, using(c_lent::proofs::Sizes::sizes))]
 fn put(message: &[u8], output: &mut [u8])
     requires { (length message.now ≡ 24) × SmallFields message.now × (19 ≤ length output.old) }
     ensures { output.new ≡ body_of initialization_format (held initialization_struct message.now) ++ drop 19 output.old }
@@ -127,18 +133,18 @@ fn put(message: &[u8], output: &mut [u8])
     output[18] = message[19] * 32 + message[20];
 }
 
-// Puts the body at the start of output where all is well: 0, or 13 or 8.
-fn write_body(message: &[u8; 24], output: &mut [u8]) -> u32
-    ensures { WritesStructBody initialization_format (held initialization_struct message.now) output.old (numbered_answer result 19) output.new }
+// Puts the body at the start of output where all is well: else 13, then 8.
+fn write_body(message: &[u8; 24], output: &mut [u8]) -> Result<(), Refusal>
+    ensures { WritesStruct initialization_format (held initialization_struct message.now) 19 output.old result output.new }
 {
     if !fits(message) {
-        return c_lent::FIELD;
+        return Err(Refusal::Field);
     }
     if output.len() < 19 {
-        return c_lent::OUTPUT_LENGTH;
+        return Err(Refusal::OutputLength);
     }
     put(message, output);
-    0
+    Ok(())
 }
 
 // Writes the body of the message that a struct holds: 13, then 8.
@@ -158,6 +164,6 @@ pub fn ostrogosz_ucp_send_initialization(
 ) -> OstrogoszWritten
     ensures { SendsStruct initialization_format (held initialization_struct message.now) buffer.old result buffer.new }
 {
-    let written = c_lent::numbered(write_body(message, buffer), 19);
-    c_lent::frame_written(written, buffer)
+    let written = write_body(message, buffer);
+    OstrogoszWritten::from(c_lent::frame_written(written, 19, buffer))
 }

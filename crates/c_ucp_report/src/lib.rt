@@ -8,15 +8,16 @@ ghost use Rattle.field_signed.specs.Signed.{signed, complement, holds};
 ghost use Rattle.field_words.specs.Words.{octets_up, eight};
 ghost use Rattle.field_format.specs.Format.{value_in, body_of, fits};
 ghost use Rattle.ucp_messages.specs.Report10.{report_format};
-ghost use Rattle.c_lent.specs.Steps.{two_of, numbered_answer};
+ghost use Rattle.c_lent.specs.Steps.{two_of, number_in};
 ghost use Rattle.c_lent.specs.Reads.{ReadsInto};
-ghost use Rattle.c_lent.specs.Writes.{WritesStructBody};
+ghost use Rattle.c_lent.specs.Writes.{WritesStructBody, WritesStruct};
 ghost use Rattle.c_lent.specs.Sends.{SendsStruct};
 ghost use Rattle.c_lent.specs.Structs.{stored, held};
 ghost use Rattle.c_ucp_report.specs.Struct.{report_struct};
 ghost use Rattle.c_ucp_report.specs.Steps.{halves_of, four_of, left_stored, right_stored, others_stored, Small, left_of, right_of};
 
 use output_writing::OstrogoszWritten;
+use refusals::Refusal;
 use ucp_frame::FrameBuffer;
 
 // ---- reading
@@ -64,6 +65,8 @@ fn right(body: &[u8]) -> RightPart
     }
 }
 
+// Stays: these two, and the like below, apart. The new form is no plainer: they differ in a type besides the numbers, which no const
+// parameter says, and one over the wider type would be cast at each call.
 // A signed number of 24 bits as one of 32.
 fn extended_24(bits: u32) -> u32
     requires { bits < 16777216 }
@@ -83,6 +86,7 @@ fn extended_12(bits: u32) -> u16
 }
 
 // Two fields of 4 bits, each in its octet.
+#[tactic(auto, using(c_lent::proofs::Sizes::sizes))]
 fn put_halves(message: &mut [u8], at: usize, octet: u8)
     requires { at + 2 ≤ length message.old }
     ensures { message.new ≡ sets message.old at (halves_of octet) }
@@ -92,6 +96,8 @@ fn put_halves(message: &mut [u8], at: usize, octet: u8)
 }
 
 // A number of 16 bits, and one of 32, least significant octet first: compiled, one store.
+// Stays: two functions, as `extended_24` and `extended_12`.
+#[tactic(auto, using(c_lent::proofs::Sizes::sizes))]
 fn put_16(message: &mut [u8], at: usize, number: u16)
     requires { at + 2 ≤ length message.old }
     ensures { message.new ≡ sets message.old at (two_of number) }
@@ -100,6 +106,7 @@ fn put_16(message: &mut [u8], at: usize, number: u16)
     message[at + 1] = (number / 256) as u8;
 }
 
+#[tactic(auto, using(c_lent::proofs::Sizes::sizes))]
 fn put_32(message: &mut [u8], at: usize, number: u32)
     requires { at + 4 ≤ length message.old }
     ensures { message.new ≡ sets message.old at (four_of number) }
@@ -123,6 +130,7 @@ fn put_left(body: &[u8], message: &mut [u8])
     put_32(message, 8, latitude);
 }
 
+#[tactic(auto, using(c_lent::proofs::Sizes::sizes))]
 fn put_right(body: &[u8], message: &mut [u8])
     requires { (length body.now ≡ 28) × (length message.old ≡ 40) }
     ensures { message.new ≡ right_stored body.now message.old }
@@ -136,6 +144,7 @@ fn put_right(body: &[u8], message: &mut [u8])
     put_16(message, 22, right.speed);
 }
 
+#[tactic(auto, using(c_lent::proofs::Sizes::sizes))]
 fn put_others(body: &[u8], message: &mut [u8])
     requires { (length body.now ≡ 28) × (length message.old ≡ 40) }
     ensures { message.new ≡ others_stored body.now message.old }
@@ -162,32 +171,31 @@ fn fill(body: &[u8], message: &mut [u8; 40])
 }
 
 // Reads a body of an ID, 10 or 20.
-fn read(body: &[u8], id: u8, message: &mut [u8; 40]) -> u32
-    ensures { ReadsInto (report_format id) report_struct body.now message.old result message.new }
+#[inline(always)]
+fn read(body: &[u8], id: u8, message: &mut [u8; 40]) -> Result<(), Refusal>
+    ensures { ReadsInto (report_format id) report_struct body.now message.old (number_in result) message.new }
 {
-    let refusal = c_lent::first_refusal(body, id, 28);
-    if refusal != 0 {
-        return refusal;
-    }
+    c_lent::first_refusal(body, id, 28)?;
     fill(body, message);
-    0
+    Ok(())
 }
 
 // Reads a body into the struct: 0, or the refusal that is due, 10 or 11, and then the struct is as it was.
 pub fn ostrogosz_ucp_read_ownship(body: &[u8], message: &mut [u8; 40]) -> u32
     ensures { ReadsInto (report_format 10) report_struct body.now message.old result message.new }
 {
-    read(body, 10, message)
+    c_lent::read_number(read(body, 10, message))
 }
 
 pub fn ostrogosz_ucp_read_traffic(body: &[u8], message: &mut [u8; 40]) -> u32
     ensures { ReadsInto (report_format 20) report_struct body.now message.old result message.new }
 {
-    read(body, 20, message)
+    c_lent::read_number(read(body, 20, message))
 }
 
 // ---- writing
 
+// Stays: two functions, as `extended_24` and `extended_12`.
 // Whether 24 bits hold the number that 32 bits mean.
 fn in_24(bits: u32) -> bool
     ensures { result ≡ holds 8388608 (signed 2147483648 bits) }
@@ -300,6 +308,7 @@ fn put_numbers(id: u8, message: &[u8], output: &mut [u8])
 }
 
 // Puts the body at the start of output. The callsign goes at once, as in `put_others`.
+#[tactic(auto, using(c_lent::proofs::Sizes::sizes))]
 fn put(id: u8, message: &[u8], output: &mut [u8])
     requires { (length message.now ≡ 40) × Small message.now × (28 ≤ length output.old) }
     ensures { output.new ≡ body_of (report_format id) (held report_struct message.now) ++ drop 28 output.old }
@@ -312,19 +321,18 @@ fn put(id: u8, message: &[u8], output: &mut [u8])
     output[27] = halves(message[36], message[37]);
 }
 
-// Writes the body, of an ID, of the message that a struct holds.
-// Puts the body at the start of output where all is well: 0, or 13 or 8.
-fn write_body(id: u8, message: &[u8; 40], output: &mut [u8]) -> u32
-    ensures { WritesStructBody (report_format id) (held report_struct message.now) output.old (numbered_answer result 28) output.new }
+// Writes the body, of an ID, of the message that a struct holds: 13, then 8.
+fn write_body(id: u8, message: &[u8; 40], output: &mut [u8]) -> Result<(), Refusal>
+    ensures { WritesStruct (report_format id) (held report_struct message.now) 28 output.old result output.new }
 {
     if !fits(message) {
-        return c_lent::FIELD;
+        return Err(Refusal::Field);
     }
     if output.len() < 28 {
-        return c_lent::OUTPUT_LENGTH;
+        return Err(Refusal::OutputLength);
     }
     put(id, message, output);
-    0
+    Ok(())
 }
 
 // Writes the body of the message that a struct holds: 13, then 8.
@@ -342,12 +350,13 @@ pub fn ostrogosz_ucp_write_traffic(message: &[u8; 40], output: &mut [u8]) -> Ost
 
 // ---- sending
 
+// Stays: a call for each ID over this one, and so in reading and writing: C links a symbol for each.
 // Sends the body of an ID: it is written into the buffer, and made its frame there.
 fn send(id: u8, message: &[u8; 40], buffer: &mut FrameBuffer) -> OstrogoszWritten
     ensures { SendsStruct (report_format id) (held report_struct message.now) buffer.old result buffer.new }
 {
-    let written = c_lent::numbered(write_body(id, message, buffer), 28);
-    c_lent::frame_written(written, buffer)
+    let written = write_body(id, message, buffer);
+    OstrogoszWritten::from(c_lent::frame_written(written, 28, buffer))
 }
 
 // Writes the frame of the message that a struct holds at the start of buffer, and leaves what is behind it: 13.

@@ -5,12 +5,14 @@ ghost use Rattle.std.specs.Prelude.{◌≡◌, ◌++◌, ◌≤◌, length, drop
 ghost use Rattle.field_format.specs.Format.{value_in, body_of};
 ghost use Rattle.ucp_messages.specs.Request44.{request_format};
 ghost use Rattle.c_lent.specs.Reads.{ReadsInto};
-ghost use Rattle.c_lent.specs.Writes.{WritesStructBody};
+ghost use Rattle.c_lent.specs.Writes.{WritesStructBody, WritesStruct};
 ghost use Rattle.c_lent.specs.Sends.{SendsStruct};
+ghost use Rattle.c_lent.specs.Steps.{number_in};
 ghost use Rattle.c_lent.specs.Structs.{stored, held};
 ghost use Rattle.c_ucp_request.specs.Struct.{request_struct};
 
 use output_writing::OstrogoszWritten;
+use refusals::Refusal;
 use ucp_frame::FrameBuffer;
 
 // ---- reading
@@ -22,24 +24,28 @@ fn fill(body: &[u8], message: &mut [u8; 1])
     *message = [body[2]];
 }
 
+fn read(body: &[u8], message: &mut [u8; 1]) -> Result<(), Refusal>
+    ensures { ReadsInto request_format request_struct body.now message.old (number_in result) message.new }
+{
+    c_lent::first_refusal(body, 44, 3)?;
+    if body[1] != 2 {
+        return Err(Refusal::Fixed);
+    }
+    fill(body, message);
+    Ok(())
+}
+
 // Reads a body into the struct: 0, or the refusal that is due, 10 to 12, and then the struct is as it was.
 pub fn ostrogosz_ucp_read_request(body: &[u8], message: &mut [u8; 1]) -> u32
     ensures { ReadsInto request_format request_struct body.now message.old result message.new }
 {
-    let refusal = c_lent::first_refusal(body, 44, 3);
-    if refusal != 0 {
-        return refusal;
-    }
-    if body[1] != 2 {
-        return c_lent::FIXED;
-    }
-    fill(body, message);
-    0
+    c_lent::read_number(read(body, message))
 }
 
 // ---- writing
 
 // Puts the body at the start of output.
+#[tactic(auto, using(c_lent::proofs::Sizes::sizes))]
 fn put(message: &[u8], output: &mut [u8])
     requires { (length message.now ≡ 1) × (3 ≤ length output.old) }
     ensures { output.new ≡ body_of request_format (held request_struct message.now) ++ drop 3 output.old }
@@ -50,27 +56,21 @@ fn put(message: &[u8], output: &mut [u8])
 }
 
 // Every field has room in the body.
-fn write(message: &[u8; 1], output: &mut [u8]) -> OstrogoszWritten
-    ensures { WritesStructBody request_format (held request_struct message.now) output.old result output.new }
+fn write(message: &[u8; 1], output: &mut [u8]) -> Result<(), Refusal>
+    ensures { WritesStruct request_format (held request_struct message.now) 3 output.old result output.new }
 {
     if output.len() < 3 {
-        return OstrogoszWritten {
-            refusal: c_lent::OUTPUT_LENGTH,
-            length: 0,
-        };
+        return Err(Refusal::OutputLength);
     }
     put(message, output);
-    OstrogoszWritten {
-        refusal: 0,
-        length: 3,
-    }
+    Ok(())
 }
 
 // Writes the body of the message that a struct holds: 8.
 pub fn ostrogosz_ucp_write_request(message: &[u8; 1], output: &mut [u8]) -> OstrogoszWritten
     ensures { WritesStructBody request_format (held request_struct message.now) output.old result output.new }
 {
-    write(message, output)
+    c_lent::numbered(write(message, output), 3)
 }
 
 // ---- sending
@@ -81,5 +81,5 @@ pub fn ostrogosz_ucp_send_request(message: &[u8; 1], buffer: &mut FrameBuffer) -
     ensures { SendsStruct request_format (held request_struct message.now) buffer.old result buffer.new }
 {
     let written = write(message, buffer);
-    c_lent::frame_written(written, buffer)
+    OstrogoszWritten::from(c_lent::frame_written(written, 3, buffer))
 }

@@ -8,8 +8,7 @@ use borrow.Author.Tests.{eqb-true}
 use lib.Dec.{ltb}
 use lib.ListN.{length, take, drop}
 use lib.Seq.{take_at}
-use Rattle.output_writing.specs.declared.Written.{Written}
-use Rattle.output_writing.specs.Writing.{refused as writer-refused, wrote, writer_answer, output_after}
+use Rattle.output_writing.specs.Writing.{Written, refused as writer-refused, wrote, writer_answer, output_after}
 use Rattle.ucp_answers.specs.Writes.{body_due, WritesBody}
 use Rattle.ucp_answers.specs.Refusals.{refusal_by}
 use Rattle.field_format.specs.Format.{body_of}

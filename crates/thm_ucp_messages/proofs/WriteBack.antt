@@ -9,20 +9,18 @@ use borrow.Author.Tests.{eqb-true, eq-eqb, le-ltb}
 use lib.Dec.{eqb}
 use lib.ListN.{length, get_or, drop, length-drop}
 use Rattle.crc_polynomial.specs.Polynomial.{Octets}
-use Rattle.field_format.specs.Format.{Format, Right, HasId, fits, body_of, value_in}
-use Rattle.output_writing.specs.declared.Written.{Written}
-use Rattle.output_writing.specs.Writing.{wrote, writer_answer, output_after}
+use Rattle.field_format.specs.Format.{Format, value_in}
+use Rattle.output_writing.specs.Writing.{Written, wrote, writer_answer, output_after}
 use Rattle.ucp_answers.specs.Writes.{body_due, WritesBody}
 use Rattle.ucp_answers.specs.Refusals.{refusal_of, reads}
 use Rattle.ucp_answers.proofs.RoundTrips as formats
 use Rattle.ucp_messages.specs.declared.Kind.{Kind}
 use Rattle.ucp_messages.specs.declared.Kind.TheVariants.{Uplink, Unknown}
 use Rattle.ucp_messages.specs.declared.Message.{Message}
-use Rattle.ucp_messages.specs.declared.Message.TheVariants as message
 use Rattle.ucp_messages.specs.Uplink7.{uplink_fits}
 use Rattle.ucp_messages.proofs.Formats.{LawfulFormat, Lawful, formatted, uplink, unknown, lawful, fits_as, body_as}
 use Rattle.ucp_messages.proofs.BodyKind.{named_in, starts_as}
-use Rattle.ucp_messages.specs.Kinds.{kind_of, kind_in}
+use Rattle.ucp_messages.specs.Kinds.{kind_in}
 use Rattle.ucp_messages.specs.Messages.{ReaderAnswer, means, refused, means_unless_refused, payload_by, answer_as, message_due, message_fits, message_body}
 use Rattle.thm_ucp_messages.specs.RoundTrips.{MessageWritesBack}
 

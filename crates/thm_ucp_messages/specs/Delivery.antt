@@ -7,13 +7,11 @@ use Rattle.thm_ucp_messages.specs.Typed.{MessageTyped}
 use Rattle.thm_ucp_receiver.specs.Line.{Observed, up_to, Line}
 use Rattle.thm_ucp_receiver.specs.Promises.{AnswersAs, EndsIn}
 use Rattle.ucp_messages.specs.declared.Message.{Message}
-use Rattle.ucp_messages.specs.declared.Read.{Read}
-use Rattle.ucp_messages.specs.Messages.{message_body, means, reader_answer, Reads}
+use Rattle.ucp_messages.specs.Messages.{Read, message_body, means, reader_answer, Reads}
 use Rattle.ucp_receiver.specs.Answers.{body, receiver_answer}
 use Rattle.ucp_send.specs.Sends.{Sends}
 use Rattle.ucp_writer.specs.Writes.{WritesFrame}
-use Rattle.output_writing.specs.declared.Written.{Written}
-use Rattle.output_writing.specs.Writing.{wrote, writer_answer}
+use Rattle.output_writing.specs.Writing.{Written, wrote, writer_answer}
 
 -- where a line, whatever it brought before, ends in the octets that an accepted call to the sender wrote, and the room is 436
 -- octets or more: the last call delivers the message's body, and a reader that is given it gives the message

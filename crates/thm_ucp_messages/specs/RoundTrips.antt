@@ -2,13 +2,11 @@
 -- equal, and each accepted one writes back to the same octets (the tender, demand 2). Assumes nothing.
 use Rattle.std.specs.Prelude.{◌≡◌, List, ◌++◌, ℕ, ◌≤◌, length, take, drop}
 use Rattle.crc_polynomial.specs.Polynomial.{Octets}
-use Rattle.output_writing.specs.declared.Written.{Written}
-use Rattle.output_writing.specs.Writing.{wrote, writer_answer}
+use Rattle.output_writing.specs.Writing.{Written, wrote, writer_answer}
 use Rattle.ucp_answers.specs.Writes as Message
 use Rattle.ucp_messages.specs.declared.Message.{Message}
 use Rattle.ucp_messages.specs.declared.Message.TheVariants.{Uplink}
-use Rattle.ucp_messages.specs.declared.Read.{Read}
-use Rattle.ucp_messages.specs.Messages.{means, reader_answer, Reads, GivesPayload, message_fits, message_body}
+use Rattle.ucp_messages.specs.Messages.{Read, means, reader_answer, Reads, GivesPayload, message_fits, message_body}
 use Rattle.thm_ucp_messages.specs.Typed.{MessageTyped}
 
 -- a call to the writer: the message and the payload, the output as at entry, the answer, and the output as at return

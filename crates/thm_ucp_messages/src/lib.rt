@@ -2,68 +2,60 @@
 // contracts say that every message that a program holds meets what the theorems ask of it.
 #![tactic(auto)]
 
-ghost use Rattle.std.specs.Prelude.{◌≡◌};
+ghost use Rattle.field_format.specs.Format.{TypedAs};
+ghost use Rattle.ucp_messages.specs.Heartbeat0.{heartbeat_format};
+ghost use Rattle.ucp_messages.specs.Report10.{report_format};
+ghost use Rattle.ucp_messages.specs.GeometricAltitude11.{geometric_format};
+ghost use Rattle.ucp_messages.specs.Request44.{request_format};
+ghost use Rattle.ucp_messages.specs.Control45.{control_format};
+ghost use Rattle.ucp_messages.specs.Initialization117.{initialization_format};
 ghost use Rattle.thm_ucp_messages.specs.Typed.{MessageTyped};
 
 use ucp_messages::{
     Control, GeometricAltitude, Heartbeat, Initialization, Message, Report, Request,
 };
 
-// ---- one kind: the message, and the value that it carries
+// ---- one kind
 
-fn heartbeat_typed(message: Message, heartbeat: Heartbeat)
-    requires { message ≡ Message.Heartbeat heartbeat }
-    ensures { MessageTyped message }
+fn heartbeat_typed(heartbeat: Heartbeat)
+    ensures { TypedAs heartbeat_format heartbeat }
 {}
 
-fn ownship_typed(message: Message, report: Report)
-    requires { message ≡ Message.Ownship report }
-    ensures { MessageTyped message }
+#[tactic(auto, unfolding(field_signed::specs::Signed::holds))]
+fn report_typed(report: Report)
+    ensures { TypedAs (report_format 10) report }
 {}
 
-fn geometric_typed(message: Message, geometric: GeometricAltitude)
-    requires { message ≡ Message.GeometricAltitude geometric }
-    ensures { MessageTyped message }
+#[tactic(auto, unfolding(field_signed::specs::Signed::holds))]
+fn geometric_typed(geometric: GeometricAltitude)
+    ensures { TypedAs geometric_format geometric }
 {}
 
-fn traffic_typed(message: Message, report: Report)
-    requires { message ≡ Message.Traffic report }
-    ensures { MessageTyped message }
+fn request_typed(request: Request)
+    ensures { TypedAs request_format request }
 {}
 
-fn request_typed(message: Message, request: Request)
-    requires { message ≡ Message.Request request }
-    ensures { MessageTyped message }
+#[tactic(auto, unfolding(field_signed::specs::Signed::holds))]
+fn control_typed(control: Control)
+    ensures { TypedAs control_format control }
 {}
 
-fn control_typed(message: Message, control: Control)
-    requires { message ≡ Message.Control control }
-    ensures { MessageTyped message }
+fn initialization_typed(initialization: Initialization)
+    ensures { TypedAs initialization_format initialization }
 {}
 
-fn initialization_typed(message: Message, initialization: Initialization)
-    requires { message ≡ Message.Initialization initialization }
-    ensures { MessageTyped message }
-{}
-
-fn uplink_typed(message: Message)
-    requires { message ≡ Message.Uplink }
-    ensures { MessageTyped message }
-{}
-
-// Every message is a value of its type.
+// Every message is a value of its type. The two reports' formats differ in the ID alone.
 pub fn typed(message: Message)
     ensures { MessageTyped message }
 {
-    let whole = message;
     match message {
-        Message::Heartbeat(heartbeat) => heartbeat_typed(whole, heartbeat),
-        Message::Uplink => uplink_typed(whole),
-        Message::Ownship(report) => ownship_typed(whole, report),
-        Message::GeometricAltitude(geometric) => geometric_typed(whole, geometric),
-        Message::Traffic(report) => traffic_typed(whole, report),
-        Message::Request(request) => request_typed(whole, request),
-        Message::Control(control) => control_typed(whole, control),
-        Message::Initialization(initialization) => initialization_typed(whole, initialization),
+        Message::Heartbeat(heartbeat) => heartbeat_typed(heartbeat),
+        Message::Uplink => (),
+        Message::Ownship(report) => report_typed(report),
+        Message::GeometricAltitude(geometric) => geometric_typed(geometric),
+        Message::Traffic(report) => report_typed(report),
+        Message::Request(request) => request_typed(request),
+        Message::Control(control) => control_typed(control),
+        Message::Initialization(initialization) => initialization_typed(initialization),
     }
 }

@@ -2,8 +2,7 @@
 -- and the paragraph below it). Assumes nothing.
 use Rattle.std.specs.Prelude.{Bool, cond, List, ℕ, length}
 use Rattle.refusals.specs.Numbers as because
-use Rattle.output_writing.specs.declared.Written.{Written}
-use Rattle.output_writing.specs.Writing.{WriterAnswer, refused, room_for, Writing}
+use Rattle.output_writing.specs.Writing.{Written, WriterAnswer, refused, room_for, Writing}
 
 -- the answer that is due: 13 for a field outside its range, then 8 for an output shorter than the body
 unfoldable pub body_due : Bool → List ℕ → List ℕ → WriterAnswer

@@ -4,13 +4,13 @@ use Rattle.field_format.specs.Format.{fits, body_of}
 use Rattle.ucp_messages.specs.declared.Kind.{Kind}
 use Rattle.ucp_messages.specs.declared.Message.{Message}
 use Rattle.ucp_messages.specs.declared.Message.TheVariants.{Uplink}
-use Rattle.std.specs.Prelude.{◌≡◌, List, [], ℕ, drop, Bool}
+use Rattle.std.specs.Prelude.{◌≡◌, List, [], ℕ, drop, Bool, Result, Ok, Err}
 use Rattle.refusals.specs.Numbers as because
 use Rattle.ucp_answers.specs.Refusals
 use Rattle.ucp_answers.specs.Refusals.{refusal_of, reads}
 use Rattle.ucp_messages.specs.Uplink7.{uplink_refusal, uplink_fits, uplink_body}
-use Rattle.ucp_messages.specs.declared.Read.{Read}
-use Rattle.ucp_messages.specs.declared.Read.TheVariants.{Message as Means, Refused}
+use Rattle.refusals.specs.Refusals.{refusal_number}
+use Rattle.refusals.specs.declared.Refusal.{Refusal}
 use Rattle.ucp_messages.specs.Kinds.{Reading, format, uplink, unknown, reading_of, Carried, value, payload, carried_by, kind_in}
 
 -- an answer in the paper's terms: a refusal's number, or the message that the body is
@@ -18,10 +18,14 @@ pub data ReaderAnswer : Type 0 where
   refused : ℕ → ReaderAnswer
   means : Message → ReaderAnswer
 
+-- a reader's answer: the message that the body is, or why it was refused
+abbrev pub Read : Type 0
+Read = Result Message Refusal
+
 -- the paper's number and values of each case
 abbrev pub reader_answer : Read → ReaderAnswer
-reader_answer (Refused number) = refused number
-reader_answer (Means message) = means message
+reader_answer (Err refusal) = refused (refusal_number refusal)
+reader_answer (Ok message) = means message
 
 -- the refusal, or the message where there is none
 abbrev pub means_unless_refused : ℕ → Message → ReaderAnswer

@@ -1,33 +1,20 @@
--- Runs of fields as octets, as the functions of this crate make them. Assumes nothing.
-use Rattle.std.specs.Prelude.{ℕ, ◌+◌, ◌*◌, ◌/◌, ◌%◌, ℤ}
-use Rattle.field_signed.specs.Signed.{complement}
-use Rattle.field_format.specs.Format.{high}
-use Rattle.ucp_messages.specs.declared.report_10.Three.{Three}
-use Rattle.ucp_messages.specs.declared.report_10.Two.{Two}
-use Rattle.ucp_messages.specs.declared.report_10.Position.{Position}
-use Rattle.ucp_messages.specs.declared.report_10.Four.{Four}
+-- What the readers of the kinds answer, each with its own value. Assumes nothing.
+use Rattle.std.specs.Prelude.{◌≡◌, List, ℕ, Result, Ok, Err}
+use Rattle.refusals.specs.Refusals.{refusal_number}
+use Rattle.refusals.specs.declared.Refusal.{Refusal}
+use Rattle.field_format.specs.Format.{Format}
+use Rattle.ucp_answers.specs.Refusals.{unless_refused, reads}
+use Rattle.ucp_messages.specs.Uplink7.{uplink_refusal}
 
--- ---- runs of fields as octets
-abbrev pub height_of : ℕ → ℕ → Two
-height_of altitude miscellaneous =
-    let n = altitude * 16 + miscellaneous in
-    record { high = n / 256; low = n % 256 }
+-- the paper's number of a refusal, or the value
+abbrev pub number_or_zero : {A : Type 0} → Result A Refusal → Result A ℕ
+number_or_zero (Err refusal) = Err (refusal_number refusal)
+number_or_zero (Ok a) = Ok a
 
-abbrev pub three_of : ℕ → Three
-three_of n = record { high = n / 65536; middle = n % 65536 / 256; low = n % 65536 % 256 }
+-- one call, whole, of a body that has the ID of a kind with a format: the refusal that is due, or the value
+abbrev pub ReadsValue : {A : Type 0} → Format A → List ℕ → Result A Refusal → Type 0
+ReadsValue f body answer = number_or_zero answer ≡ reads f Err Ok body
 
-abbrev pub position_of : ℤ → ℤ → Position
-position_of latitude longitude = record {
-  latitude = three_of (complement 8388608 latitude);
-  longitude = three_of (complement 8388608 longitude);
-}
-
-abbrev pub motion_of : ℕ → ℤ → ℕ → Four
-motion_of speed rate track =
-    let n = speed * 1048576 + (complement 2048 rate * 256 + track) in
-    record {
-      high = n / 16777216;
-      upper = n % 16777216 / 65536;
-      lower = n % 16777216 % 65536 / 256;
-      low = n % 16777216 % 65536 % 256;
-    }
+-- the same of an uplink, which has no value
+abbrev pub ReadsUplinkBody : List ℕ → Result (Unit {0}) Refusal → Type 0
+ReadsUplinkBody body answer = number_or_zero answer ≡ unless_refused Err (uplink_refusal body) (Ok tt)

@@ -1,13 +1,13 @@
 // Message 45, Control.
 ghost use Rattle.std.specs.Prelude.{◌≡◌, length, get_or};
 ghost use Rattle.field_format.specs.Format.{value_in, body_of, fits, Fitting};
-ghost use Rattle.ucp_messages.specs.Kinds.{StartsWith};
-ghost use Rattle.ucp_messages.specs.Messages.{Reads};
+ghost use Rattle.ucp_messages.specs.Steps.{ReadsValue};
 ghost use Rattle.ucp_messages.specs.Control45.{control_format};
 ghost use Rattle.ucp_answers.specs.Writes.{WritesBody};
 
-use super::{Control, Message, Read};
+use super::Control;
 use output_writing::Written;
+use refusals::Refusal;
 
 fn fields(body: &[u8]) -> Control
     requires { length body.now ≡ 18 }
@@ -35,21 +35,20 @@ fn fields(body: &[u8]) -> Control
 }
 
 // What a body that has the kind's ID means.
-pub fn read(body: &[u8]) -> Read
-    requires { StartsWith 45 body.now }
-    ensures { Reads body.now result }
+pub fn read(body: &[u8]) -> Result<Control, Refusal>
+    ensures { ReadsValue control_format body.now result }
 {
     if body.len() != 18 {
-        return Read::Refused(refusals::MESSAGE_LENGTH);
+        return Err(Refusal::MessageLength);
     }
     if field_layout::octet(body, 1) != 1 {
-        return Read::Refused(refusals::FIXED);
+        return Err(Refusal::Fixed);
     }
     let fields = fields(body);
     if !in_range(fields) {
-        return Read::Refused(refusals::FIELD);
+        return Err(Refusal::Field);
     }
-    Read::Message(Message::Control(fields))
+    Ok(fields)
 }
 
 // Whether each field is in its range.
@@ -61,6 +60,7 @@ fn in_range(control: Control) -> bool
 }
 
 // Whether it also has no more bits than the body has for it.
+#[tactic(auto, unfolding(field_format::specs::Format::fits))]
 fn fits(control: Control) -> bool
     ensures { result ≡ fits control_format control }
 {
@@ -68,6 +68,7 @@ fn fits(control: Control) -> bool
 }
 
 // Bits 7 to 0 of the octet at 2.
+#[tactic(auto, unfolding(field_format::specs::Format::body_of))]
 fn state(control: Control) -> u8
     requires { Fitting control_format control }
     ensures { result ≡ get_or (body_of control_format control) 2 0 }
@@ -82,25 +83,25 @@ fn state(control: Control) -> u8
     es_enabled * 128 + (mode_s * 64 + (mode_c * 32 + (mode_a * 16 + low)))
 }
 
+#[tactic(auto, using(std::proofs::lemmas::Int::ints), unfolding(field_format::specs::Format::body_of))]
 fn octets(control: Control) -> [u8; 18]
     requires { Fitting control_format control }
     ensures { result ≡ body_of control_format control }
 {
     let state = state(control);
-    let altitude = field_signed::bits_32(control.altitude);
-    let squawk = control.squawk;
+    let altitude = field_signed::bits_32(control.altitude).to_le_bytes();
+    let squawk = control.squawk.to_le_bytes();
     let text = control.identity;
-    let low = altitude % 16777216 % 65536;
     [
         45,
         1,
         state,
-        (low % 256) as u8,
-        (low / 256) as u8,
-        (altitude % 16777216 / 65536) as u8,
-        (altitude / 16777216) as u8,
-        (squawk % 256) as u8,
-        (squawk / 256) as u8,
+        altitude[0],
+        altitude[1],
+        altitude[2],
+        altitude[3],
+        squawk[0],
+        squawk[1],
         control.emergency,
         text.c0,
         text.c1,
@@ -117,7 +118,7 @@ pub fn write(control: Control, output: &mut [u8]) -> Written
     ensures { WritesBody (fits control_format control) (body_of control_format control) output.old result output.new }
 {
     if !fits(control) {
-        return Written::Refused(refusals::FIELD);
+        return Err(Refusal::Field);
     }
     let body = octets(control);
     ucp_answers::put(&body, output)

@@ -1,13 +1,13 @@
 // Message 11, Ownship geometric altitude.
 ghost use Rattle.std.specs.Prelude.{◌≡◌, length};
 ghost use Rattle.field_format.specs.Format.{value_in, body_of, fits};
-ghost use Rattle.ucp_messages.specs.Kinds.{StartsWith};
-ghost use Rattle.ucp_messages.specs.Messages.{Reads};
+ghost use Rattle.ucp_messages.specs.Steps.{ReadsValue};
 ghost use Rattle.ucp_messages.specs.GeometricAltitude11.{geometric_format};
 ghost use Rattle.ucp_answers.specs.Writes.{WritesBody};
 
-use super::{GeometricAltitude, Message, Read};
+use super::GeometricAltitude;
 use output_writing::Written;
+use refusals::Refusal;
 
 fn fields(body: &[u8]) -> GeometricAltitude
     requires { length body.now ≡ 5 }
@@ -20,30 +20,25 @@ fn fields(body: &[u8]) -> GeometricAltitude
 }
 
 // What a body that has the kind's ID means.
-pub fn read(body: &[u8]) -> Read
-    requires { StartsWith 11 body.now }
-    ensures { Reads body.now result }
+pub fn read(body: &[u8]) -> Result<GeometricAltitude, Refusal>
+    ensures { ReadsValue geometric_format body.now result }
 {
     if body.len() != 5 {
-        return Read::Refused(refusals::MESSAGE_LENGTH);
+        return Err(Refusal::MessageLength);
     }
-    Read::Message(Message::GeometricAltitude(fields(body)))
+    Ok(fields(body))
 }
 
+#[tactic(auto, using(std::proofs::lemmas::Int::ints), unfolding(field_format::specs::Format::body_of))]
 fn octets(geometric: GeometricAltitude) -> [u8; 5]
     ensures { result ≡ body_of geometric_format geometric }
 {
-    let altitude = field_signed::bits_16(geometric.altitude);
-    let metrics = geometric.metrics;
-    [
-        11,
-        (altitude / 256) as u8,
-        (altitude % 256) as u8,
-        (metrics / 256) as u8,
-        (metrics % 256) as u8,
-    ]
+    let altitude = field_signed::bits_16(geometric.altitude).to_be_bytes();
+    let metrics = geometric.metrics.to_be_bytes();
+    [11, altitude[0], altitude[1], metrics[0], metrics[1]]
 }
 
+#[tactic(auto, unfolding(field_format::specs::Format::fits))]
 pub fn write(geometric: GeometricAltitude, output: &mut [u8]) -> Written
     ensures { WritesBody (fits geometric_format geometric) (body_of geometric_format geometric) output.old result output.new }
 {

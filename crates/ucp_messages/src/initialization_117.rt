@@ -1,13 +1,13 @@
 // Message 117, Initialization.
 ghost use Rattle.std.specs.Prelude.{◌≡◌, length};
 ghost use Rattle.field_format.specs.Format.{value_in, body_of, fits, Fitting};
-ghost use Rattle.ucp_messages.specs.Kinds.{StartsWith};
-ghost use Rattle.ucp_messages.specs.Messages.{Reads};
+ghost use Rattle.ucp_messages.specs.Steps.{ReadsValue};
 ghost use Rattle.ucp_messages.specs.Initialization117.{initialization_format};
 ghost use Rattle.ucp_answers.specs.Writes.{WritesBody};
 
-use super::{Initialization, Message, Read};
+use super::Initialization;
 use output_writing::Written;
+use refusals::Refusal;
 
 fn fields(body: &[u8]) -> Initialization
     requires { length body.now ≡ 19 }
@@ -27,24 +27,23 @@ fn fields(body: &[u8]) -> Initialization
 }
 
 // What a body that has the kind's ID means.
-pub fn read(body: &[u8]) -> Read
-    requires { StartsWith 117 body.now }
-    ensures { Reads body.now result }
+pub fn read(body: &[u8]) -> Result<Initialization, Refusal>
+    ensures { ReadsValue initialization_format body.now result }
 {
     if body.len() != 19 {
-        return Read::Refused(refusals::MESSAGE_LENGTH);
+        return Err(Refusal::MessageLength);
     }
     if field_layout::octet(body, 1) != 65 {
-        return Read::Refused(refusals::FIXED);
+        return Err(Refusal::Fixed);
     }
     if field_layout::octet(body, 2) != 1 {
-        return Read::Refused(refusals::FIXED);
+        return Err(Refusal::Fixed);
     }
     let fields = fields(body);
     if !in_range(fields) {
-        return Read::Refused(refusals::FIELD);
+        return Err(Refusal::Field);
     }
-    Read::Message(Message::Initialization(fields))
+    Ok(fields)
 }
 
 // Whether each field is in its range.
@@ -58,6 +57,7 @@ fn in_range(initialization: Initialization) -> bool
 }
 
 // Whether it also has no more bits than the body has for it.
+#[tactic(auto, unfolding(field_format::specs::Format::fits))]
 fn fits(initialization: Initialization) -> bool
     ensures { result ≡ fits initialization_format initialization }
 {
@@ -67,20 +67,21 @@ fn fits(initialization: Initialization) -> bool
         & (initialization.longitudinal < 32)
 }
 
+#[tactic(auto, unfolding(field_format::specs::Format::body_of))]
 fn octets(initialization: Initialization) -> [u8; 19]
     requires { Fitting initialization_format initialization }
     ensures { result ≡ body_of initialization_format initialization }
 {
-    let address = initialization.address;
+    let address = initialization.address.to_le_bytes();
     let text = initialization.callsign;
     [
         117,
         65,
         1,
         initialization.version,
-        (address % 65536 % 256) as u8,
-        (address % 65536 / 256) as u8,
-        (address / 65536) as u8,
+        address[0],
+        address[1],
+        address[2],
         initialization.emitter,
         text.c0,
         text.c1,
@@ -100,7 +101,7 @@ pub fn write(initialization: Initialization, output: &mut [u8]) -> Written
     ensures { WritesBody (fits initialization_format initialization) (body_of initialization_format initialization) output.old result output.new }
 {
     if !fits(initialization) {
-        return Written::Refused(refusals::FIELD);
+        return Err(Refusal::Field);
     }
     let body = octets(initialization);
     ucp_answers::put(&body, output)

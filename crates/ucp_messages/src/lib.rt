@@ -11,13 +11,14 @@ mod report_10;
 mod request_44;
 pub mod uplink_7;
 
-ghost use Rattle.std.specs.Prelude.{◌≡◌, length, get_or};
+ghost use Rattle.std.specs.Prelude.{◌≡◌};
 ghost use Rattle.ucp_answers.specs.Writes.{WritesBody};
-ghost use Rattle.ucp_messages.specs.Kinds.{is_known, known_ids, NoneOf, NamedBy};
+ghost use Rattle.ucp_messages.specs.Kinds.{is_known, NamedBy};
 ghost use Rattle.ucp_messages.specs.Messages.{Reads, GivesPayload, message_fits, message_body};
 
 use field_layout::Text;
 use output_writing::Written;
+use refusals::Refusal;
 
 // Message 0, Heartbeat: all bits carried as they are.
 #[repr(C)]
@@ -110,6 +111,8 @@ pub struct Initialization {
 }
 
 // The kinds of message. An ID that is none of theirs is of an unknown kind.
+// Stays: the definitions have `Unknown` as a kind: `kind_row` of specs/Kinds.antt has a row for it, and `kind_in` gives it to a body
+// without an octet.
 #[derive(Clone, Copy)]
 pub enum Kind {
     Heartbeat,
@@ -134,16 +137,6 @@ pub enum Message {
     Request(Request),
     Control(Control),
     Initialization(Initialization),
-}
-
-// A message reader's answer. `reader_answer` of specs/Messages.antt gives the paper's number and values of each case.
-#[derive(Clone, Copy)]
-pub enum Read {
-    // The body is this message. Of an uplink, the payload is the body without its first octet.
-    Message(Message),
-    // Refused, by its number: 10, an unknown ID or no octet; 11, another length than the kind's; 12, a wrong version,
-    // signature or subtype; 13, a field outside its range.
-    Refused(u8),
 }
 
 // The kind of a message, by its ID.
@@ -180,39 +173,25 @@ pub fn is_known(kind: Kind) -> bool
     }
 }
 
-// A body without an octet is of no kind.
-fn read_nothing(body: &[u8]) -> Read
-    requires { length body.now ≡ 0 }
-    ensures { Reads body.now result }
-{
-    Read::Refused(refusals::UNKNOWN_ID)
-}
-
-// Nor is one with an ID that no kind has.
-fn read_unknown(body: &[u8]) -> Read
-    requires { NoneOf known_ids (get_or body.now 0 0) }
-    ensures { Reads body.now result }
-{
-    Read::Refused(refusals::UNKNOWN_ID)
-}
-
-// What a body means. The choice is by the number, as in `kind_of`: so it needs no proof of its own.
-pub fn read_message(body: &[u8]) -> Read
+// What a body means: the message, of an uplink without its payload, which is the body behind its first octet. Refusals: 10, an
+// unknown ID or no octet; 11, another length than the kind's; 12, a wrong version, signature or subtype; 13, a field outside its
+// range.
+pub fn read_message(body: &[u8]) -> Result<Message, Refusal>
     ensures { Reads body.now result }
 {
     if body.len() == 0 {
-        return read_nothing(body);
+        return Err(Refusal::UnknownId);
     }
     match body[0] {
-        0 => heartbeat_0::read(body),
-        7 => uplink_7::read(body),
-        10 => report_10::read_ownship(body),
-        11 => geometric_altitude_11::read(body),
-        20 => report_10::read_traffic(body),
-        44 => request_44::read(body),
-        45 => control_45::read(body),
-        117 => initialization_117::read(body),
-        _ => read_unknown(body),
+        0 => heartbeat_0::read(body).map(Message::Heartbeat),
+        7 => uplink_7::read(body).and(Ok(Message::Uplink)),
+        10 => report_10::read(body).map(Message::Ownship),
+        11 => geometric_altitude_11::read(body).map(Message::GeometricAltitude),
+        20 => report_10::read(body).map(Message::Traffic),
+        44 => request_44::read(body).map(Message::Request),
+        45 => control_45::read(body).map(Message::Control),
+        117 => initialization_117::read(body).map(Message::Initialization),
+        _ => Err(Refusal::UnknownId),
     }
 }
 
@@ -237,9 +216,9 @@ pub fn write_message(message: Message, payload: &[u8], output: &mut [u8]) -> Wri
     match message {
         Message::Heartbeat(heartbeat) => heartbeat_0::write(heartbeat, output),
         Message::Uplink => uplink_7::write(payload, output),
-        Message::Ownship(report) => report_10::write_ownship(report, output),
+        Message::Ownship(report) => report_10::write(10, report, output),
         Message::GeometricAltitude(geometric) => geometric_altitude_11::write(geometric, output),
-        Message::Traffic(report) => report_10::write_traffic(report, output),
+        Message::Traffic(report) => report_10::write(20, report, output),
         Message::Request(request) => request_44::write(request, output),
         Message::Control(control) => control_45::write(control, output),
         Message::Initialization(initialization) => initialization_117::write(

@@ -4,7 +4,7 @@ use Rattle.std.specs.Prelude.{List, ℕ}
 use Rattle.ucp_writer.specs.Sends.{SendsBody}
 use Rattle.ucp_messages.specs.declared.Message.{Message}
 use Rattle.ucp_messages.specs.Messages.{message_fits, message_body}
-use Rattle.output_writing.specs.declared.Written.{Written}
+use Rattle.output_writing.specs.Writing.{Written}
 
 -- one call, whole: the message, the payload and the buffer as at entry, the answer, and the buffer as at return
 abbrev pub Sends : Message → List ℕ → List ℕ → Written → List ℕ → Type 0

@@ -12,12 +12,6 @@ use ucp_messages::Message;
 pub fn send_message(message: Message, payload: &[u8], buffer: &mut FrameBuffer) -> Written
     ensures { Sends message payload.now buffer.old result buffer.new }
 {
-    let written = ucp_messages::write_message(message, payload, buffer);
-    // A refusal has no length, and then nothing is framed.
-    let numbers = output_writing::in_numbers(written);
-    let length = ucp_writer::frame_in_place(buffer, numbers.length);
-    match written {
-        Written::Wrote(_) => Written::Wrote(length),
-        Written::Refused(number) => Written::Refused(number),
-    }
+    let octets = ucp_messages::write_message(message, payload, buffer)?;
+    ucp_writer::frame_in_place(buffer, octets)
 }

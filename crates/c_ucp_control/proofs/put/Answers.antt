@@ -5,7 +5,6 @@ use lib.ListN.{set, length-set}
 use lib.Seq.{sets}
 use Rattle.field_words.proofs.Digits.{eight_from}
 use Rattle.c_ucp_control.proofs.Held.{body_put}
-use borrow.Author.Rules.{rules}
 use Rattle.c_ucp_control.proofs.put.Goals as goal
 
 pub put_64-requires-2 : goal.put_64-requires-2
@@ -26,12 +25,3 @@ returns c =
     let first = c.put_64.ensures ∙ (λ i. sets (set (set (set output 0 45) 1 1) 2 c.state-state.result) 3 (numbers i)) in
     body_put m c.requires.0 (λ i. (c.shared_slice_known-1.given i).fits) output c.state-state.ensures c.requires.2
     (c.put_64-2.ensures ∙ (λ i. sets (first i) 10 (identity i)))
-
-pub bounds-output-1 : goal.bounds-output-1
-bounds-output-1 c = simp length-set (search rules)
-
-pub bounds-output-2 : goal.bounds-output-2
-bounds-output-2 c = simp length-set (search rules)
-
-pub put_64-requires : goal.put_64-requires
-put_64-requires c = simp length-set (search rules)

@@ -1,5 +1,6 @@
 -- `ostrogosz_ucp_send_geometric_altitude` meets its contract: its two halves make up a send. Assumes nothing.
-use native.Mathlib.Omega.{arith}
+use Rattle.std.proofs.Common.{arith, rules}
+use Rattle.output_writing.proofs.Numbers.{as_numbers}
 use Rattle.ucp_messages.specs.GeometricAltitude11.{geometric_format}
 use Rattle.c_lent.specs.Structs.{held}
 use Rattle.c_lent.proofs.Sends.{struct_sends}
@@ -11,5 +12,5 @@ pub returns : goal.returns
 returns c =
     let a = c.args in
     let m = held geometric_struct a.message.now in
-    struct_sends geometric_format m a.buffer.now (omega (arith, body_length m)) (omega (arith, body_length m)) c.write-written.ensures
-    c.write-written.auto.output c.frame_written.ensures
+    as_numbers c.from.ensures (struct_sends geometric_format m a.buffer.now _ 5 _ (search rules) (omega (arith, body_length m)) (omega (arith, body_length m))
+    c.write-written.ensures c.frame_written.ensures)

@@ -6,7 +6,6 @@ use lib.ListN.{get_or, set, length-set}
 use lib.Seq.{sets}
 use Rattle.field_words.proofs.Digits.{eight_from}
 use Rattle.c_ucp_initialization.proofs.Stored.{body_put}
-use borrow.Author.Rules.{rules}
 use Rattle.c_ucp_initialization.proofs.put.Goals as goal
 
 pub shape_of-output : goal.shape_of-output
@@ -20,9 +19,3 @@ returns c =
     let text = c.put_64.ensures ∙ (λ i. sets (c.put_first.ensures i) 8 (callsign i)) in
     body_put m c.requires.0 (λ i. (c.shared_slice_known-1.given i).fits) c.requires.1 c.args.output.now c.requires.2
     (λ i. set (set (set (text i) 16 (get_or m 17 0)) 17 (get_or m 18 0)) 18 (get_or m 19 0 * 32 + get_or m 20 0))
-
-pub bounds-output-17 : goal.bounds-output-17
-bounds-output-17 c = simp length-set (search rules)
-
-pub bounds-output-18 : goal.bounds-output-18
-bounds-output-18 c = simp length-set (search rules)

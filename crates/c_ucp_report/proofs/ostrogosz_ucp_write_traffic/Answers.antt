@@ -1,5 +1,6 @@
--- `ostrogosz_ucp_write_traffic` meets its contract: the number is handed on. Assumes nothing.
+-- `ostrogosz_ucp_write_traffic` meets its contract: the answer is handed on. Assumes nothing.
+use Rattle.output_writing.proofs.Numbers.{as_numbers}
 use Rattle.c_ucp_report.proofs.ostrogosz_ucp_write_traffic.Goals as goal
 
 pub returns : goal.returns
-returns c = rw c.numbered.ensures c.write_body.ensures
+returns c = as_numbers c.numbered.ensures c.write_body.ensures

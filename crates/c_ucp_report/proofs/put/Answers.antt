@@ -5,7 +5,6 @@ use lib.ListN.{length, get_or, set, length-set}
 use lib.Seq.{sets}
 use Rattle.field_words.proofs.Digits.{eight_from}
 use Rattle.c_ucp_report.proofs.Held.{body_put}
-use borrow.Author.Rules.{rules}
 use Rattle.c_ucp_report.proofs.put.Lts as lts
 use Rattle.c_ucp_report.proofs.put.Tie as tie
 use Rattle.c_ucp_report.proofs.put.Reads as reads
@@ -34,15 +33,6 @@ returns c =
     in
     body_put m c.requires.0 (λ i. (c.shared_slice_known-1.given i).fits) c.args.id c.requires.1 c.args.output.now c.requires.2
     (λ i. set (others i) 27 (c.halves.ensures i))
-
-pub bounds-output-17 : goal.bounds-output-17
-bounds-output-17 c = simp length-set (search rules)
-
-pub bounds-output-18 : goal.bounds-output-18
-bounds-output-18 c = simp length-set (search rules)
-
-pub put_64-requires : goal.put_64-requires
-put_64-requires c = simp length-set (search rules)
 
 pub shape_of-output : goal.shape_of-output
 shape_of-output c = simp length-set (kept c.before)

@@ -1,12 +1,7 @@
 -- `c_ucp_report::put_16` meets its contract. Assumes nothing.
 use Prim.Native.Nat.{◌/◌, ◌%◌}
-use lib.ListN.{length-set}
 use Rattle.c_ucp_report.proofs.Puts.{two_put}
-use borrow.Author.Rules.{rules}
 use Rattle.c_ucp_report.proofs.put_16.Goals as goal
 
 pub returns : goal.returns
 returns c = two_put c.args.message.now c.args.at (c.args.number % 256) (c.args.number / 256)
-
-pub bounds-message-at-2 : goal.bounds-message-at-2
-bounds-message-at-2 c = simp length-set (search rules)

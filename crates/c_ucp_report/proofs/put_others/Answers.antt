@@ -8,7 +8,6 @@ use Rattle.field_words.proofs.Digits.{eight_from}
 use Rattle.c_ucp_report.specs.Steps.{halves_of, wide12}
 use Rattle.c_lent.specs.Steps.{two_of}
 use Rattle.c_ucp_report.proofs.Numbers.{read_track}
-use borrow.Author.Rules.{rules}
 use Rattle.c_ucp_report.proofs.put_others.Goals as goal
 
 pub put_halves-requires : goal.put_halves-requires
@@ -30,9 +29,3 @@ returns c =
     let motion = c.put_16.ensures ∙ (λ i. sets o 24 (two_of (rate i))) in
     let text = c.put_64.ensures ∙ (λ i. sets (set (set (motion i) 26 (track i)) 27 (get_or body 18 0)) 28 (callsign i)) in
     c.put_halves.ensures ∙ (λ i. sets (text i) 36 (halves_of (c.octet.ensures i)))
-
-pub bounds-message-27 : goal.bounds-message-27
-bounds-message-27 c = simp length-set (search rules)
-
-pub put_64-requires : goal.put_64-requires
-put_64-requires c = simp length-set (search rules)

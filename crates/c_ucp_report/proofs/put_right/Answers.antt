@@ -6,7 +6,6 @@ use lib.ListN.{set, length-set}
 use lib.Seq.{sets}
 use Rattle.c_ucp_report.specs.Steps.{halves_of, wide24, four_of}
 use Rattle.c_lent.specs.Steps.{two_of}
-use borrow.Author.Rules.{rules}
 use Rattle.c_ucp_report.proofs.put_right.Goals as goal
 
 pub put_16-requires-2 : goal.put_16-requires-2
@@ -27,6 +26,3 @@ returns c =
     let altitude = c.put_16.ensures ∙ (λ i. sets (position i) 16 (two_of (right.2 i / 16))) in
     let integrity = c.put_halves.ensures ∙ (λ i. sets (set (altitude i) 18 (right.2 i % 16)) 19 (halves_of (right.3 i))) in
     c.put_16-2.ensures ∙ (λ i. sets (integrity i) 22 (two_of (right.4 i)))
-
-pub put_halves-requires : goal.put_halves-requires
-put_halves-requires c = simp length-set (search rules)

@@ -13,7 +13,7 @@ returns-in-Uplink c = rw c.in-Uplink.is c.write-in-Uplink.ensures
 
 pub returns-in-Ownship : goal.returns-in-Ownship
 unfolding message_fits message_body
-returns-in-Ownship c = rw c.in-Ownship.is c.write_ownship.ensures
+returns-in-Ownship c = rw c.in-Ownship.is c.write-in-Ownship.ensures
 
 pub returns-in-GeometricAltitude : goal.returns-in-GeometricAltitude
 unfolding message_fits message_body
@@ -21,7 +21,7 @@ returns-in-GeometricAltitude c = rw c.in-GeometricAltitude.is c.write-in-Geometr
 
 pub returns-in-Traffic : goal.returns-in-Traffic
 unfolding message_fits message_body
-returns-in-Traffic c = rw c.in-Traffic.is c.write_traffic.ensures
+returns-in-Traffic c = rw c.in-Traffic.is c.write-in-Traffic.ensures
 
 pub returns-in-Request : goal.returns-in-Request
 unfolding message_fits message_body

@@ -1,7 +1,7 @@
 -- `control_45::write` meets its contract, by its two ways. Assumes nothing.
 use mathlib.Core.Bool.{not}
 use mathlib.Core.Path.{ap}
-use Rattle.ucp_answers.proofs.Writers.{fitting, refused_13, body_put}
+use Rattle.ucp_answers.proofs.Writers.{fitting, refused_13}
 use Rattle.field_format.specs.Format.{body_of}
 use Rattle.field_format.proofs.Formats.{fitting as bounds}
 use Rattle.ucp_messages.specs.Control45.{control_format}
@@ -13,8 +13,3 @@ returns-then-not-fits c = refused_13 c.fits.ensures (body_of control_format c.ar
 
 pub octets-body-requires : goal.octets-body-requires
 octets-body-requires c = bounds control_format control_right c.args.control (fitting c.fits.ensures (ap not c.if-not-fits.false))
-
-pub returns : goal.returns
-returns c = body_put c.fits.ensures
-    (ap not c.if-not-fits.false) c.octets-body.ensures
-    c.put.ensures

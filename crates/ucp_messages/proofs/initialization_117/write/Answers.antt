@@ -1,7 +1,7 @@
 -- `initialization_117::write` meets its contract, by its two ways. Assumes nothing.
 use mathlib.Core.Bool.{not}
 use mathlib.Core.Path.{ap}
-use Rattle.ucp_answers.proofs.Writers.{fitting, refused_13, body_put}
+use Rattle.ucp_answers.proofs.Writers.{fitting, refused_13}
 use Rattle.field_format.specs.Format.{body_of}
 use Rattle.field_format.proofs.Formats.{fitting as bounds}
 use Rattle.ucp_messages.specs.Initialization117.{initialization_format}
@@ -13,8 +13,3 @@ returns-then-not-fits c = refused_13 c.fits.ensures (body_of initialization_form
 
 pub octets-body-requires : goal.octets-body-requires
 octets-body-requires c = bounds initialization_format initialization_right c.args.initialization (fitting c.fits.ensures (ap not c.if-not-fits.false))
-
-pub returns : goal.returns
-returns c = body_put c.fits.ensures
-    (ap not c.if-not-fits.false) c.octets-body.ensures
-    c.put.ensures

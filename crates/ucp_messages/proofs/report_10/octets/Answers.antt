@@ -1,41 +1,77 @@
--- `report_10::octets` meets its contract. Assumes nothing.
-use mir.Syntax.{w16, w32}
-use mir.ValLaws.{to_z-of_z}
+-- `report_10::octets` meets its contract: each octet of a number, as Rattle's numbers give it and as the format has it. Assumes nothing.
+use Rattle.std.proofs.Common.{◌≡◌, ℕ, ◌+◌, ◌*◌, ◌/◌, ◌%◌, ◌<◌, arith, w16, w32, to_z-of_z}
+use mir.Val.{to_z, of_z}
+use Rattle.field_signed.specs.Signed.{complement}
 use Rattle.field_format.specs.Format.{body_of}
 use Rattle.field_format.proofs.Formats.{bound}
 use Rattle.ucp_messages.specs.Report10.{report_format}
 use Rattle.ucp_messages.proofs.Formats.{report_right}
 use Rattle.ucp_messages.proofs.report_10.octets.Goals as goal
 
-pub motion_of-motion-requires : goal.motion_of-motion-requires
-motion_of-motion-requires c =
-    let r = c.args.report in
-    let at = bound (report_format c.args.id) (report_right c.args.id) r c.requires in
-    (at 9, rw (to_z-of_z w16 r.vertical_rate (record { sfits = c.struct_told-3-1.given.1.1.1.1.1.1.1.1.1.1.0.1 })) (at 10))
+-- the octets of 16 bits, of 24 and of 32
+second_of_two : (n : ℕ) → n < 65536 → n / 256 % 256 ≡ n / 256
+second_of_two n h = omega arith
 
-pub halves-requires-2 : goal.halves-requires-2
-halves-requires-2 c =
-    let at = bound (report_format c.args.id) (report_right c.args.id) c.args.report c.requires in
-    (at 7, at 8)
+third : (n : ℕ) → n < 16777216 → n / 65536 % 256 ≡ n / 65536
+third n h = omega arith
 
-pub halves-requires-3 : goal.halves-requires-3
-halves-requires-3 c =
-    let at = bound (report_format c.args.id) (report_right c.args.id) c.args.report c.requires in
-    (at 14, at 15)
+second : (n : ℕ) → n / 256 % 256 ≡ n % 65536 / 256
+second n = omega arith
+
+first : (n : ℕ) → n % 256 ≡ n % 65536 % 256
+first n = omega arith
+
+fourth_of_four : (n : ℕ) → n < 4294967296 → n / 16777216 % 256 ≡ n / 16777216
+fourth_of_four n h = omega arith
+
+third_of_four : (n : ℕ) → n / 65536 % 256 ≡ n % 16777216 / 65536
+third_of_four n = omega arith
+
+second_of_four : (n : ℕ) → n / 256 % 256 ≡ n % 16777216 % 65536 / 256
+second_of_four n = omega arith
+
+first_of_four : (n : ℕ) → n % 256 ≡ n % 16777216 % 65536 % 256
+first_of_four n = omega arith
 
 pub returns : goal.returns
 unfolding body_of
 returns c =
     let r = c.args.report in
+    let at = bound (report_format c.args.id) (report_right c.args.id) r c.requires in
+    let latitude = complement 8388608 r.latitude in
+    let longitude = complement 8388608 r.longitude in
+    let height = r.altitude * 16 + r.miscellaneous in
+    let motion = r.speed * 1048576 + (complement 2048 r.vertical_rate * 256 + r.track) in
+    let latitude_is : to_z w32 (of_z w32 r.latitude) ≡ r.latitude = grind (arith, to_z-of_z) in
+    let longitude_is : to_z w32 (of_z w32 r.longitude) ≡ r.longitude = grind (arith, to_z-of_z) in
+    let rate_is : to_z w16 (of_z w16 r.vertical_rate) ≡ r.vertical_rate = grind (arith, to_z-of_z) in
     rw (
-      c.three_of-address.ensures,
-      c.position_of-position.ensures,
-      c.height_of-height.ensures,
-      c.motion_of-motion.ensures,
       c.halves.ensures,
       c.halves-2.ensures,
       c.halves-3.ensures,
-      to_z-of_z w32 r.latitude (record { sfits = c.struct_told-1.given.1.1.1.0.1 }),
-      to_z-of_z w32 r.longitude (record { sfits = c.struct_told-2-1.given.1.1.1.1.0.1 }),
-      to_z-of_z w16 r.vertical_rate (record { sfits = c.struct_told-3-1.given.1.1.1.1.1.1.1.1.1.1.0.1 }),
+      c.to_be_bytes-address.ensures,
+      c.to_be_bytes-latitude.ensures,
+      c.to_be_bytes-longitude.ensures,
+      c.to_be_bytes-height.ensures,
+      c.to_be_bytes-motion.ensures,
+      c.bits_24.ensures,
+      c.bits_24-2.ensures,
+      c.bits_12-rate.ensures,
+      latitude_is,
+      longitude_is,
+      rate_is,
+      third r.address (at 2),
+      second r.address,
+      first r.address,
+      third latitude (at 3),
+      second latitude,
+      first latitude,
+      third longitude (at 4),
+      second longitude,
+      first longitude,
+      second_of_two height (omega arith),
+      fourth_of_four motion (omega (arith, at 10)),
+      third_of_four motion,
+      second_of_four motion,
+      first_of_four motion,
     )

@@ -4,8 +4,8 @@ use mathlib.Core.List.{◌++◌}
 use Prim.Native.Nat.{◌≤◌}
 use native.Mathlib.Omega.{arith}
 use borrow.Author.Tests.{eq-eqb, ne_eqb, lt-ltb, le-ltb, le-leb}
-use borrow.Rule.Slice.PartMut.{mid_of, same_len_mid}
-use lib.ListN.{length, drop, set, length-set}
+use borrow.Rule.Slice.PartMut.{mid_of}
+use lib.ListN.{length, drop, set}
 use Rattle.ucp_messages.specs.Uplink7.{uplink_fits}
 use Rattle.ucp_answers.specs.Writes.{body_due}
 use Rattle.ucp_messages.proofs.Uplink.{left, behind_length, put_behind}
@@ -24,18 +24,6 @@ returns-then-output-lt436 c =
       answers = rw (eq-eqb (length a.payload.now) 435 exact, exact, lt-ltb (length a.output.now) 436 c.if-output-lt436.true);
       leaves = refl;
     }
-
-pub slice_bounds-store-count : goal.slice_bounds-store-count
-slice_bounds-store-count c = simp length-set (omega arith)
-
-pub slice_bounds-store-start : goal.slice_bounds-store-start
-slice_bounds-store-start c = simp length-set (omega arith)
-
-pub shape_of-output : goal.shape_of-output
-shape_of-output c =
-    let out = c.args.output.now in
-    same_len_mid 1 (left out) (set out 0 7) c.store.new.output c.store.auto.output
-    ∙ length-set out 0 7
 
 pub returns : goal.returns
 unfolding body_due uplink_fits

@@ -1,0 +1,6 @@
+-- `ostrogosz_ucp_write_control` meets its contract: the answer is handed on. Assumes nothing.
+use Rattle.output_writing.proofs.Numbers.{as_numbers}
+use Rattle.c_ucp_control.proofs.ostrogosz_ucp_write_control.Goals as goal
+
+pub returns : goal.returns
+returns c = as_numbers c.numbered.ensures c.write.ensures

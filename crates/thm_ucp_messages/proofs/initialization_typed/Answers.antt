@@ -1,6 +1,0 @@
--- `initialization_typed` meets its contract. Assumes nothing.
-use borrow.Author.Rules.{rules}
-use Rattle.thm_ucp_messages.proofs.initialization_typed.Goals as goal
-
-pub returns : goal.returns
-returns c = rw c.requires (search rules)

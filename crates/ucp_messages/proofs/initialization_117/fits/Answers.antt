@@ -1,7 +1,0 @@
--- `initialization_117::fits` meets its contract. Assumes nothing.
-use Rattle.field_format.specs.Format.{fits}
-use Rattle.ucp_messages.proofs.initialization_117.fits.Goals as goal
-
-pub returns : goal.returns
-unfolding fits
-returns c = rw c.in_range.ensures
