@@ -5,6 +5,4 @@ pub mod Static
 pub mod Agree
 pub mod Readers
 pub mod OneKind
-pub mod Ids
 pub mod Writers
-pub mod Failures

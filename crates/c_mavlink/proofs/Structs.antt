@@ -1,12 +1,14 @@
 -- A struct that lies as its payload does, with padding behind: what it holds is what the payload carries. Proved once for every
 -- such struct. Assumes nothing.
-use mathlib.Core.Path.{◌≡◌, refl, sym, ap, ap₂, ◌∙◌}
+use mathlib.Core.Path.{◌≡◌, refl, sym, ap, ◌∙◌}
 use mathlib.Core.List.{List, ◌++◌}
 use Prim.Native.Nat.{ℕ, ◌+◌}
 use native.Mathlib.Omega.{arith}
-use lib.ListN.{length, take, drop, replicate}
-use lib.Seq.{paste, take-length, length-take-le}
+use lib.ListN.{length, take, replicate}
+use lib.Seq.{length-take-le}
+use Rattle.std.proofs.Common.{Fits, w8, get_or, ◌≤◌}
 use Rattle.crc_polynomial.specs.Polynomial.{Octets}
+use Rattle.mavlink_frame.specs.Reader.{payload_at}
 use Rattle.field_layout.proofs.Elements.{elements, by_elements}
 use Rattle.field_format.specs.Format.{Format, body_of, value_in}
 use Rattle.field_format.proofs.Formats.{body_again}
@@ -17,7 +19,7 @@ use Rattle.mavlink_messages.specs.Traffic246.{traffic_format}
 use Rattle.mavlink_messages.proofs.Formats.{data_stream_right, dynamic_right, status_right, traffic_right}
 use Rattle.c_lent.specs.Structs.{Struct, stored, held}
 use Rattle.c_mavlink.specs.Structs.{data_stream_struct, dynamic_struct, status_struct, traffic_struct}
-use Rattle.c_mavlink.proofs.Parts.{part_octets}
+use Rattle.c_mavlink.proofs.Parts.{part_octets, payload_length}
 
 -- the members are the format's items, in the same order and widths, and then so many octets of padding
 pub record LiesAs {A : Type 0} (f : Format A) (s : Struct A) (n pad : ℕ) : Type 0 where
@@ -35,14 +37,11 @@ module _ {A : Type 0} {f : Format A} {s : Struct A} {n pad : ℕ} (as-payload : 
       sym (as-payload.again (take n m) (part_octets n 0 m (omega arith) is) (length-take-le n m (omega arith)))
       ∙ ap (body_of f) (sym (as-payload.holds m e))
 
-  -- a payload that is copied to the start of a struct whose padding is zero
-  pub filled : (p before : List ℕ) → Octets p → length p ≡ n → drop n before ≡ replicate pad 0
-      → {after : List ℕ} → after ≡ paste before 0 p (length p) → after ≡ stored s (value_in f p)
-  filled p before is e zeros put =
-      let m : 0 + length p ≡ n = omega arith in
-      put
-      ∙ ap₂ (λ (xs ys : List ℕ). xs ++ ys) (take-length p) (ap (λ (k : ℕ). drop k before) m ∙ zeros)
-      ∙ payload_stored p is e
+  -- the payload of a frame that is there, with the padding behind
+  pub taken_stored : (frame : List ℕ) → ((i : ℕ) → Fits w8 (get_or frame i 0)) → n + 8 ≤ length frame
+      → payload_at n frame ++ replicate pad 0 ≡ stored s (value_in f (payload_at n frame))
+  taken_stored frame is room =
+      payload_stored (payload_at n frame) (part_octets n 6 frame (omega arith) (λ i. (is i).fits)) (payload_length n frame room)
 
 -- what a struct holds, octet by octet
 by_octets : {A : Type 0} (f : Format A) (s : Struct A) (n size : ℕ) (m : List ℕ) → length m ≡ size

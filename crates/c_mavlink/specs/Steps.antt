@@ -1,5 +1,7 @@
 -- What the parts of the readers show. Assumes nothing.
-use Rattle.std.specs.Prelude.{◌≡◌, List, ℕ, ◌+◌, ◌<◌, ◌≤◌, length, get_or}
+use Rattle.std.specs.Prelude.{◌≡◌, List, ℕ, ◌+◌, ◌≤◌, length, get_or, Result, Ok, Err, MatchResult}
+use Rattle.refusals.specs.Refusals.{refusal_number}
+use Rattle.refusals.specs.declared.Refusal.{Refusal}
 use Rattle.mavlink_frame.specs.declared.Kind.{Kind}
 use Rattle.mavlink_frame.specs.Frame.{KindAnswer, known, unknown, mavlink_kind}
 use Rattle.mavlink_frame.specs.Reader.{frame, header_at, found_of}
@@ -21,12 +23,10 @@ pub record WholeOfKind (k : Kind) (s : List ℕ) : Type 0 where
   pub sized : get_or s 1 0 ≡ k.length
   pub is : found_as k.id s ≡ found_of k s
 
--- the refusal that is due before the check; 0 where there is none
-pub record Before (k : Kind) (s : List ℕ) (refusal : ℕ) : Type 0 where
-  pub refused : 0 < refusal → found_as k.id s ≡ answered.refused refusal
-  pub whole : refusal ≡ 0 → WholeOfKind k s
+-- a test up to the check: that the frame is whole, or the refusal that is due
+abbrev pub Before : Kind → List ℕ → Result (Unit {0}) Refusal → Type 0
+Before k s answer = MatchResult answer (λ done. WholeOfKind k s) (λ refusal. found_as k.id s ≡ answered.refused (refusal_number refusal))
 
--- the refusal that is due up to the check; 0 where the frame is right
-pub record Tested (id : ℕ) (s : List ℕ) (refusal : ℕ) : Type 0 where
-  pub refused : 0 < refusal → found_as id s ≡ answered.refused refusal
-  pub taken : refusal ≡ 0 → TakenBy (mavlink_kind id) s
+-- and with the check: that the frame is right, or the refusal that is due
+abbrev pub Tested : ℕ → List ℕ → Result (Unit {0}) Refusal → Type 0
+Tested id s answer = MatchResult answer (λ done. TakenBy (mavlink_kind id) s) (λ refusal. found_as id s ≡ answered.refused (refusal_number refusal))

@@ -5,21 +5,31 @@ ghost use Rattle.c_lent.specs.Structs.{held};
 ghost use Rattle.c_mavlink.specs.Structs.{header_struct, data_stream_struct};
 ghost use Rattle.c_mavlink.specs.Readers.{ReadsMavlink, read_as};
 ghost use Rattle.c_mavlink.specs.Steps.{Tested};
-ghost use Rattle.c_mavlink.specs.Writers.{WritesMavlinkForC};
+ghost use Rattle.c_lent.specs.Steps.{number_in};
+ghost use Rattle.c_mavlink.specs.Writers.{WritesMavlinkForC, WritesMavlinkMessage};
 
-use output_writing::OstrogoszWritten;
+use output_writing::{OstrogoszWritten, Written};
+use refusals::Refusal;
 
-// As `frames::refusal_of`, with the check from registers.
-fn refusal_of(input: &[u8]) -> u32
+// As `frames::tested`, with the check from registers.
+#[tactic(auto, unfolding(mavlink_frame::specs::Frame::mavlink_kind))]
+fn tested(input: &[u8]) -> Result<(), Refusal>
     ensures { Tested 66 input.now result }
 {
     let kind = mavlink_frame::DATA_STREAM;
-    let early = super::frames::before_check(kind, input);
-    if early != 0 {
-        return early;
-    }
+    super::frames::before_check(kind, input)?;
     let check = mavlink_frame::reader::check_of_six(kind.extra, input);
     super::frames::judged(kind, check, input)
+}
+
+#[tactic(auto, unfolding(mavlink_frame::specs::Frame::mavlink_kind))]
+fn read(input: &[u8], header: &mut [u8; 3], message: &mut [u8; 6]) -> Result<(), Refusal>
+    ensures { ReadsMavlink (read_as 66 input.now) header.old message.old (number_in result) header.new message.new }
+{
+    tested(input)?;
+    super::frames::put_sender(input, header);
+    *message = input[6..12].try_into().unwrap();
+    Ok(())
 }
 
 // Reads the message in the frame at the start of input into both structs: 0, or the refusal that is due, and then both are as
@@ -31,25 +41,15 @@ pub fn ostrogosz_mavlink_read_data_stream(
 ) -> u32
     ensures { ReadsMavlink (read_as 66 input.now) header.old message.old result header.new message.new }
 {
-    let refusal = refusal_of(input);
-    if refusal != 0 {
-        return refusal;
-    }
-    super::frames::put_sender(input, header);
-    field_words::copies::copy(&input[6..12], message, 0);
-    0
+    c_lent::read_number(read(input, header, message))
 }
 
-fn write(message: &[u8], header: &[u8], output: &mut [u8]) -> OstrogoszWritten
+fn write(message: &[u8], header: &[u8], output: &mut [u8]) -> Written
     requires { (length message.now ≡ 6) × (length header.now ≡ 3) }
-    ensures { WritesMavlinkForC (DataStream (held data_stream_struct message.now)) (held header_struct header.now) output.old result output.new }
+    ensures { WritesMavlinkMessage (DataStream (held data_stream_struct message.now)) (held header_struct header.now) output.old result output.new }
 {
-    output_writing::in_numbers(mavlink_frame::writer::write_six(
-        mavlink_frame::DATA_STREAM,
-        super::frames::sender(header),
-        message,
-        output,
-    ))
+    let sender = super::frames::sender(header);
+    mavlink_frame::writer::write_six(mavlink_frame::DATA_STREAM, sender, message, output)
 }
 
 // Writes the frame of the message that a struct holds at the start of output: 8.
@@ -60,5 +60,5 @@ pub fn ostrogosz_mavlink_write_data_stream(
 ) -> OstrogoszWritten
     ensures { WritesMavlinkForC (DataStream (held data_stream_struct message.now)) (held header_struct header.now) output.old result output.new }
 {
-    write(message, header, output)
+    OstrogoszWritten::from(write(message, header, output))
 }

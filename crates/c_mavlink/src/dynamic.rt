@@ -6,9 +6,11 @@ ghost use Rattle.mavlink_messages.specs.Ranges.{dynamic_fits};
 ghost use Rattle.c_lent.specs.Structs.{held};
 ghost use Rattle.c_mavlink.specs.Structs.{header_struct, dynamic_struct};
 ghost use Rattle.c_mavlink.specs.Readers.{ReadsMavlink, read_as};
-ghost use Rattle.c_mavlink.specs.Writers.{WritesMavlinkForC};
+ghost use Rattle.c_lent.specs.Steps.{number_in};
+ghost use Rattle.c_mavlink.specs.Writers.{WritesMavlinkForC, WritesMavlinkMessage};
 
-use output_writing::OstrogoszWritten;
+use output_writing::{OstrogoszWritten, Written};
+use refusals::Refusal;
 
 // Whether the fields are in range, of a payload or of a struct.
 fn fits(octets: &[u8]) -> bool
@@ -20,6 +22,20 @@ fn fits(octets: &[u8]) -> bool
     )
 }
 
+#[tactic(auto, unfolding(mavlink_frame::specs::Frame::mavlink_kind))]
+fn read(input: &[u8], header: &mut [u8; 3], message: &mut [u8; 44]) -> Result<(), Refusal>
+    ensures { ReadsMavlink (read_as 202 input.now) header.old message.old (number_in result) header.new message.new }
+{
+    super::frames::tested(mavlink_frame::DYNAMIC, input)?;
+    if !fits(&input[6..48]) {
+        return Err(Refusal::MavlinkField);
+    }
+    *message = [0; 44];
+    super::frames::put_sender(input, header);
+    message[..42].copy_from_slice(&input[6..48]);
+    Ok(())
+}
+
 // Reads the message in the frame at the start of input into both structs: 0, or the refusal that is due, and then both are as
 // they were.
 pub fn ostrogosz_mavlink_read_dynamic(
@@ -29,25 +45,15 @@ pub fn ostrogosz_mavlink_read_dynamic(
 ) -> u32
     ensures { ReadsMavlink (read_as 202 input.now) header.old message.old result header.new message.new }
 {
-    let refusal = super::frames::refusal_of(mavlink_frame::DYNAMIC, input);
-    if refusal != 0 {
-        return refusal;
-    }
-    if !fits(&input[6..48]) {
-        return super::FIELD;
-    }
-    *message = [0; 44];
-    super::frames::put_sender(input, header);
-    field_words::copies::copy(&input[6..48], message, 0);
-    0
+    c_lent::read_number(read(input, header, message))
 }
 
-fn write(message: &[u8], header: &[u8], output: &mut [u8]) -> OstrogoszWritten
+fn write(message: &[u8], header: &[u8], output: &mut [u8]) -> Written
     requires { (length message.now ≡ 44) × (length header.now ≡ 3) }
-    ensures { WritesMavlinkForC (Dynamic (held dynamic_struct message.now)) (held header_struct header.now) output.old result output.new }
+    ensures { WritesMavlinkMessage (Dynamic (held dynamic_struct message.now)) (held header_struct header.now) output.old result output.new }
 {
     if !fits(message) {
-        return super::frames::field_refused();
+        return Err(Refusal::MavlinkField);
     }
     super::frames::write(mavlink_frame::DYNAMIC, &message[0..42], header, output)
 }
@@ -60,5 +66,5 @@ pub fn ostrogosz_mavlink_write_dynamic(
 ) -> OstrogoszWritten
     ensures { WritesMavlinkForC (Dynamic (held dynamic_struct message.now)) (held header_struct header.now) output.old result output.new }
 {
-    write(message, header, output)
+    OstrogoszWritten::from(write(message, header, output))
 }

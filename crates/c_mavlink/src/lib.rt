@@ -9,26 +9,13 @@ pub mod static_data;
 pub mod status;
 pub mod traffic;
 
-ghost use Rattle.std.specs.Prelude.{◌≡◌, ◌≤◌, length};
-ghost use Rattle.mavlink_frame.specs.Reader.{found_of};
+ghost use Rattle.std.specs.Prelude.{◌≡◌};
+ghost use Rattle.refusals.specs.Refusals.{refusal_number};
 ghost use Rattle.mavlink_messages.specs.Failures.{failures_in};
-ghost use Rattle.c_mavlink.specs.Ids.{refusal_before_check, id_numbers, mavlink_id_due};
+ghost use Rattle.c_mavlink.specs.Ids.{id_answer, mavlink_id_due};
 ghost use Rattle.c_mavlink.specs.Failures.{failure_numbers};
 
-use mavlink_frame::{Kind, Lookup};
-
-// The refusals' numbers as C has them.
-const SHORT: u32 = refusals::MAVLINK_SHORT as u32;
-
-const START: u32 = refusals::MAVLINK_START as u32;
-
-const UNKNOWN_ID: u32 = refusals::MAVLINK_UNKNOWN_ID as u32;
-
-const LENGTH: u32 = refusals::MAVLINK_LENGTH as u32;
-
-const WRONG_CHECK: u32 = refusals::MAVLINK_WRONG_CHECK as u32;
-
-const FIELD: u32 = refusals::MAVLINK_FIELD as u32;
+use refusals::Refusal;
 
 // What kind of frame stands at the start of an input.
 #[repr(C)]
@@ -52,34 +39,46 @@ pub struct OstrogoszMavlinkFailures {
     pub lowest: u32,
 }
 
-fn refused(refusal: u32) -> OstrogoszMavlinkId
-    ensures { result ≡ record { refusal = refusal; id = 0; used = 0 } }
+fn refused(refusal: Refusal) -> OstrogoszMavlinkId
+    ensures { result ≡ record { refusal = refusal_number refusal; id = 0; used = 0 } }
 {
     OstrogoszMavlinkId {
-        refusal,
+        refusal: refusal.number() as u32,
         id: 0,
         used: 0,
     }
 }
 
-// The tests of a frame of a kind, of which six octets are there, up to the check.
-fn id_of(kind: Kind, input: &[u8]) -> OstrogoszMavlinkId
-    requires { 6 ≤ length input.now }
-    ensures { result ≡ id_numbers (refusal_before_check (found_of kind input.now)) input.now }
+// The message ID of the frame at the start of input, by a reader's tests up to the check.
+#[tactic(auto, unfolding(mavlink_frame::specs::Reader::found, mavlink_frame::specs::Reader::found_of))]
+fn id_of(input: &[u8]) -> Result<OstrogoszMavlinkId, Refusal>
+    ensures { id_answer result ≡ mavlink_id_due input.now }
 {
+    let n = input.len();
+    if n == 0 {
+        return Err(Refusal::MavlinkShort);
+    }
+    let first = input[0];
+    if first != 0xFE {
+        return Err(Refusal::MavlinkStart);
+    }
+    if n < 6 {
+        return Err(Refusal::MavlinkShort);
+    }
+    let kind = mavlink_frame::kind_of(input[5]).ok_or(Refusal::MavlinkUnknownId)?;
     let length = input[1];
     if length != kind.length {
-        return refused(LENGTH);
+        return Err(Refusal::MavlinkLength);
     }
     let used = length as usize + 8;
-    if input.len() < used {
-        return refused(SHORT);
+    if n < used {
+        return Err(Refusal::MavlinkShort);
     }
-    OstrogoszMavlinkId {
+    Ok(OstrogoszMavlinkId {
         refusal: 0,
         id: input[5] as u32,
         used,
-    }
+    })
 }
 
 // The message ID of the frame at the start of input, and how many octets the frame has. Neither its check nor its fields are
@@ -87,29 +86,19 @@ fn id_of(kind: Kind, input: &[u8]) -> OstrogoszMavlinkId
 pub fn ostrogosz_mavlink_read_id(input: &[u8]) -> OstrogoszMavlinkId
     ensures { result ≡ mavlink_id_due input.now }
 {
-    let n = input.len();
-    if n == 0 {
-        return refused(SHORT);
-    }
-    let first = input[0];
-    if first != 0xFE {
-        return refused(START);
-    }
-    if n < 6 {
-        return refused(SHORT);
-    }
-    match mavlink_frame::kind_of(input[5]) {
-        Lookup::Known(kind) => id_of(kind, input),
-        Lookup::Unknown => refused(UNKNOWN_ID),
+    match id_of(input) {
+        Ok(id) => id,
+        Err(refusal) => refused(refusal),
     }
 }
 
 // The failure bits of a status.
+#[tactic(auto, unfolding(mavlink_messages::specs::Failures::failures_in))]
 pub fn ostrogosz_mavlink_count_failures(status: u8) -> OstrogoszMavlinkFailures
     ensures { result ≡ failure_numbers (failures_in status) }
 {
     OstrogoszMavlinkFailures {
         count: mavlink_messages::failure_bits::count_failures(status),
-        lowest: mavlink_messages::failure_bits::lowest_failure(status),
+        lowest: mavlink_messages::failure_bits::lowest_failure(status).unwrap_or(0),
     }
 }

@@ -12,11 +12,14 @@ ghost use Rattle.mavlink_messages.specs.Messages.{message_frame};
 ghost use Rattle.c_lent.specs.Structs.{stored, held};
 ghost use Rattle.c_mavlink.specs.Structs.{header_struct, static_struct};
 ghost use Rattle.c_mavlink.specs.Readers.{ReadsMavlink, read_as};
-ghost use Rattle.c_mavlink.specs.Writers.{WritesMavlinkForC};
+ghost use Rattle.c_lent.specs.Steps.{number_in};
+ghost use Rattle.c_mavlink.specs.Writers.{WritesMavlinkForC, WritesMavlinkMessage};
 
-use output_writing::OstrogoszWritten;
+use output_writing::{OstrogoszWritten, Written};
+use refusals::Refusal;
 
 // Whether the fields are in range, of a payload or of a struct: behind the address both have them at the same places.
+#[tactic(auto, unfolding(mavlink_messages::specs::Ranges::static_fits))]
 fn fits(address: u32, octets: &[u8]) -> bool
     requires { 19 ≤ length octets.now }
     ensures { result ≡ static_fits address (text_at octets.now 6) (get_or octets.now 14 0) (get_or octets.now 15 0) (get_or octets.now 16 0) (get_or octets.now 17 0) (get_or octets.now 18 0) }
@@ -40,6 +43,19 @@ fn fill(input: &[u8], message: &mut [u8; 20])
     message[19] = input[9];
 }
 
+#[tactic(auto, unfolding(mavlink_frame::specs::Frame::mavlink_kind))]
+fn read(input: &[u8], header: &mut [u8; 3], message: &mut [u8; 20]) -> Result<(), Refusal>
+    ensures { ReadsMavlink (read_as 201 input.now) header.old message.old (number_in result) header.new message.new }
+{
+    super::frames::tested(mavlink_frame::STATIC, input)?;
+    if !fits(field_layout::little_24(&input[6..25], 0), &input[6..25]) {
+        return Err(Refusal::MavlinkField);
+    }
+    super::frames::put_sender(input, header);
+    fill(input, message);
+    Ok(())
+}
+
 // Reads the message in the frame at the start of input into both structs: 0, or the refusal that is due, and then both are as
 // they were.
 pub fn ostrogosz_mavlink_read_static(
@@ -49,16 +65,7 @@ pub fn ostrogosz_mavlink_read_static(
 ) -> u32
     ensures { ReadsMavlink (read_as 201 input.now) header.old message.old result header.new message.new }
 {
-    let refusal = super::frames::refusal_of(mavlink_frame::STATIC, input);
-    if refusal != 0 {
-        return refusal;
-    }
-    if !fits(field_layout::little_24(&input[6..25], 0), &input[6..25]) {
-        return super::FIELD;
-    }
-    super::frames::put_sender(input, header);
-    fill(input, message);
-    0
+    c_lent::read_number(read(input, header, message))
 }
 
 // Puts the payload into an output, from 6 on: nineteen octets in three words, the integrity over the address's fourth.
@@ -80,24 +87,18 @@ fn put_frame(message: &[u8], header: &[u8], output: &mut [u8])
     mavlink_frame::writer::surround(mavlink_frame::STATIC, super::frames::sender(header), output);
 }
 
-fn write(message: &[u8], header: &[u8], output: &mut [u8]) -> OstrogoszWritten
+fn write(message: &[u8], header: &[u8], output: &mut [u8]) -> Written
     requires { (length message.now ≡ 20) × (length header.now ≡ 3) }
-    ensures { WritesMavlinkForC (Static (held static_struct message.now)) (held header_struct header.now) output.old result output.new }
+    ensures { WritesMavlinkMessage (Static (held static_struct message.now)) (held header_struct header.now) output.old result output.new }
 {
     if !fits(field_layout::little_32(message, 0), message) {
-        return super::frames::field_refused();
+        return Err(Refusal::MavlinkField);
     }
     if output.len() < 27 {
-        return OstrogoszWritten {
-            refusal: c_lent::OUTPUT_LENGTH,
-            length: 0,
-        };
+        return Err(Refusal::OutputLength);
     }
     put_frame(message, header, output);
-    OstrogoszWritten {
-        refusal: 0,
-        length: 27,
-    }
+    Ok(27)
 }
 
 // Writes the frame of the message that a struct holds at the start of output: 25, then 8.
@@ -108,5 +109,5 @@ pub fn ostrogosz_mavlink_write_static(
 ) -> OstrogoszWritten
     ensures { WritesMavlinkForC (Static (held static_struct message.now)) (held header_struct header.now) output.old result output.new }
 {
-    write(message, header, output)
+    OstrogoszWritten::from(write(message, header, output))
 }

@@ -6,15 +6,31 @@ ghost use Rattle.mavlink_messages.specs.Ranges.{traffic_fits};
 ghost use Rattle.c_lent.specs.Structs.{held};
 ghost use Rattle.c_mavlink.specs.Structs.{header_struct, traffic_struct};
 ghost use Rattle.c_mavlink.specs.Readers.{ReadsMavlink, read_as};
-ghost use Rattle.c_mavlink.specs.Writers.{WritesMavlinkForC};
+ghost use Rattle.c_lent.specs.Steps.{number_in};
+ghost use Rattle.c_mavlink.specs.Writers.{WritesMavlinkForC, WritesMavlinkMessage};
 
-use output_writing::OstrogoszWritten;
+use output_writing::{OstrogoszWritten, Written};
+use refusals::Refusal;
 
 // Whether the fields are in range, of a payload or of a struct.
 fn fits(octets: &[u8]) -> bool
     ensures { result ≡ traffic_fits (little16 octets.now 24) }
 {
     mavlink_messages::ranges::traffic_fits(field_layout::little_16(octets, 24))
+}
+
+#[tactic(auto, unfolding(mavlink_frame::specs::Frame::mavlink_kind))]
+fn read(input: &[u8], header: &mut [u8; 3], message: &mut [u8; 40]) -> Result<(), Refusal>
+    ensures { ReadsMavlink (read_as 246 input.now) header.old message.old (number_in result) header.new message.new }
+{
+    super::frames::tested(mavlink_frame::TRAFFIC, input)?;
+    if !fits(&input[6..44]) {
+        return Err(Refusal::MavlinkField);
+    }
+    *message = [0; 40];
+    super::frames::put_sender(input, header);
+    message[..38].copy_from_slice(&input[6..44]);
+    Ok(())
 }
 
 // Reads the message in the frame at the start of input into both structs: 0, or the refusal that is due, and then both are as
@@ -26,25 +42,15 @@ pub fn ostrogosz_mavlink_read_traffic(
 ) -> u32
     ensures { ReadsMavlink (read_as 246 input.now) header.old message.old result header.new message.new }
 {
-    let refusal = super::frames::refusal_of(mavlink_frame::TRAFFIC, input);
-    if refusal != 0 {
-        return refusal;
-    }
-    if !fits(&input[6..44]) {
-        return super::FIELD;
-    }
-    *message = [0; 40];
-    super::frames::put_sender(input, header);
-    field_words::copies::copy(&input[6..44], message, 0);
-    0
+    c_lent::read_number(read(input, header, message))
 }
 
-fn write(message: &[u8], header: &[u8], output: &mut [u8]) -> OstrogoszWritten
+fn write(message: &[u8], header: &[u8], output: &mut [u8]) -> Written
     requires { (length message.now ≡ 40) × (length header.now ≡ 3) }
-    ensures { WritesMavlinkForC (Traffic (held traffic_struct message.now)) (held header_struct header.now) output.old result output.new }
+    ensures { WritesMavlinkMessage (Traffic (held traffic_struct message.now)) (held header_struct header.now) output.old result output.new }
 {
     if !fits(message) {
-        return super::frames::field_refused();
+        return Err(Refusal::MavlinkField);
     }
     super::frames::write(mavlink_frame::TRAFFIC, &message[0..38], header, output)
 }
@@ -57,5 +63,5 @@ pub fn ostrogosz_mavlink_write_traffic(
 ) -> OstrogoszWritten
     ensures { WritesMavlinkForC (Traffic (held traffic_struct message.now)) (held header_struct header.now) output.old result output.new }
 {
-    write(message, header, output)
+    OstrogoszWritten::from(write(message, header, output))
 }

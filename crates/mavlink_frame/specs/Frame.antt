@@ -1,9 +1,7 @@
 -- A MAVLink version 1 frame (document 001, "MAVLink Protocol Frame Format"), and the table of the kinds (document 01, "MAVLink
 -- kinds"). Assumes nothing.
-use Rattle.std.specs.Prelude.{cond, List, [], ◌∷◌, ◌++◌, ℕ, eqb}
+use Rattle.std.specs.Prelude.{cond, List, [], ◌∷◌, ◌++◌, ℕ, eqb, Option, Some, None}
 use Rattle.mavlink_frame.specs.declared.Kind.{Kind}
-use Rattle.mavlink_frame.specs.declared.Lookup.{Lookup}
-use Rattle.mavlink_frame.specs.declared.Lookup.TheVariants.{Known, Unknown}
 use Rattle.crc_x25.specs.Check.{x25_octets}
 use Rattle.mavlink_frame.specs.declared.Header.{Header}
 
@@ -19,9 +17,9 @@ pub data KindAnswer : Type 0 where
   unknown : KindAnswer
 
 -- the same of each case of the code's answer
-abbrev pub kind_answer : Lookup → KindAnswer
-kind_answer (Known k) = known k
-kind_answer Unknown = unknown
+abbrev pub kind_answer : Option Kind → KindAnswer
+kind_answer (Some k) = known k
+kind_answer None = unknown
 
 abbrev pub kind_among : List Kind → ℕ → KindAnswer
 kind_among [] id = unknown

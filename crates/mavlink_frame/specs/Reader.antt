@@ -1,12 +1,13 @@
 -- What stands at the start of an input, by the tests in document 01's order: no octet 20; 21; fewer than six octets 20; 22; 23;
 -- fewer than length + 8 octets 20; 24. Assumes nothing.
-use Rattle.std.specs.Prelude.{cond, List, [], ◌∷◌, ◌++◌, ℕ, ◌+◌, ◌*◌, eqb, ltb, length, get_or, take, drop}
+use Rattle.std.specs.Prelude.{cond, List, [], ◌∷◌, ◌++◌, ℕ, ◌+◌, ◌*◌, eqb, ltb, length, get_or, take, drop, Result, Ok, Err}
 use Rattle.crc_x25.specs.Check.{x25}
 use Rattle.refusals.specs.Numbers as because
+use Rattle.refusals.specs.Refusals.{refusal_number}
+use Rattle.refusals.specs.declared.Refusal.{Refusal}
 use Rattle.mavlink_frame.specs.declared.Kind.{Kind}
 use Rattle.mavlink_frame.specs.declared.Header.{Header}
 use Rattle.mavlink_frame.specs.declared.Found.{Found}
-use Rattle.mavlink_frame.specs.declared.Found.TheVariants.{Frame, Refused}
 use Rattle.mavlink_frame.specs.Frame.{KindAnswer, known, unknown, mavlink_kind, start}
 
 -- an answer in the paper's terms: a refusal's number, or a right frame's message ID, header and number of octets
@@ -15,9 +16,9 @@ pub data FrameAnswer : Type 0 where
   frame : ℕ → Header → ℕ → FrameAnswer
 
 -- the paper's number and values of each case
-abbrev pub found_answer : Found → FrameAnswer
-found_answer (Refused number) = refused number
-found_answer (Frame id h used) = frame id h used
+abbrev pub found_answer : Result Found Refusal → FrameAnswer
+found_answer (Err refusal) = refused (refusal_number refusal)
+found_answer (Ok f) = frame f.id f.header f.used
 
 -- octets 2, 3 and 4
 abbrev pub header_at : List ℕ → Header

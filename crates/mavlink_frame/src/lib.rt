@@ -7,13 +7,14 @@ pub mod writer;
 ghost use Rattle.std.specs.Prelude.{◌≡◌};
 ghost use Rattle.mavlink_frame.specs.Frame.{kind_answer, mavlink_kind};
 
-// What stands at the start of an input. `found_answer` of specs/Reader.antt gives the paper's number and values of each case.
+// A frame with its check right, at the start of an input. Its payload is from 6 on.
 #[derive(Clone, Copy)]
-pub enum Found {
-    // A frame with its check right: its message ID, its header, and how many octets it has. Its payload is from 6 on.
-    Frame(u8, Header, usize),
-    // Refused, by its number: 20 to 24.
-    Refused(u8),
+pub struct Found {
+    // Its message ID.
+    pub id: u8,
+    pub header: Header,
+    // How many octets it has.
+    pub used: usize,
 }
 
 // Octets of the longest frame, that of kind 202.
@@ -25,13 +26,6 @@ pub struct Kind {
     pub id: u8,
     pub length: u8,
     pub extra: u8,
-}
-
-// The kind of a message ID. `kind_answer` of specs/Frame.antt says what each case means.
-#[derive(Clone, Copy)]
-pub enum Lookup {
-    Known(Kind),
-    Unknown,
 }
 
 // What a frame says of its sender: the place in its sequence, its system and its component.
@@ -77,17 +71,8 @@ pub const TRAFFIC: Kind = Kind {
 const KINDS: [Kind; 5] = [DATA_STREAM, STATIC, DYNAMIC, STATUS, TRAFFIC];
 
 // The kind that has a message ID.
-pub fn kind_of(id: u8) -> Lookup
+pub fn kind_of(id: u8) -> Option<Kind>
     ensures { kind_answer result ≡ mavlink_kind id }
 {
-    let kinds = KINDS;
-    let mut i = 0;
-    while i < 5 {
-        let kind = kinds[i];
-        if id == kind.id {
-            return Lookup::Known(kind);
-        }
-        i += 1;
-    }
-    Lookup::Unknown
+    KINDS.iter().find(|kind| id == kind.id).copied()
 }

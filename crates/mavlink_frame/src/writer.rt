@@ -9,60 +9,67 @@ ghost use Rattle.mavlink_frame.specs.Reader.{payload_at};
 ghost use Rattle.mavlink_frame.specs.Writer.{frame_write_due, write_of, frame_of};
 ghost use Rattle.mavlink_frame.specs.Steps.{low_first, closed};
 
-use super::{Header, Kind, Lookup};
+use super::{Header, Kind};
 use output_writing::Written;
+use refusals::Refusal;
+
+// Stays: kind and header are two arguments. A struct of both is no plainer: the table gives one and the caller the other, and each
+// clause would take them apart again for `mavlink_frame`.
 
 // Writes the frame of a payload at the start of output. On a refusal nothing is written.
 pub fn write_frame(id: u8, header: Header, payload: &[u8], output: &mut [u8]) -> Written
     ensures { Writing (frame_write_due id payload.now output.old) (frame_of id header payload.now) output.old result output.new }
 {
-    match super::kind_of(id) {
-        Lookup::Known(kind) => write_kind(kind, header, payload, output),
-        Lookup::Unknown => Written::Refused(refusals::MAVLINK_FIELD),
-    }
+    let kind = super::kind_of(id).ok_or(Refusal::MavlinkField)?;
+    write_kind(kind, header, payload, output)
 }
 
 // The same for the kind that a caller knows.
+#[tactic(auto, unfolding(crate::specs::Writer::write_of))]
 pub fn write_kind(kind: Kind, header: Header, payload: &[u8], output: &mut [u8]) -> Written
     ensures { Writing (write_of kind payload.now output.old) (mavlink_frame kind header payload.now) output.old result output.new }
 {
     let n = payload.len();
     if n != kind.length as usize {
-        return Written::Refused(refusals::MAVLINK_FIELD);
+        return Err(Refusal::MavlinkField);
     }
     if output.len() < n + 8 {
-        return Written::Refused(refusals::OUTPUT_LENGTH);
+        return Err(Refusal::OutputLength);
     }
     fill(kind, header, payload, output);
-    Written::Wrote(n + 8)
+    Ok(n + 8)
 }
 
 // The same for a kind whose payload has one octet.
+// Stays: apart from `write_six`. One function of both lengths is no plainer: it would choose by the length how the payload is put
+// and in how many words the check goes over it, which is all that they do.
+#[tactic(auto, unfolding(crate::specs::Writer::write_of))]
 pub fn write_one(kind: Kind, header: Header, octet: u8, output: &mut [u8]) -> Written
     requires { kind.length ≡ 1 }
     ensures { Writing (write_of kind (octet ∷ []) output.old) (mavlink_frame kind header (octet ∷ [])) output.old result output.new }
 {
     if output.len() < 9 {
-        return Written::Refused(refusals::OUTPUT_LENGTH);
+        return Err(Refusal::OutputLength);
     }
     let check = check_of_one(kind, header, octet);
     output[6] = octet;
     put_around(kind, header, check, output);
-    Written::Wrote(9)
+    Ok(9)
 }
 
 // For one whose payload has six: they are put as one word, whose last two octets the check goes over.
+#[tactic(auto, unfolding(crate::specs::Writer::write_of))]
 pub fn write_six(kind: Kind, header: Header, payload: &[u8], output: &mut [u8]) -> Written
     requires { (kind.length ≡ 6) × (length payload.now ≡ 6) }
     ensures { Writing (write_of kind payload.now output.old) (mavlink_frame kind header payload.now) output.old result output.new }
 {
     if output.len() < 14 {
-        return Written::Refused(refusals::OUTPUT_LENGTH);
+        return Err(Refusal::OutputLength);
     }
     let check = check_of_six(kind, header, payload);
     field_words::put_64(output, 6, six(payload));
     put_around(kind, header, check, output);
-    Written::Wrote(14)
+    Ok(14)
 }
 
 // Six octets and two zeros.
@@ -131,6 +138,7 @@ fn check_of_few(kind: Kind, header: Header, payload: &[u8]) -> u16
 }
 
 // Header, one octet and extra: seven octets in one word.
+// Stays: apart from `check_of_six`, as `write_one` from `write_six`.
 fn check_of_one(kind: Kind, header: Header, octet: u8) -> u16
     ensures { result ≡ x25 (covered kind header (octet ∷ [])) }
 {
@@ -193,6 +201,5 @@ fn put_check(check: u16, at: usize, output: &mut [u8])
     requires { at + 2 ≤ length output.old }
     ensures { output.new ≡ sets output.old at (low_first check) }
 {
-    output[at] = (check % 256) as u8;
-    output[at + 1] = (check / 256) as u8;
+    output[at..at + 2].copy_from_slice(&check.to_le_bytes());
 }

@@ -1,5 +1,5 @@
+pub mod Octets
 pub mod Signed
-mod Parts
 pub mod Written
 pub mod Answers
 pub mod Formats

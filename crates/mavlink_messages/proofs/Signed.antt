@@ -1,23 +1,16 @@
 -- Signed numbers, as a struct holds them. Assumes nothing.
 use mathlib.Core.Path.{◌≡◌, ap, ◌∙◌}
-use mathlib.Core.List.{List, [], ◌∷◌}
 use Prim.Native.Nat.{ℕ, ◌^◌, ◌<◌}
 use lib.IntN.{ℤ}
 use lib.Signed.{mag}
 use mir.Syntax.{Width, w16, w32}
 use mir.Val.{SFits, to_z, of_z, hbits}
 use mir.ValLaws.{to_z-of_z}
-use Rattle.field_layout.specs.Layout.{low, run_octets}
-use Rattle.field_signed.specs.Signed.{signed, complement}
+use Rattle.field_signed.specs.Signed.{signed}
 
 -- put into a struct
 pub taken : (w : Width) (half : ℕ) {a b : ℕ} {z : ℤ} → z ≡ signed half a → SFits w z → a ≡ b → to_z w (of_z w z) ≡ signed half b
 taken w half {z = z} e f q = to_z-of_z w z f ∙ e ∙ ap (signed half) q
-
--- and its octets, where it is taken from one
-pub put : (w : Width) (n half : ℕ) {xs : List ℕ} (z : ℤ) → SFits w z → xs ≡ run_octets (low n) (complement half (to_z w (of_z w z)) ∷ [])
-    → xs ≡ run_octets (low n) (complement half z ∷ [])
-put w n half z f e = e ∙ ap (λ (y : ℤ). run_octets (low n) (complement half y ∷ [])) (to_z-of_z w z f)
 
 -- ---- at the two widths that the messages have
 
@@ -26,11 +19,3 @@ taken_16 e f q = taken w16 32768 e (record { sfits = f }) q
 
 pub taken_32 : {a b : ℕ} {z : ℤ} → z ≡ signed 2147483648 a → mag z < 2 ^ hbits w32 → a ≡ b → to_z w32 (of_z w32 z) ≡ signed 2147483648 b
 taken_32 e f q = taken w32 2147483648 e (record { sfits = f }) q
-
-pub put_16 : {xs : List ℕ} (z : ℤ) → mag z < 2 ^ hbits w16 → xs ≡ run_octets (low 2) (complement 32768 (to_z w16 (of_z w16 z)) ∷ [])
-    → xs ≡ run_octets (low 2) (complement 32768 z ∷ [])
-put_16 z f e = put w16 2 32768 z (record { sfits = f }) e
-
-pub put_32 : {xs : List ℕ} (z : ℤ) → mag z < 2 ^ hbits w32 → xs ≡ run_octets (low 4) (complement 2147483648 (to_z w32 (of_z w32 z)) ∷ [])
-    → xs ≡ run_octets (low 4) (complement 2147483648 z ∷ [])
-put_32 z f e = put w32 4 2147483648 z (record { sfits = f }) e

@@ -1,14 +1,15 @@
--- A writer's two ways: a field is outside its range, or the frame's writer is called. Assumes nothing.
+-- What is due of a writer: what the frame's writer answers for the message's octets, and that some answer says it. Assumes nothing.
 use mathlib.Core.Path.{◌≡◌, refl}
-use mathlib.Core.Bool.{true, false}
+use mathlib.Core.Bool.{Bool, true, false, cond}
+use lib.Dec.{ltb}
+use Rattle.std.proofs.Common.{Ok, Err}
+use Rattle.refusals.specs.declared.Refusal.TheVariants.{MavlinkField, OutputLength}
 use mathlib.Core.List.{List}
 use Prim.Native.Nat.{ℕ, ◌+◌, ◌<◌}
 use borrow.Author.Tests.{ltb-true}
 use lib.ListN.{length}
 use Rattle.field_format.specs.Format.{body_of}
-use Rattle.output_writing.specs.declared.Written.{Written}
-use Rattle.output_writing.specs.declared.Written.TheVariants.{Refused}
-use Rattle.output_writing.specs.Writing.{room_for, Writing}
+use Rattle.output_writing.specs.Writing.{Written, WriterAnswer, refused, wrote, writer_answer, room_for, Writing}
 use Rattle.mavlink_messages.specs.Ranges.{static_fits}
 use Rattle.mavlink_frame.specs.declared.Header.{Header}
 use Rattle.mavlink_frame.specs.Frame.{mavlink_kind}
@@ -19,10 +20,6 @@ use Rattle.mavlink_messages.specs.declared.Message.{Message}
 use Rattle.mavlink_messages.specs.declared.Message.TheVariants.{DataStream, Static, Dynamic, Status, Traffic}
 use Rattle.field_format.proofs.Conjunction.{both}
 use Rattle.mavlink_messages.specs.Messages.{id_of, payload_of, in_range, write_due, message_frame}
-
-pub refused : (m : Message) (h : Header) (output : List ℕ) → in_range m ≡ false
-    → Writing (write_due m output) (message_frame m h) output (Refused 25) output
-refused m h output e = rw e (record { answers = refl; leaves = refl })
 
 -- each kind's octets are as many as the table says
 pub due : (m : Message) (output : List ℕ) → frame-writes.frame_write_due (id_of m) (payload_of m) output ≡ room_for (length (payload_of m) + 8) output
@@ -45,3 +42,16 @@ pub address_fits : {m : Message} {s : static-as.Static} → m ≡ Static s → i
 unfolding static_fits
 address_fits {s = s} g e =
     ltb-true _ _ (both _ _ (both _ _ (both _ _ (both _ _ (both _ _ (both _ _ (rw g at e)).0).0).0).0).0).0
+
+-- what is due of a writer is what some answer says
+pub record Given (due : WriterAnswer) : Type 0 where
+  pub answer : Written
+  pub is : writer_answer answer ≡ due
+
+pub given : (m : Message) (output : List ℕ) → Given (write_due m output)
+given m output = by (in_range m) (ltb (length output) (length (payload_of m) + 8))
+  where
+    by : (fits short : Bool) → Given (cond fits (cond short (refused 8) (wrote (length (payload_of m) + 8))) (refused 25))
+    by true true = record { answer = Err OutputLength; is = refl }
+    by true false = record { answer = Ok (length (payload_of m) + 8); is = refl }
+    by false short = record { answer = Err MavlinkField; is = refl }

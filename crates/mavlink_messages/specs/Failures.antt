@@ -1,8 +1,6 @@
 -- The failures that a status reports (document 001, "Status Message"): how many bits are set, and the lowest. Assumes nothing.
-use Rattle.std.specs.Prelude.{List, [], ◌∷◌, ℕ, length}
+use Rattle.std.specs.Prelude.{List, [], ◌∷◌, ℕ, length, Option, Some, None}
 use Rattle.mavlink_messages.specs.FailureBits.{failure_bits}
-use Rattle.mavlink_messages.specs.declared.Lowest.{Lowest}
-use Rattle.mavlink_messages.specs.declared.Lowest.TheVariants.{Bit, None}
 use Rattle.mavlink_messages.specs.declared.Failures.{Failures}
 
 -- in the paper's terms: the lowest bit that is set, or none
@@ -15,8 +13,8 @@ pub record FailureAnswer : Type 0 where
   pub lowest : LowestAnswer
 
 -- the same of each case of the code's answer
-abbrev pub lowest_answer : Lowest → LowestAnswer
-lowest_answer (Bit b) = bit b
+abbrev pub lowest_answer : Option ℕ → LowestAnswer
+lowest_answer (Some b) = bit b
 lowest_answer None = none
 
 abbrev pub failure_answer : Failures → FailureAnswer

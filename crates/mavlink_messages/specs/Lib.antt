@@ -1,4 +1,3 @@
-pub mod Steps
 pub mod DataStream66
 pub mod Static201
 pub mod Dynamic202

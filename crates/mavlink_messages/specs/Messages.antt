@@ -1,8 +1,10 @@
 -- The five kinds together: what a reader answers, and what a writer answers and leaves (document 01, the table's rows 8 and 20
 -- to 25 and the paragraph below it). Assumes nothing.
-use Rattle.std.specs.Prelude.{Bool, true, false, cond, List, ℕ, ◌+◌, ◌-◌, eqb, length}
+use Rattle.std.specs.Prelude.{Bool, true, false, cond, List, ℕ, ◌+◌, ◌-◌, eqb, length, Result, Ok, Err}
 use Rattle.field_format.specs.Format.{body_of, value_in}
 use Rattle.refusals.specs.Numbers as because
+use Rattle.refusals.specs.Refusals.{refusal_number}
+use Rattle.refusals.specs.declared.Refusal.{Refusal}
 use Rattle.output_writing.specs.Writing as writing-as
 use Rattle.output_writing.specs.Writing.{WriterAnswer, room_for}
 use Rattle.mavlink_frame.specs.declared.Header.{Header}
@@ -12,8 +14,7 @@ use Rattle.mavlink_frame.specs.Reader.{FrameAnswer, frame, payload_at, found}
 use Rattle.mavlink_frame.specs.Writer.{frame_of}
 use Rattle.mavlink_messages.specs.declared.Message.{Message}
 use Rattle.mavlink_messages.specs.declared.Message.TheVariants.{DataStream, Static, Dynamic, Status, Traffic}
-use Rattle.mavlink_messages.specs.declared.Read.{Read}
-use Rattle.mavlink_messages.specs.declared.Read.TheVariants as read_as
+use Rattle.mavlink_messages.specs.declared.Framed.{Framed}
 use Rattle.mavlink_messages.specs.DataStream66.{data_stream_format}
 use Rattle.mavlink_messages.specs.Static201.{static_format}
 use Rattle.mavlink_messages.specs.Dynamic202.{dynamic_format}
@@ -56,10 +57,14 @@ pub data MavlinkAnswer : Type 0 where
   refused : ℕ → MavlinkAnswer
   means : Header → ℕ → Message → FailureAnswer → MavlinkAnswer
 
+-- a reader's answer: the message in its frame, or why it was refused
+abbrev pub MavlinkRead : Type 0
+MavlinkRead = Result Framed Refusal
+
 -- the paper's number and values of each case
-abbrev pub mavlink_answer : Read → MavlinkAnswer
-mavlink_answer (read_as.Refused number) = refused number
-mavlink_answer (read_as.Message h used m f) = means h used m (failure_answer f)
+abbrev pub mavlink_answer : MavlinkRead → MavlinkAnswer
+mavlink_answer (Err refusal) = refused (refusal_number refusal)
+mavlink_answer (Ok f) = means f.header f.used f.message (failure_answer f.failures)
 
 -- ---- reading: 20 to 24 as the frame says, then 25
 abbrev pub judged_by : Bool → Header → ℕ → Message → MavlinkAnswer

@@ -21,13 +21,11 @@ pub fn read(payload: &[u8]) -> DataStream
 pub fn octets(data_stream: DataStream) -> [u8; 6]
     ensures { result ≡ body_of data_stream_format data_stream }
 {
-    let rate = super::numbers::little_16(data_stream.req_message_rate);
-    [
-        rate.0,
-        rate.1,
-        data_stream.target_system,
-        data_stream.target_component,
-        data_stream.req_stream_id,
-        data_stream.start_stop,
-    ]
+    let mut octets = [0; 6];
+    octets[0..2].copy_from_slice(&data_stream.req_message_rate.to_le_bytes());
+    octets[2] = data_stream.target_system;
+    octets[3] = data_stream.target_component;
+    octets[4] = data_stream.req_stream_id;
+    octets[5] = data_stream.start_stop;
+    octets
 }

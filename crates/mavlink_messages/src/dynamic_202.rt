@@ -1,5 +1,5 @@
 // Message 202, the dynamic data of an aircraft.
-ghost use Rattle.std.specs.Prelude.{◌≡◌, length, take, drop};
+ghost use Rattle.std.specs.Prelude.{◌≡◌, length};
 ghost use Rattle.field_format.specs.Format.{body_of, value_in};
 ghost use Rattle.mavlink_messages.specs.Dynamic202.{dynamic_format};
 
@@ -39,80 +39,23 @@ pub fn in_range(dynamic: Dynamic) -> bool
 pub fn octets(dynamic: Dynamic) -> [u8; 42]
     ensures { result ≡ body_of dynamic_format dynamic }
 {
-    let first = first_octets(dynamic);
-    let last = last_octets(dynamic);
     let mut octets = [0; 42];
-    super::numbers::join(&first, &last, &mut octets);
+    octets[0..4].copy_from_slice(&dynamic.utc_time.to_le_bytes());
+    octets[4..8].copy_from_slice(&dynamic.latitude.to_le_bytes());
+    octets[8..12].copy_from_slice(&dynamic.longitude.to_le_bytes());
+    octets[12..16].copy_from_slice(&dynamic.alt_pres.to_le_bytes());
+    octets[16..20].copy_from_slice(&dynamic.alt_gnss.to_le_bytes());
+    octets[20..24].copy_from_slice(&dynamic.acc_horiz.to_le_bytes());
+    octets[24..26].copy_from_slice(&dynamic.acc_vert.to_le_bytes());
+    octets[26..28].copy_from_slice(&dynamic.acc_vel.to_le_bytes());
+    octets[28..30].copy_from_slice(&dynamic.vel_vert.to_le_bytes());
+    octets[30..32].copy_from_slice(&dynamic.ns_vog.to_le_bytes());
+    octets[32..34].copy_from_slice(&dynamic.ew_vog.to_le_bytes());
+    octets[34..36].copy_from_slice(&dynamic.state.to_le_bytes());
+    octets[36..38].copy_from_slice(&dynamic.squawk.to_le_bytes());
+    octets[38] = dynamic.fix_type;
+    octets[39] = dynamic.num_sats;
+    octets[40] = dynamic.em_status;
+    octets[41] = dynamic.control;
     octets
-}
-
-// The numbers of 32 bits, which come first.
-fn first_octets(dynamic: Dynamic) -> [u8; 24]
-    ensures { result ≡ take 24 (body_of dynamic_format dynamic) }
-{
-    let utc = super::numbers::little_32(dynamic.utc_time);
-    let latitude = super::numbers::signed_32(dynamic.latitude);
-    let longitude = super::numbers::signed_32(dynamic.longitude);
-    let pressure = super::numbers::signed_32(dynamic.alt_pres);
-    let gnss = super::numbers::signed_32(dynamic.alt_gnss);
-    let horizontal = super::numbers::little_32(dynamic.acc_horiz);
-    [
-        utc.0,
-        utc.1,
-        utc.2,
-        utc.3,
-        latitude.0,
-        latitude.1,
-        latitude.2,
-        latitude.3,
-        longitude.0,
-        longitude.1,
-        longitude.2,
-        longitude.3,
-        pressure.0,
-        pressure.1,
-        pressure.2,
-        pressure.3,
-        gnss.0,
-        gnss.1,
-        gnss.2,
-        gnss.3,
-        horizontal.0,
-        horizontal.1,
-        horizontal.2,
-        horizontal.3,
-    ]
-}
-
-// The numbers of 16 bits, and the single octets.
-fn last_octets(dynamic: Dynamic) -> [u8; 18]
-    ensures { result ≡ drop 24 (body_of dynamic_format dynamic) }
-{
-    let vertical = super::numbers::little_16(dynamic.acc_vert);
-    let velocity = super::numbers::little_16(dynamic.acc_vel);
-    let climb = super::numbers::signed_16(dynamic.vel_vert);
-    let north = super::numbers::signed_16(dynamic.ns_vog);
-    let east = super::numbers::signed_16(dynamic.ew_vog);
-    let state = super::numbers::little_16(dynamic.state);
-    let squawk = super::numbers::little_16(dynamic.squawk);
-    [
-        vertical.0,
-        vertical.1,
-        velocity.0,
-        velocity.1,
-        climb.0,
-        climb.1,
-        north.0,
-        north.1,
-        east.0,
-        east.1,
-        state.0,
-        state.1,
-        squawk.0,
-        squawk.1,
-        dynamic.fix_type,
-        dynamic.num_sats,
-        dynamic.em_status,
-        dynamic.control,
-    ]
 }

@@ -4,7 +4,6 @@
 mod data_stream_66;
 mod dynamic_202;
 pub mod failure_bits;
-mod numbers;
 pub mod ranges;
 mod static_201;
 mod status_203;
@@ -12,12 +11,13 @@ mod traffic_246;
 
 ghost use Rattle.std.specs.Prelude.{◌≡◌, true, length};
 ghost use Rattle.output_writing.specs.Writing.{Writing};
-ghost use Rattle.mavlink_messages.specs.Failures.{failure_answer, failures_in, no_failures};
+ghost use Rattle.mavlink_messages.specs.Failures.{failure_answer, failures_in};
 ghost use Rattle.mavlink_messages.specs.Messages.{in_range, failures_of, mavlink_answer, judged_by, payload_read, read_due, of_its_kind, write_due, message_frame};
 
 use field_layout::Text;
 use mavlink_frame::{Found, Header};
 use output_writing::Written;
+use refusals::Refusal;
 
 // 66: a request for a data stream.
 #[repr(C)]
@@ -105,28 +105,23 @@ pub enum Message {
     Traffic(Traffic),
 }
 
-// The lowest failure bit that is set, 1 to 4, or none; `lowest_answer` of specs/Failures.antt says the same.
-#[derive(Clone, Copy)]
-pub enum Lowest {
-    Bit(u32),
-    None,
-}
-
-// The failure bits of a status: how many are set, and the lowest.
+// The failure bits of a status, 1 to 4: how many are set, and the lowest.
 #[derive(Clone, Copy)]
 pub struct Failures {
     pub count: u32,
-    pub lowest: Lowest,
+    pub lowest: Option<u32>,
 }
 
-// What stands at the start of an input. `mavlink_answer` of specs/Messages.antt gives the paper's number and values of each case.
+// A message in a right frame, at the start of an input.
 #[derive(Clone, Copy)]
-pub enum Read {
-    // A message in a right frame: the frame's header, how many octets it has, the message, and the failures that it
-    // reports, which are none where it is no status.
-    Message(Header, usize, Message, Failures),
-    // Refused, by its number: 20 to 25.
-    Refused(u8),
+pub struct Framed {
+    // The frame's.
+    pub header: Header,
+    // How many octets the frame has.
+    pub used: usize,
+    pub message: Message,
+    // Those that the message reports, which are none where it is no status.
+    pub failures: Failures,
 }
 
 // ---- ranges and failures
@@ -143,27 +138,14 @@ fn in_range(message: Message) -> bool
     }
 }
 
-// The failure bits of a status, 1 to 4.
+// The failures that a status reports.
+#[tactic(auto, unfolding(crate::specs::Failures::failures_in))]
 fn failures_of(status: u8) -> Failures
     ensures { failure_answer result ≡ failures_in status }
 {
-    let count = failure_bits::count_failures(status);
-    if count == 0 {
-        return no_failures();
-    }
-    let lowest = failure_bits::lowest_failure(status);
     Failures {
-        count,
-        lowest: Lowest::Bit(lowest),
-    }
-}
-
-fn no_failures() -> Failures
-    ensures { failure_answer result ≡ no_failures }
-{
-    Failures {
-        count: 0,
-        lowest: Lowest::None,
+        count: failure_bits::count_failures(status),
+        lowest: failure_bits::lowest_failure(status),
     }
 }
 
@@ -174,7 +156,10 @@ fn message_failures(message: Message) -> Failures
     if let Message::Status(status) = message {
         return failures_of(status.status);
     }
-    no_failures()
+    Failures {
+        count: 0,
+        lowest: None,
+    }
 }
 
 // ---- writing: 25 for a field outside its range, then 8. On a refusal nothing is written.
@@ -183,28 +168,28 @@ pub fn write_message(message: Message, header: Header, output: &mut [u8]) -> Wri
     ensures { Writing (write_due message output.old) (message_frame message header) output.old result output.new }
 {
     if !in_range(message) {
-        return Written::Refused(refusals::MAVLINK_FIELD);
+        return Err(Refusal::MavlinkField);
     }
     match message {
         Message::DataStream(data_stream) => {
             let payload = data_stream_66::octets(data_stream);
-            mavlink_frame::writer::write_frame(66, header, &payload, output)
+            mavlink_frame::writer::write_kind(mavlink_frame::DATA_STREAM, header, &payload, output)
         }
         Message::Static(static_data) => {
             let payload = static_201::octets(static_data);
-            mavlink_frame::writer::write_frame(201, header, &payload, output)
+            mavlink_frame::writer::write_kind(mavlink_frame::STATIC, header, &payload, output)
         }
         Message::Dynamic(dynamic) => {
             let payload = dynamic_202::octets(dynamic);
-            mavlink_frame::writer::write_frame(202, header, &payload, output)
+            mavlink_frame::writer::write_kind(mavlink_frame::DYNAMIC, header, &payload, output)
         }
         Message::Status(status) => {
             let payload = status_203::octets(status);
-            mavlink_frame::writer::write_frame(203, header, &payload, output)
+            mavlink_frame::writer::write_kind(mavlink_frame::STATUS, header, &payload, output)
         }
         Message::Traffic(traffic) => {
             let payload = traffic_246::octets(traffic);
-            mavlink_frame::writer::write_frame(246, header, &payload, output)
+            mavlink_frame::writer::write_kind(mavlink_frame::TRAFFIC, header, &payload, output)
         }
     }
 }
@@ -212,58 +197,60 @@ pub fn write_message(message: Message, header: Header, output: &mut [u8]) -> Wri
 // ---- reading
 
 // Reads the message in the frame at the start of input. Octets behind the frame are left.
-pub fn read_message(input: &[u8]) -> Read
+pub fn read_message(input: &[u8]) -> Result<Framed, Refusal>
     ensures { mavlink_answer result ≡ read_due input.now }
 {
-    match mavlink_frame::reader::read_frame(input) {
-        Found::Frame(id, header, used) => {
-            let end = used - 2;
-            read_payload(id, header, used, &input[6..end])
-        }
-        Found::Refused(number) => Read::Refused(number),
-    }
+    let found = mavlink_frame::reader::read_frame(input)?;
+    let end = found.used - 2;
+    read_payload(found, &input[6..end])
 }
 
 // Reads a payload, which is of the length that its kind has. That the length is tested here once more spares a test for each
 // octet.
-fn read_payload(id: u8, header: Header, used: usize, payload: &[u8]) -> Read
-    requires { of_its_kind id (length payload.now) ≡ true }
-    ensures { mavlink_answer result ≡ payload_read id header used payload.now }
+// Stays: IDs and lengths as numbers. The new form is no plainer: a pattern takes no field of `mavlink_frame::STATIC`, so five tests of
+// two parts each would stand in place of this match.
+#[tactic(auto, unfolding(mavlink_frame::specs::Frame::mavlink_kind))]
+fn read_payload(found: Found, payload: &[u8]) -> Result<Framed, Refusal>
+    requires { of_its_kind found.id (length payload.now) ≡ true }
+    ensures { mavlink_answer result ≡ payload_read found.id found.header found.used payload.now }
 {
-    let n = payload.len();
-    if (id == 66) & (n == 6) {
-        let data_stream = data_stream_66::read(payload);
-        return judge(true, header, used, Message::DataStream(data_stream));
+    match (found.id, payload.len()) {
+        (66, 6) => judge(
+            true,
+            found,
+            Message::DataStream(data_stream_66::read(payload)),
+        ),
+        (201, 19) => {
+            let static_data = static_201::read(payload);
+            let fits = static_201::in_range(static_data);
+            judge(fits, found, Message::Static(static_data))
+        }
+        (202, 42) => {
+            let dynamic = dynamic_202::read(payload);
+            let fits = dynamic_202::in_range(dynamic);
+            judge(fits, found, Message::Dynamic(dynamic))
+        }
+        (203, 1) => judge(true, found, Message::Status(status_203::read(payload))),
+        (246, 38) => {
+            let traffic = traffic_246::read(payload);
+            let fits = traffic_246::in_range(traffic);
+            judge(fits, found, Message::Traffic(traffic))
+        }
+        _ => Err(Refusal::MavlinkUnknownId),
     }
-    if (id == 201) & (n == 19) {
-        let static_data = static_201::read(payload);
-        let fits = static_201::in_range(static_data);
-        return judge(fits, header, used, Message::Static(static_data));
-    }
-    if (id == 202) & (n == 42) {
-        let dynamic = dynamic_202::read(payload);
-        let fits = dynamic_202::in_range(dynamic);
-        return judge(fits, header, used, Message::Dynamic(dynamic));
-    }
-    if (id == 203) & (n == 1) {
-        let status = status_203::read(payload);
-        return judge(true, header, used, Message::Status(status));
-    }
-    if (id == 246) & (n == 38) {
-        let traffic = traffic_246::read(payload);
-        let fits = traffic_246::in_range(traffic);
-        return judge(fits, header, used, Message::Traffic(traffic));
-    }
-    Read::Refused(refusals::MAVLINK_UNKNOWN_ID)
 }
 
 // 25 for a message with a field outside its range. (Each kind's test stands with its reader: it then works on registers.)
-fn judge(fits: bool, header: Header, used: usize, message: Message) -> Read
-    ensures { mavlink_answer result ≡ judged_by fits header used message }
+fn judge(fits: bool, found: Found, message: Message) -> Result<Framed, Refusal>
+    ensures { mavlink_answer result ≡ judged_by fits found.header found.used message }
 {
     if !fits {
-        return Read::Refused(refusals::MAVLINK_FIELD);
+        return Err(Refusal::MavlinkField);
     }
-    let failures = message_failures(message);
-    Read::Message(header, used, message, failures)
+    Ok(Framed {
+        header: found.header,
+        used: found.used,
+        message,
+        failures: message_failures(message),
+    })
 }

@@ -5,6 +5,7 @@ ghost use Rattle.mavlink_messages.specs.Ranges.{static_fits, dynamic_fits, traff
 use field_layout::Text;
 
 // Whether the fields of 201 are in range.
+#[tactic(auto, unfolding(crate::specs::Ranges::static_fits))]
 pub fn static_fits(
     address: u32,
     callsign: Text,
@@ -27,6 +28,7 @@ pub fn static_fits(
 }
 
 // Whether those of 202 are.
+#[tactic(auto, unfolding(crate::specs::Ranges::dynamic_fits))]
 pub fn dynamic_fits(squawk: u16, fix: u8) -> bool
     ensures { result ≡ dynamic_fits squawk fix }
 {
@@ -34,6 +36,7 @@ pub fn dynamic_fits(squawk: u16, fix: u8) -> bool
 }
 
 // Whether those of 246 are.
+#[tactic(auto, unfolding(crate::specs::Ranges::traffic_fits))]
 pub fn traffic_fits(squawk: u16) -> bool
     ensures { result ≡ traffic_fits squawk }
 {

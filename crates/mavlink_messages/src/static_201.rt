@@ -40,28 +40,16 @@ pub fn octets(static_data: Static) -> [u8; 19]
     requires { static_data.icao < 16777216 }
     ensures { result ≡ body_of static_format static_data }
 {
-    let address = super::numbers::little_24(static_data.icao);
-    let stall = super::numbers::little_16(static_data.stall_speed);
-    let text = static_data.callsign;
-    [
-        address.0,
-        address.1,
-        address.2,
-        static_data.integrity,
-        stall.0,
-        stall.1,
-        text.c0,
-        text.c1,
-        text.c2,
-        text.c3,
-        text.c4,
-        text.c5,
-        text.c6,
-        text.c7,
-        static_data.capability,
-        static_data.emitter,
-        static_data.alw_encode,
-        static_data.gps_lat_offs,
-        static_data.gps_lon_offs,
-    ]
+    let address = static_data.icao.to_le_bytes();
+    let mut octets = [0; 19];
+    octets[0..3].copy_from_slice(&address[0..3]);
+    octets[3] = static_data.integrity;
+    octets[4..6].copy_from_slice(&static_data.stall_speed.to_le_bytes());
+    octets[6..14].copy_from_slice(&field_layout::text_octets(static_data.callsign));
+    octets[14] = static_data.capability;
+    octets[15] = static_data.emitter;
+    octets[16] = static_data.alw_encode;
+    octets[17] = static_data.gps_lat_offs;
+    octets[18] = static_data.gps_lon_offs;
+    octets
 }

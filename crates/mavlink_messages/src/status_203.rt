@@ -14,6 +14,7 @@ pub fn read(payload: &[u8]) -> Status
     }
 }
 
+#[tactic(auto, unfolding(field_format::specs::Format::body_of))]
 pub fn octets(status: Status) -> [u8; 1]
     ensures { result ≡ body_of status_format status }
 {

@@ -1,5 +1,5 @@
 // Message 246, a report of traffic.
-ghost use Rattle.std.specs.Prelude.{◌≡◌, length, take, drop};
+ghost use Rattle.std.specs.Prelude.{◌≡◌, length};
 ghost use Rattle.field_format.specs.Format.{body_of, value_in};
 ghost use Rattle.mavlink_messages.specs.Traffic246.{traffic_format};
 
@@ -36,73 +36,20 @@ pub fn in_range(traffic: Traffic) -> bool
 pub fn octets(traffic: Traffic) -> [u8; 38]
     ensures { result ≡ body_of traffic_format traffic }
 {
-    let first = first_octets(traffic);
-    let last = last_octets(traffic);
     let mut octets = [0; 38];
-    super::numbers::join(&first, &last, &mut octets);
+    octets[0..4].copy_from_slice(&traffic.icao_address.to_le_bytes());
+    octets[4..8].copy_from_slice(&traffic.lat.to_le_bytes());
+    octets[8..12].copy_from_slice(&traffic.lon.to_le_bytes());
+    octets[12..16].copy_from_slice(&traffic.altitude.to_le_bytes());
+    octets[16..18].copy_from_slice(&traffic.heading.to_le_bytes());
+    octets[18..20].copy_from_slice(&traffic.hor_velocity.to_le_bytes());
+    octets[20..22].copy_from_slice(&traffic.ver_velocity.to_le_bytes());
+    octets[22..24].copy_from_slice(&traffic.valid_flags.to_le_bytes());
+    octets[24..26].copy_from_slice(&traffic.squawk.to_le_bytes());
+    octets[26] = traffic.altitude_type;
+    octets[27..35].copy_from_slice(&field_layout::text_octets(traffic.callsign));
+    octets[35] = traffic.callsign_ninth;
+    octets[36] = traffic.emitter_type;
+    octets[37] = traffic.tslc;
     octets
-}
-
-// The numbers of 32 bits, which come first.
-fn first_octets(traffic: Traffic) -> [u8; 16]
-    ensures { result ≡ take 16 (body_of traffic_format traffic) }
-{
-    let address = super::numbers::little_32(traffic.icao_address);
-    let latitude = super::numbers::signed_32(traffic.lat);
-    let longitude = super::numbers::signed_32(traffic.lon);
-    let altitude = super::numbers::signed_32(traffic.altitude);
-    [
-        address.0,
-        address.1,
-        address.2,
-        address.3,
-        latitude.0,
-        latitude.1,
-        latitude.2,
-        latitude.3,
-        longitude.0,
-        longitude.1,
-        longitude.2,
-        longitude.3,
-        altitude.0,
-        altitude.1,
-        altitude.2,
-        altitude.3,
-    ]
-}
-
-// The numbers of 16 bits, and the single octets.
-fn last_octets(traffic: Traffic) -> [u8; 22]
-    ensures { result ≡ drop 16 (body_of traffic_format traffic) }
-{
-    let heading = super::numbers::little_16(traffic.heading);
-    let speed = super::numbers::little_16(traffic.hor_velocity);
-    let climb = super::numbers::signed_16(traffic.ver_velocity);
-    let valid = super::numbers::little_16(traffic.valid_flags);
-    let squawk = super::numbers::little_16(traffic.squawk);
-    let text = traffic.callsign;
-    [
-        heading.0,
-        heading.1,
-        speed.0,
-        speed.1,
-        climb.0,
-        climb.1,
-        valid.0,
-        valid.1,
-        squawk.0,
-        squawk.1,
-        traffic.altitude_type,
-        text.c0,
-        text.c1,
-        text.c2,
-        text.c3,
-        text.c4,
-        text.c5,
-        text.c6,
-        text.c7,
-        traffic.callsign_ninth,
-        traffic.emitter_type,
-        traffic.tslc,
-    ]
 }

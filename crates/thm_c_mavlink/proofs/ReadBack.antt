@@ -1,25 +1,24 @@
 -- A MAVLink message that a call for C wrote reads back equal, proved once for every kind. Assumes nothing.
-use mathlib.Core.Path.{◌≡◌, refl, sym, ap, ◌∙◌, subst}
+use mathlib.Core.Path.{◌≡◌, refl, sym, ap, ◌∙◌}
 use mathlib.Core.Bool.{Bool, true, false, cond}
-use mathlib.Core.List.{List, [], ◌∷◌}
-use Prim.Native.Nat.{ℕ, ◌+◌, ◌<◌}
+use mathlib.Core.List.{List}
+use Prim.Native.Nat.{ℕ, ◌+◌}
 use native.Mathlib.Omega.{arith}
 use lib.Dec.{ltb}
 use lib.ListN.{length}
-use Rattle.crc_polynomial.specs.Polynomial.{Octets}
 use Rattle.field_format.specs.Format.{Row, made}
 use Rattle.output_writing.specs.declared.OstrogoszWritten.{OstrogoszWritten}
-use Rattle.output_writing.specs.declared.Written.TheVariants.{Wrote}
+use Rattle.std.proofs.Common.{Ok}
 use Rattle.output_writing.specs.Writing.{WriterAnswer, refused, wrote, output_after, Writing, written_numbers}
 use Rattle.mavlink_frame.specs.declared.Header.{Header}
 use Rattle.mavlink_messages.specs.declared.Message.{Message}
 use Rattle.mavlink_messages.specs.declared.Message.TheVariants.{DataStream, Static, Dynamic, Status, Traffic}
 use Rattle.mavlink_messages.specs.Messages as read_messages
 use Rattle.mavlink_messages.specs.Messages.{MavlinkAnswer, id_of, in_range, payload_of, failures_of, write_due, message_frame}
-use Rattle.c_lent.specs.Structs.{Struct, RightStruct, struct_columns, struct_row_of, struct_size, stored, held, TypedIn}
+use Rattle.c_lent.specs.Structs.{Struct, RightStruct, struct_columns, struct_row_of, stored, held, TypedIn}
 use Rattle.c_lent.proofs.Structs.{held_stored, held_typed}
 use Rattle.c_mavlink.specs.Structs.{header_struct, data_stream_struct, static_struct, dynamic_struct, status_struct, traffic_struct, message_stored}
-use Rattle.c_mavlink.specs.Readers.{read_number, header_left, message_left, ReadsMavlink, read_as}
+use Rattle.c_mavlink.specs.Readers.{read_number, header_left, message_left, read_as}
 use Rattle.c_mavlink.specs.Writers.{WritesMavlinkForC}
 use Rattle.c_mavlink.proofs.Agree.{header_right}
 use Rattle.c_mavlink.proofs.OneKind.{one_kind}
@@ -30,7 +29,7 @@ use Rattle.thm_c_mavlink.specs.RoundTrips.{MavlinkStructReadsBack, LentMavlinkRe
 -- ---- an accepted call: the fields are in range, and the frame is there
 record Left (m : Message) (h : Header) (output : List ℕ) (w : OstrogoszWritten) (after : List ℕ) : Type 0 where
   ranges : in_range m ≡ true
-  written : Writing (write_due m output) (message_frame m h) output (Wrote w.length) after
+  written : Writing (write_due m output) (message_frame m h) output (Ok w.length) after
 
 accepted : (m : Message) (h : Header) (output : List ℕ) (w : OstrogoszWritten) (after : List ℕ) → WritesMavlinkForC m h output w after
     → w.refusal ≡ 0 → Left m h output w after

@@ -1,17 +1,14 @@
 -- A MAVLink message that a call for C read writes back to the same octets, proved once for every kind. Assumes nothing.
-use mathlib.Core.Path.{◌≡◌, refl, sym, ap, ap₂, ◌∙◌, subst}
+use mathlib.Core.Path.{◌≡◌, refl, sym, ap, ◌∙◌, subst}
 use mathlib.Core.Bool.{Bool, true, false}
-use mathlib.Core.List.{List, [], ◌∷◌, ◌++◌}
+use mathlib.Core.List.{List}
 use Prim.Native.Nat.{ℕ, zero, suc, ◌≤◌, ◌<◌}
 use native.Mathlib.Omega.{arith}
 use borrow.Author.Tests.{eqb-true, eqb-false}
 use lib.Dec.{eqb}
-use lib.ListN.{length, get_or, take, drop}
+use lib.ListN.{length, get_or}
 use Rattle.crc_polynomial.specs.Polynomial.{Octets}
-use Rattle.output_writing.specs.declared.OstrogoszWritten.{OstrogoszWritten}
-use Rattle.output_writing.specs.declared.Written.{Written}
-use Rattle.output_writing.specs.declared.Written.TheVariants.{Wrote, Refused}
-use Rattle.output_writing.specs.Writing.{WriterAnswer, refused, wrote, writer_answer, output_after, Writing, written_numbers}
+use Rattle.output_writing.specs.Writing.{WriterAnswer, wrote, writer_answer, output_after, written_numbers}
 use Rattle.mavlink_frame.specs.declared.Header.{Header}
 use Rattle.mavlink_frame.specs.Reader.{header_at, found}
 use Rattle.mavlink_messages.specs.declared.Message.{Message}
@@ -19,12 +16,11 @@ use Rattle.mavlink_messages.specs.declared.Message.TheVariants.{DataStream, Stat
 use Rattle.mavlink_messages.specs.Failures.{FailureAnswer}
 use Rattle.mavlink_messages.specs.Messages as read_messages
 use Rattle.mavlink_messages.specs.Messages.{MavlinkAnswer, id_of, in_range, read_due, write_due, message_frame}
-use Rattle.mavlink_messages.specs.Refusals.{HasHeader}
-use Rattle.mavlink_messages.proofs.Written.{address_fits}
-use Rattle.c_lent.specs.Structs.{Struct, stored, held, TypedIn}
+use Rattle.mavlink_messages.proofs.Written.{address_fits, Given, given}
+use Rattle.c_lent.specs.Structs.{Struct, held, TypedIn}
 use Rattle.c_lent.proofs.Structs.{held_stored}
 use Rattle.c_mavlink.specs.Structs.{header_struct, data_stream_struct, static_struct, dynamic_struct, status_struct, traffic_struct, message_stored}
-use Rattle.c_mavlink.specs.Readers.{is_other, found_as, read_number, header_left, message_left, ReadsMavlink, read_as}
+use Rattle.c_mavlink.specs.Readers.{is_other, found_as, read_number, header_left, message_left, read_as}
 use Rattle.c_mavlink.specs.Ids.{refusal_before_check, id_numbers, mavlink_id_due}
 use Rattle.c_mavlink.specs.Writers.{WritesMavlinkForC}
 use Rattle.c_mavlink.proofs.Agree.{header_held_stored}
@@ -73,16 +69,6 @@ module _ (id : ℕ) (s : List ℕ) (o : Octets s) (none : read_number (read_as i
       go true e = absurd (not_22 (rw e))
       go false e = by_answer (rw e) (read_due s) refl
 
--- ---- a writer's answer as the writer of every kind gives it
-as_written : WriterAnswer → Written
-as_written (refused number) = Refused number
-as_written (wrote octets) = Wrote octets
-
-as_written_lem : (a : WriterAnswer) → writer_answer (as_written a) ≡ a
-unfolding as_written
-as_written_lem (refused number) = refl
-as_written_lem (wrote octets) = refl
-
 -- ---- a kind and its struct
 record Is {A : Type 0} (kind : A → Message) (m : Message) : Type 0 where
   value : A
@@ -114,12 +100,13 @@ struct_writes_back {A} id s kind ok input header_before message_before header me
     subst (λ (m : Message). WritesMavlinkForC m h output w after) (ap kind message-is ∙ sym i.is)
     (subst (λ (j : Header). WritesMavlinkForC (kind (held s message)) j output w after) header_is call) in
     let due : WriterAnswer = write_due k.message output in
+    let g : Given due = given k.message output in
     let used_is : (mavlink_id_due input).used ≡ k.used =
     ap (λ n. n.used) (one_kind.named input h k.used k.message k.failures k.whole).1 in
-    let b = accepted_writes_back input h k.used k.message k.failures o k.whole output after (as_written due)
+    let b = accepted_writes_back input h k.used k.message k.failures o k.whole output after g.answer
     (subst (λ (n : ℕ). n ≤ length output) used_is room)
-    (record { answers = as_written_lem due; leaves = again.leaves ∙ ap (output_after (message_frame k.message h) output) (sym (as_written_lem due)) }) in
-    let due-is : due ≡ wrote k.used = sym (as_written_lem due) ∙ ap writer_answer b.0 in
+    (record { answers = g.is; leaves = again.leaves ∙ ap (output_after (message_frame k.message h) output) (sym g.is) }) in
+    let due-is : due ≡ wrote k.used = sym g.is ∙ ap writer_answer b.0 in
     rw used_is (again.answers ∙ ap written_numbers due-is, b.1)
 
 -- ---- the kinds

@@ -9,8 +9,6 @@ use Rattle.mavlink_messages.specs.Ranges.{static_fits, dynamic_fits}
 use Rattle.mavlink_frame.specs.Frame.{mavlink_kind, mavlink_frame}
 use Rattle.mavlink_frame.specs.Reader.{found_of, found}
 use Rattle.field_signed.specs.Signed.{signed}
-use Rattle.mavlink_messages.specs.Static201.{static_format}
-use Rattle.mavlink_messages.specs.Dynamic202.{dynamic_format}
 use Rattle.thm_mavlink_messages.specs.Examples.{PacketExamples}
 
 pub examples : PacketExamples

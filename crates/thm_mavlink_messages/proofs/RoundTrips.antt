@@ -10,9 +10,8 @@ use lib.ListN.{length, take, drop}
 use lib.Seq.{take_at, get_or-drop}
 use Rattle.field_format.specs.Format.{body_of, value_in}
 use Rattle.crc_polynomial.specs.Polynomial.{Octets}
-use Rattle.output_writing.specs.declared.Written.{Written}
-use Rattle.output_writing.specs.declared.Written.TheVariants.{Wrote, Refused}
-use Rattle.output_writing.specs.Writing.{refused, wrote, writer_answer, room_for, output_after, Writing}
+use Rattle.std.proofs.Common.{Ok, Err}
+use Rattle.output_writing.specs.Writing.{Written, refused, wrote, writer_answer, room_for, output_after, Writing}
 use Rattle.mavlink_frame.specs.declared.Kind.{Kind}
 use Rattle.mavlink_frame.specs.declared.Header.{Header}
 use Rattle.mavlink_frame.specs.Frame as kinds-as
@@ -167,9 +166,9 @@ take_octets (suc n) (x ∷ xs) o (suc i) = take_octets n xs (λ j. o (suc j)) i
 drop_octets : (n : ℕ) (xs : List ℕ) → Octets xs → Octets (drop n xs)
 drop_octets n xs o i = rw get_or-drop (o (n + i))
 
-is_wrote : (r : Written) (n : ℕ) → writer_answer r ≡ wrote n → r ≡ Wrote n
-is_wrote (Wrote k) n e = let same : k ≡ n = cc in ap Wrote same
-is_wrote (Refused k) n e = let z : ◌≡◌ {A = ℕ} 0 1 = cc in absurd (omega arith)
+is_wrote : (r : Written) (n : ℕ) → writer_answer r ≡ wrote n → r ≡ Ok n
+is_wrote (Ok k) n e = let same : k ≡ n = cc in ap Ok same
+is_wrote (Err refusal) n e = let z : ◌≡◌ {A = ℕ} 0 1 = cc in absurd (omega arith)
 
 module _ (s : List ℕ) (h : Header) (used : ℕ) (m : Message) (f : FailureAnswer) (o : Octets s)
     (id : ℕ) (h₀ : Header) (used₀ : ℕ) (a : Accepted s id h₀ used₀)
@@ -210,7 +209,7 @@ module _ (s : List ℕ) (h : Header) (used : ℕ) (m : Message) (f : FailureAnsw
 
   written_again : (output after : List ℕ) (r : Written) → used ≤ length output
       → Writing (write_due m output) (message_frame m h) output r after
-      → (r ≡ Wrote used) × (after ≡ take used s ++ drop used output)
+      → (r ≡ Ok used) × (after ≡ take used s ++ drop used output)
   written_again output after r room w =
       let u = used_is in
       let enough : length (payload_of m) + 8 ≤ length output = omega arith in
@@ -228,7 +227,7 @@ accepted_writes_back s h used m f o e = go (found s) refl e
     go : (l : FrameAnswer) → found s ≡ l → read_by l s ≡ read_as.means h used m f
         → (output after : List ℕ) (r : Written) → used ≤ length output
         → Writing (write_due m output) (message_frame m h) output r after
-        → (r ≡ Wrote used) × (after ≡ take used s ++ drop used output)
+        → (r ≡ Ok used) × (after ≡ take used s ++ drop used output)
     go (found_as.refused number) q d = let z : ◌≡◌ {A = ℕ} 0 1 = cc in absurd (omega arith)
     go (found_as.frame id h₀ used₀) q d = written_again s h used m f o id h₀ used₀ (accepted s id h₀ used₀ q) d
 

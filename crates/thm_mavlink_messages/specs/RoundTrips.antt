@@ -1,10 +1,8 @@
 -- Both round trips, of the definitions that the contracts of the reader and the writers cite. Assumes nothing.
-use Rattle.std.specs.Prelude.{◌≡◌, List, ◌++◌, ℕ, ◌≤◌, length, take, drop}
+use Rattle.std.specs.Prelude.{◌≡◌, List, ◌++◌, ℕ, ◌≤◌, length, take, drop, Ok}
 use Rattle.crc_polynomial.specs.Polynomial.{Octets}
 use Rattle.field_format.specs.Format.{TypedAs}
-use Rattle.output_writing.specs.declared.Written.{Written}
-use Rattle.output_writing.specs.declared.Written.TheVariants.{Wrote}
-use Rattle.output_writing.specs.Writing.{Writing}
+use Rattle.output_writing.specs.Writing.{Written, Writing}
 use Rattle.mavlink_frame.specs.declared.Header.{Header}
 use Rattle.mavlink_messages.specs.Failures.{FailureAnswer}
 use Rattle.mavlink_messages.specs.declared.Message.{Message}
@@ -34,7 +32,7 @@ MavlinkReadIsTyped =
 abbrev pub MavlinkReadsBack : Type 0
 MavlinkReadsBack =
     (m : Message) (h : Header) (output after : List ℕ) (n : ℕ) → MavlinkTyped m
-    → Writing (write_due m output) (message_frame m h) output (Wrote n) after
+    → Writing (write_due m output) (message_frame m h) output (Ok n) after
     → read_due after ≡ read_as.means h n m (failures_of m)
 
 -- ---- an accepted frame writes back to the same octets, wherever there is room for them
@@ -43,4 +41,4 @@ MavlinkWritesBack =
     (s : List ℕ) (h : Header) (used : ℕ) (m : Message) (f : FailureAnswer) → Octets s → read_due s ≡ read_as.means h used m f
     → (output after : List ℕ) (r : Written) → used ≤ length output
     → Writing (write_due m output) (message_frame m h) output r after
-    → (r ≡ Wrote used) × (after ≡ take used s ++ drop used output)
+    → (r ≡ Ok used) × (after ≡ take used s ++ drop used output)

@@ -22,6 +22,7 @@ fn static_typed(static_data: Static)
     ensures { TypedAs static_format static_data }
 {}
 
+#[tactic(auto, unfolding(field_signed::specs::Signed::holds))]
 fn dynamic_typed(dynamic: Dynamic)
     ensures { TypedAs dynamic_format dynamic }
 {}
@@ -30,6 +31,7 @@ fn status_typed(status: Status)
     ensures { TypedAs status_format status }
 {}
 
+#[tactic(auto, unfolding(field_signed::specs::Signed::holds))]
 fn traffic_typed(traffic: Traffic)
     ensures { TypedAs traffic_format traffic }
 {}

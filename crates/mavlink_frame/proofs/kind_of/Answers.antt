@@ -1,27 +1,24 @@
--- `mavlink_frame::kind_of` meets its contract: from each place on, the search answers as from the start. Assumes nothing.
-use mathlib.Core.Path.{refl, sym, ap, ◌∙◌}
-use Prim.Native.Nat.{◌-◌}
-use borrow.Author.Rules.{rules}
-use lib.ListN.{drop_of_length-le}
-use Rattle.mavlink_frame.specs.Frame.{kinds, kind_among, mavlink_kind}
-use Rattle.mavlink_frame.proofs.Search.{here, past}
+-- `mavlink_frame::kind_of` meets its contract: the first row that has the ID is the table's kind. Assumes nothing.
+use Rattle.std.proofs.Common.{◌≡◌, Some, Bool, true, false, cond, List, [], ◌∷◌, ℕ, eqb, refl, ap, ◌∙◌, rules, tests}
+use Rattle.std.specs.List.{find}
+use Rattle.std.proofs.lemmas.Iterator.{YieldsList-from_slice}
+use Rattle.std.proofs.lemmas.Iterator.Search.{find_from_yields_List}
+use Rattle.mavlink_frame.specs.declared.Kind.{Kind}
+use Rattle.mavlink_frame.specs.Frame.{known, kind_answer, kind_among, kinds, mavlink_kind}
 use Rattle.mavlink_frame.proofs.kind_of.Goals as goal
 
-pub loop-i-init : goal.loop-i-init
-unfolding mavlink_kind
-loop-i-init c = (search rules, refl)
-
-pub returns-then-id-kind : goal.returns-then-id-kind
-returns-then-id-kind c =
-    let l = c.loop-i in
-    sym (here kinds l.i _ _ c.loop-i-test.true c.if-id-kind.true) ∙ l.invariant.1
-
-pub loop-i-preserved : goal.loop-i-preserved
-loop-i-preserved c =
-    let l = c.loop-i in
-    (search rules, sym (past kinds l.i _ _ c.loop-i-test.true c.if-id-kind.false) ∙ l.invariant.1)
+-- what is found among rows
+among : (ks : List Kind) (id : ℕ) → kind_answer (find (λ k. eqb id k.id) ks) ≡ kind_among ks id
+among [] id = refl
+among (k ∷ ks) id = by (eqb id k.id) (among ks id)
+  where
+    by : (t : Bool) → kind_answer (find (λ k. eqb id k.id) ks) ≡ kind_among ks id
+        → kind_answer (cond t (Some k) (find (λ k. eqb id k.id) ks)) ≡ cond t (known k) (kind_among ks id)
+    by true later = refl
+    by false later = later
 
 pub returns : goal.returns
+unfolding mavlink_kind
 returns c =
-    let l = c.loop-i in
-    ap (λ ks. kind_among ks c.args.id) (sym (drop_of_length-le kinds c.loop-i-test.false)) ∙ l.invariant.1
+    ap kind_answer (c.copied.ensures ∙ find_from_yields_List (λ k. eqb c.args.id k.id) _ _ _ c.find.ensures.ran (YieldsList-from_slice kinds cc) (λ x b q k. search (rules, tests)))
+    ∙ among kinds c.args.id

@@ -1,29 +1,24 @@
--- `mavlink_messages::read_message` meets its contract, by what the frame's reader finds. Assumes nothing.
-use mathlib.Core.Path.{sym, ap, ◌∙◌}
-use native.Mathlib.Omega.{arith}
+-- `mavlink_messages::read_message` meets its contract: a frame that is found ends within the input, and its payload is of its kind.
+-- Assumes nothing.
+use Rattle.std.proofs.Common.{sym, ap, ◌∙◌, arith}
 use Rattle.mavlink_frame.specs.Reader.{found_answer}
-use Rattle.mavlink_messages.specs.Messages.{read_by}
 use Rattle.mavlink_messages.proofs.Answers.{payload-ends, payload-of-its-kind, payload-read}
 use Rattle.mavlink_messages.proofs.read_message.Goals as goal
 
 pub overflow_sub-end : goal.overflow_sub-end
-overflow_sub-end c = omega (arith, payload-ends c.args.input.now _ _ _ (sym c.read_frame.ensures ∙ ap found_answer c.in-Frame.is))
+overflow_sub-end c = omega (arith, payload-ends c.args.input.now _ _ _ (sym c.read_frame.ensures ∙ ap found_answer c.in_ok-found.was))
 
 pub slice_bounds-read_payload-count : goal.slice_bounds-read_payload-count
-slice_bounds-read_payload-count c = omega (arith, payload-ends c.args.input.now _ _ _ (sym c.read_frame.ensures ∙ ap found_answer c.in-Frame.is))
+slice_bounds-read_payload-count c = omega (arith, payload-ends c.args.input.now _ _ _ (sym c.read_frame.ensures ∙ ap found_answer c.in_ok-found.was))
 
 pub slice_bounds-read_payload-start : goal.slice_bounds-read_payload-start
-slice_bounds-read_payload-start c = omega (arith, payload-ends c.args.input.now _ _ _ (sym c.read_frame.ensures ∙ ap found_answer c.in-Frame.is))
+slice_bounds-read_payload-start c = omega (arith, payload-ends c.args.input.now _ _ _ (sym c.read_frame.ensures ∙ ap found_answer c.in_ok-found.was))
 
 pub slice_bounds-read_payload-end : goal.slice_bounds-read_payload-end
-slice_bounds-read_payload-end c = omega (arith, payload-ends c.args.input.now _ _ _ (sym c.read_frame.ensures ∙ ap found_answer c.in-Frame.is))
+slice_bounds-read_payload-end c = omega (arith, payload-ends c.args.input.now _ _ _ (sym c.read_frame.ensures ∙ ap found_answer c.in_ok-found.was))
 
 pub read_payload-requires : goal.read_payload-requires
-read_payload-requires c = payload-of-its-kind c.args.input.now _ _ _ (sym c.read_frame.ensures ∙ ap found_answer c.in-Frame.is)
+read_payload-requires c = payload-of-its-kind c.args.input.now _ _ _ (sym c.read_frame.ensures ∙ ap found_answer c.in_ok-found.was)
 
-pub returns-in-Frame : goal.returns-in-Frame
-returns-in-Frame c = c.read_payload.ensures ∙ payload-read c.args.input.now _ _ _ (sym c.read_frame.ensures ∙ ap found_answer c.in-Frame.is)
-
-pub returns-in-Refused : goal.returns-in-Refused
-returns-in-Refused c =
-    ap (λ f. read_by f c.args.input.now) (sym (ap found_answer c.in-Refused.is) ∙ c.read_frame.ensures)
+pub returns : goal.returns
+returns c = c.read_payload.ensures ∙ payload-read c.args.input.now _ _ _ (sym c.read_frame.ensures ∙ ap found_answer c.in_ok-found.was)

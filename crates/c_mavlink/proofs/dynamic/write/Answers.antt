@@ -1,25 +1,26 @@
 -- `c_mavlink::dynamic::write` meets its contract, by its two ways. Assumes nothing.
-use mathlib.Core.Bool.{not}
-use mathlib.Core.Path.{◌∙◌, ap}
+use Rattle.std.proofs.Common.{refl, sym, ◌∙◌}
 use Rattle.mavlink_frame.specs.Frame.{mavlink_kind}
 use Rattle.mavlink_messages.specs.declared.Message.TheVariants.{Dynamic}
-use Rattle.c_lent.proofs.Writers.{fitting, not_fitting}
+use Rattle.mavlink_messages.proofs.Written.{written}
 use Rattle.c_lent.specs.Structs.{held}
 use Rattle.c_mavlink.specs.Structs.{header_struct, dynamic_struct}
 use Rattle.c_mavlink.proofs.Structs.{dynamic_lies, payload_held}
 use Rattle.c_mavlink.proofs.Ranges.{dynamic_held}
-use Rattle.c_mavlink.proofs.Writers.{refused, written}
+use Rattle.c_mavlink.proofs.Writers.{refused}
 use Rattle.c_mavlink.proofs.dynamic.write.Goals as goal
 
 pub returns-then-not-fits : goal.returns-then-not-fits
 returns-then-not-fits c =
-    refused (Dynamic (held dynamic_struct c.args.message.now)) (held header_struct c.args.header.now) c.args.output.now
-    (not_fitting (c.fits.ensures ∙ dynamic_held c.args.message.now c.requires.0) (ap not c.if-not-fits.true)) c.field_refused.ensures
+    let a = c.args in
+    refused (Dynamic (held dynamic_struct a.message.now)) (held header_struct a.header.now) a.output.now
+    (sym (dynamic_held a.message.now c.requires.0) ∙ sym c.fits.ensures ∙ c.if-not-fits.true)
 
 pub returns : goal.returns
 unfolding mavlink_kind
 returns c =
-    written (Dynamic (held dynamic_struct c.args.message.now)) (held header_struct c.args.header.now) c.args.output.now
-    (fitting (c.fits.ensures ∙ dynamic_held c.args.message.now c.requires.0) (ap not c.if-not-fits.false))
-    (payload_held dynamic_lies c.args.message.now (λ i. (c.shared_slice_known-1.given i).fits) c.requires.0)
+    let a = c.args in
+    written {m = Dynamic (held dynamic_struct a.message.now)} (held header_struct a.header.now) refl
+    (sym (dynamic_held a.message.now c.requires.0) ∙ sym c.fits.ensures ∙ c.if-not-fits.false)
+    (payload_held dynamic_lies a.message.now (λ i. (c.type_inv.message i).fits) c.requires.0)
     c.write.ensures

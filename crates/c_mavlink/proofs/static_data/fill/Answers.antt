@@ -14,5 +14,5 @@ returns c =
     let input = c.args.input.now in
     let integrity = sym (get_or-drop 6 input 3 0) ∙ sym (get_or-take 19 (drop 6 input) 3 0 (omega arith)) in
     ap (λ (n : ℕ). set (set c.copy.new.output 3 0) 19 n) integrity
-    ∙ static_stored (payload_at 19 input) (part_octets 19 6 input (omega (arith, c.requires)) (λ i. (c.shared_slice_known-1.given i).fits)) (payload_length 19 input c.requires)
+    ∙ static_stored (payload_at 19 input) (part_octets 19 6 input (omega (arith, c.requires)) (λ i. (c.type_inv.input i).fits)) (payload_length 19 input c.requires)
     c.copy.ensures

@@ -1,19 +1,14 @@
 -- `mavlink_frame::writer::write_six` meets its contract, by its two answers. Assumes nothing.
-use mathlib.Core.Path.{refl, sym, ap, ◌∙◌}
+use mathlib.Core.Path.{sym, ap, ◌∙◌}
 use mathlib.Core.List.{[], ◌∷◌}
 use Prim.Native.Nat.{◌+◌, ◌≤◌}
 use native.Mathlib.Omega.{arith}
-use borrow.Author.Tests.{eq-eqb, lt-ltb, le-ltb}
+use borrow.Author.Tests.{eq-eqb, le-ltb}
 use lib.ListN.{length}
 use lib.Seq.{sets}
 use Rattle.mavlink_frame.specs.Writer.{write_of}
 use Rattle.mavlink_frame.proofs.writer.Put.{framed}
 use Rattle.mavlink_frame.proofs.writer.write_six.Goals as goal
-
-pub returns-then-output-lt14 : goal.returns-then-output-lt14
-unfolding write_of
-returns-then-output-lt14 c =
-    record { answers = rw (c.requires.1, eq-eqb _ _ (sym c.requires.0), lt-ltb _ _ c.if-output-lt14.true); leaves = refl }
 
 pub returns : goal.returns
 unfolding write_of

@@ -1,20 +1,15 @@
--- `mavlink_messages::static_201::octets` meets its contract, run by run. Assumes nothing.
-use mathlib.Core.List.{[], ◌∷◌, ◌++◌}
+-- `mavlink_messages::static_201::octets` meets its contract: each number's octets are its run. Assumes nothing.
+use Rattle.std.proofs.Common.{◌≡◌, arith, ap, ◌∙◌, [], ◌∷◌, take}
+use Rattle.field_layout.specs.Layout.{low, run_octets, text_octets}
 use Rattle.field_format.specs.Format.{body_of}
-use Rattle.field_layout.specs.Layout.{text_octets}
+use Rattle.mavlink_messages.proofs.Octets.{low_2, low_3}
 use Rattle.mavlink_messages.proofs.static_201.octets.Goals as goal
 
 pub returns : goal.returns
 unfolding body_of
 returns c =
     let v = c.args.static_data in
-    λ i. (c.little_24-address.ensures i)
-    ++ v.integrity
-    ∷ (c.little_16-stall.ensures i)
-    ++ (text_octets v.callsign)
-    ++ v.capability
-    ∷ v.emitter
-    ∷ v.alw_encode
-    ∷ v.gps_lat_offs
-    ∷ v.gps_lon_offs
-    ∷ []
+    let icao : c.copy_from_slice.new.self ≡ run_octets (low 3) (v.icao ∷ []) = c.copy_from_slice.ensures.after ∙ ap (take 3) c.to_le_bytes-address.ensures ∙ low_3 v.icao c.requires in
+    let stall_speed : c.copy_from_slice-2.new.self ≡ run_octets (low 2) (v.stall_speed ∷ []) = c.copy_from_slice-2.ensures.after ∙ c.to_le_bytes.ensures ∙ low_2 v.stall_speed (omega arith) in
+    let callsign : c.copy_from_slice-3.new.self ≡ text_octets v.callsign = c.copy_from_slice-3.ensures.after ∙ c.text_octets.ensures in
+    rw (icao, stall_speed, callsign)

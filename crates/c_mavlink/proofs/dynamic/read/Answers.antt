@@ -1,0 +1,30 @@
+-- `c_mavlink::dynamic::read` meets its contract: the fields are tested in the payload, which the struct then holds. Assumes nothing.
+use Rattle.std.proofs.Common.{[], ◌∷◌, ◌++◌, List, ℕ, refl, sym, ap, ◌∙◌}
+use Rattle.mavlink_frame.specs.Frame.{kind, mavlink_kind}
+use Rattle.mavlink_frame.specs.Reader.{payload_at}
+use Rattle.mavlink_messages.specs.declared.Message.TheVariants.{Dynamic}
+use Rattle.mavlink_messages.specs.Dynamic202.{dynamic_format}
+use Rattle.c_mavlink.specs.Steps.{Taken}
+use Rattle.c_mavlink.proofs.Parts.{payload_length}
+use Rattle.c_mavlink.proofs.Structs.{dynamic_lies, taken_stored}
+use Rattle.c_mavlink.proofs.Ranges.{dynamic_payload}
+use Rattle.c_mavlink.proofs.Readers.{field_refused, read}
+use Rattle.c_mavlink.proofs.dynamic.read.Goals as goal
+
+pub returns-then-not-fits : goal.returns-then-not-fits
+unfolding mavlink_kind
+returns-then-not-fits c =
+    let s = c.args.input.now in
+    let t : Taken (kind 202 42 7) s = c.in_ok-tested.ensures in
+    field_refused _ _ (kind 202 42 7) dynamic_format Dynamic (λ h used p. refl) s t
+    (sym (dynamic_payload (payload_at 42 s) (payload_length 42 s t.room)) ∙ sym c.fits.ensures ∙ c.if-not-fits.true)
+
+pub returns : goal.returns
+unfolding mavlink_kind
+returns c =
+    let s = c.args.input.now in
+    let t : Taken (kind 202 42 7) s = c.in_ok-tested.ensures in
+    read _ _ (kind 202 42 7) dynamic_format Dynamic (λ h used p. refl) s t
+    (sym (dynamic_payload (payload_at 42 s) (payload_length 42 s t.room)) ∙ sym c.fits.ensures ∙ c.if-not-fits.false)
+    c.put_sender.ensures
+    (ap (λ (xs : List ℕ). xs ++ 0 ∷ 0 ∷ []) c.copy_from_slice.ensures.after ∙ taken_stored dynamic_lies s c.type_inv.input t.room)
