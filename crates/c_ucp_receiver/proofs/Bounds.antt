@@ -6,10 +6,9 @@ use Rattle.ucp_frame.specs.Stretch.{Verdict, silent, refused, delivered, store_o
 use Rattle.ucp_receiver.specs.declared.Phase.{Phase}
 use Rattle.ucp_receiver.specs.declared.Phase.TheVariants.{Hunting, Reading, Escape, BadEscape, TooLong}
 use Rattle.ucp_receiver.specs.declared.Counts.{Counts}
-use Rattle.ucp_receiver.specs.declared.Answer.{Answer}
 use Rattle.ucp_receiver.specs.declared.Received.{Received}
 use Rattle.ucp_receiver.specs.declared.Taken.{Taken}
-use Rattle.ucp_receiver.specs.Answers.{receiver_answer, answer_for}
+use Rattle.ucp_receiver.specs.Answers.{Answer, receiver_answer, answer_for}
 use Rattle.ucp_receiver.specs.Octet.{State, storing, advanced_in, closed_in, state_after, verdict_due, counts_after, counted_octet, Receives}
 use Rattle.ucp_receiver.specs.Slice.{SliceRun, slice_run, end_at, Takes}
 use Rattle.c_ucp_receiver.specs.Numbers.{rest_in, counts_in, record_in, value_told, answer_value, ReceivesFitting, TakesFitting}

@@ -1,13 +1,15 @@
 -- The numbers of a record or an answer stand for that record or answer. Assumes nothing.
-use Rattle.std.proofs.Common.{◌≡◌, ℕ, List, [], ◌∷◌, length, get_or, set, sym, refl, ap, ◌∙◌, arith}
+use Rattle.std.proofs.Common.{◌≡◌, ℕ, List, [], ◌∷◌, length, get_or, set, sym, refl, ap, ◌∙◌, arith, Option, None, Some, Ok, Err}
 use Rattle.ucp_receiver.specs.declared.Phase.{Phase}
 use Rattle.ucp_receiver.specs.declared.Phase.TheVariants.{Hunting, Reading, Escape, BadEscape, TooLong}
 use Rattle.ucp_receiver.specs.declared.Record.{Record}
-use Rattle.ucp_receiver.specs.declared.Answer.{Answer}
-use Rattle.ucp_receiver.specs.declared.Answer.TheVariants.{Nothing, Delivered, Refused}
+use Rattle.refusals.specs.declared.Refusal.{Refusal}
+use Rattle.refusals.specs.declared.Refusal.TheVariants as why
+use Rattle.refusals.specs.Refusals.{refusal_number}
+use Rattle.ucp_receiver.specs.Answers.{Answer, refusal, receiver_answer}
 use Rattle.ucp_receiver.specs.Octet.{Receives}
 use Rattle.ucp_receiver.specs.Slice.{Takes}
-use Rattle.c_ucp_receiver.specs.Numbers.{phase_of, phase_number, record_in, record_numbers, answer_in, answer_kind, answer_value, OwnNumbers, ReceivesNumbers, TakesNumbers}
+use Rattle.c_ucp_receiver.specs.Numbers.{phase_of, phase_number, record_in, record_numbers, refusal_named, refused_with, answer_in, answer_kind, answer_value, OwnNumbers, ReceivesNumbers, TakesNumbers}
 
 pub phase_back : (p : Phase) → phase_of (phase_number p) ≡ p
 phase_back Hunting = refl
@@ -21,10 +23,40 @@ record_back receiver =
     ap (λ (p : Phase). record { rest = record { phase = p; stored = receiver.rest.stored }; counts = receiver.counts })
     (phase_back receiver.rest.phase)
 
+refusal_back : (r : Refusal) → refusal_named (refusal_number r) ≡ Some r
+refusal_back why.BadEscape = refl
+refusal_back why.EscapeBeforeFlag = refl
+refusal_back why.TooLong = refl
+refusal_back why.TooShort = refl
+refusal_back why.WrongCheck = refl
+refusal_back why.Room = refl
+refusal_back why.BodyLength = refl
+refusal_back why.OutputLength = refl
+refusal_back why.UnknownId = refl
+refusal_back why.MessageLength = refl
+refusal_back why.Fixed = refl
+refusal_back why.Field = refl
+refusal_back why.MavlinkShort = refl
+refusal_back why.MavlinkStart = refl
+refusal_back why.MavlinkUnknownId = refl
+refusal_back why.MavlinkLength = refl
+refusal_back why.MavlinkWrongCheck = refl
+refusal_back why.MavlinkField = refl
+
 pub answer_back : (a : Answer) → answer_in (answer_kind a) (answer_value a) ≡ a
-answer_back Nothing = refl
-answer_back (Delivered octets) = refl
-answer_back (Refused number) = refl
+answer_back None = refl
+answer_back (Some (Ok octets)) = refl
+answer_back (Some (Err r)) = ap refused_with (refusal_back r)
+
+-- kind 2 tells a refusal, by its number
+pub refusal_told : {line : List ℕ} {kind value : ℕ} → OwnNumbers line kind value → kind ≡ 2 → receiver_answer (answer_in kind value) ≡ refusal value
+refusal_told {kind = kind} {value = value} own e =
+    ap (λ (n : ℕ). receiver_answer (answer_in n value)) e
+    ∙ go (refusal_named value) (sym e ∙ own.kind ∙ ap (λ (n : ℕ). answer_kind (answer_in n value)) e) (own.value ∙ ap (λ (n : ℕ). answer_value (answer_in n value)) e)
+  where
+    go : (o : Option Refusal) → 2 ≡ answer_kind (refused_with o) → value ≡ answer_value (refused_with o) → receiver_answer (refused_with o) ≡ refusal value
+    go None k v = absurd (omega arith)
+    go (Some r) k v = ap refusal (sym v)
 
 module _ (line : List ℕ) (kind value : ℕ) (receiver : Record) (answer : Answer)
     (l : line ≡ record_numbers receiver) (k : kind ≡ answer_kind answer) (v : value ≡ answer_value answer) where

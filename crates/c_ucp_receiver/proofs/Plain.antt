@@ -1,5 +1,5 @@
 -- An octet that is only stored, or only counted, on the numbers. Assumes nothing.
-use Rattle.std.proofs.Common.{◌≡◌, ℕ, ◌+◌, ◌<◌, Bool, true, false, eqb, List, length, get_or, set, sym, refl, ap, ◌∙◌, subst, arith, lt-ltb, ne_eqb, eqb-true}
+use Rattle.std.proofs.Common.{◌≡◌, ℕ, ◌+◌, ◌<◌, Bool, true, false, eqb, List, length, get_or, set, sym, refl, ap, ◌∙◌, subst, arith, lt-ltb, ne_eqb, eqb-true, None}
 use lib.Seq.{set-get_or}
 use borrow.Author.Tests.{eqb-false}
 use Rattle.ucp_frame.specs.Frame.{flag, escape}
@@ -7,7 +7,6 @@ use Rattle.ucp_frame.specs.Stretch.{store_octets}
 use Rattle.ucp_receiver.specs.declared.Phase.{Phase}
 use Rattle.ucp_receiver.specs.declared.Phase.TheVariants.{Reading, BadEscape, TooLong}
 use Rattle.ucp_receiver.specs.declared.Counts.{Counts}
-use Rattle.ucp_receiver.specs.declared.Answer.TheVariants.{Nothing}
 use Rattle.ucp_receiver.specs.Account.{plus, counted_open}
 use Rattle.ucp_receiver.specs.Octet.{State, storing, advanced_in, state_after, verdict_due, counted_octet, counts_after}
 use Rattle.c_ucp_receiver.specs.Numbers.{phase_of, phase_number, counts_in, ReceivesNumbers}
@@ -29,7 +28,7 @@ module _ (line store : List ℕ) (octet : ℕ) (output : List ℕ) (whole : leng
       → ReceivesNumbers store line octet output 0 0 store_after (set (set line 1 stored) 6 (plus (get_or line 6 0) 1)) output
   unfolding state_after verdict_due counts_after
   counts_open stored store_after e =
-      receives _ 0 0 (record { rest = record { phase = phase; stored = stored }; counts = counted_open (counts_in line) }) Nothing
+      receives _ 0 0 (record { rest = record { phase = phase; stored = stored }; counts = counted_open (counts_in line) }) None
       (rw (seven line whole, number)) refl refl line store octet output store_after output
       (record {
         state = rw (ne_eqb octet flag no_flag, in_phase) e;

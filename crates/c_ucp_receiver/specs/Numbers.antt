@@ -1,15 +1,16 @@
 -- The receiver's record and answers as numbers, for C and Rust, and what a call on them does. Assumes nothing.
-use Rattle.std.specs.Prelude.{◌≡◌, ℕ, ◌^◌, ◌<◌, cond, List, [], ◌∷◌, ◌==◌, slice_index}
+use Rattle.std.specs.Prelude.{◌≡◌, ℕ, ◌^◌, ◌<◌, cond, List, [], ◌∷◌, ◌==◌, slice_index, Option, None, Some, Ok, Err, find}
+use Rattle.refusals.specs.declared.Refusal.{Refusal}
+use Rattle.refusals.specs.declared.Refusal.TheVariants as why
+use Rattle.refusals.specs.Refusals.{refusal_number}
 use Rattle.ucp_receiver.specs.declared.Phase.{Phase}
 use Rattle.ucp_receiver.specs.declared.Phase.TheVariants.{Hunting, Reading, Escape, BadEscape, TooLong}
 use Rattle.ucp_receiver.specs.declared.Rest.{Rest}
 use Rattle.ucp_receiver.specs.declared.Counts.{Counts}
 use Rattle.ucp_receiver.specs.declared.Record.{Record}
-use Rattle.ucp_receiver.specs.declared.Answer.{Answer}
-use Rattle.ucp_receiver.specs.declared.Answer.TheVariants.{Nothing, Delivered, Refused}
 use Rattle.ucp_receiver.specs.declared.Received.{Received}
 use Rattle.ucp_receiver.specs.declared.Taken.{Taken}
-use Rattle.ucp_receiver.specs.Answers.{ReceiverAnswer, nothing, refusal, body, receiver_answer}
+use Rattle.ucp_receiver.specs.Answers.{Answer, ReceiverAnswer, nothing, refusal, body, receiver_answer}
 use Rattle.ucp_receiver.specs.Octet.{fresh_record, no_octets, Receives}
 use Rattle.ucp_receiver.specs.Slice.{Takes}
 
@@ -50,8 +51,23 @@ record_numbers receiver =
 
 -- ---- an answer: kind 0 nothing; 1 delivered, with the body's length; 2 refused, with the refusal's number
 
+abbrev pub all_refusals : List Refusal
+all_refusals =
+    why.BadEscape ∷ why.EscapeBeforeFlag ∷ why.TooLong ∷ why.TooShort ∷ why.WrongCheck ∷ why.Room
+    ∷ why.BodyLength ∷ why.OutputLength
+    ∷ why.UnknownId ∷ why.MessageLength ∷ why.Fixed ∷ why.Field
+    ∷ why.MavlinkShort ∷ why.MavlinkStart ∷ why.MavlinkUnknownId ∷ why.MavlinkLength ∷ why.MavlinkWrongCheck ∷ why.MavlinkField ∷ []
+
+-- the refusal of a number, where there is one: no call refuses with another
+abbrev pub refusal_named : ℕ → Option Refusal
+refusal_named number = find (λ r. refusal_number r == number) all_refusals
+
+abbrev pub refused_with : Option Refusal → Answer
+refused_with None = None
+refused_with (Some r) = Some (Err r)
+
 abbrev pub answer_in : ℕ → ℕ → Answer
-answer_in kind value = cond (kind == 1) (Delivered value) (cond (kind == 2) (Refused value) Nothing)
+answer_in kind value = cond (kind == 1) (Some (Ok value)) (cond (kind == 2) (refused_with (refusal_named value)) None)
 
 abbrev pub kind_told : ReceiverAnswer → ℕ
 kind_told nothing = 0

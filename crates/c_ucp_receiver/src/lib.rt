@@ -2,7 +2,7 @@
 // numbers, in the order of `record_numbers` of specs/Numbers.antt.
 #![tactic(auto)]
 
-ghost use Rattle.std.specs.Prelude.{◌≡◌, ℕ, ◌^◌, ◌<◌, List, length, ◌≢◌, slice_index};
+ghost use Rattle.std.specs.Prelude.{◌≡◌, ℕ, ◌^◌, ◌<◌, List, ◌≢◌, slice_index};
 ghost use Rattle.c_ucp_receiver.specs.Numbers.{phase_of, phase_number, rest_in, counts_in, record_in, record_numbers, answer_kind, answer_value, ReceivesFitting, TakesFitting, ReceivesNumbers, TakesNumbers, StartsNumbers};
 
 use ucp_receiver::{Answer, Counts, Phase, Received, Record, Rest, Store, Taken};
@@ -15,7 +15,7 @@ const STORE_OCTETS: u32 = ucp_receiver::STORE_OCTETS as u32;
 
 // kind: 0 nothing, 1 delivered, 2 refused. value: how many octets were delivered, or the refusal's number.
 #[repr(C)]
-#[derive(Clone, Copy)]
+#[derive(Clone, Copy, Debug, PartialEq, Eq)]
 pub struct OstrogoszAnswer {
     pub kind: u32,
     pub value: u32,
@@ -23,7 +23,7 @@ pub struct OstrogoszAnswer {
 
 // The same, and how many octets of the slice were taken.
 #[repr(C)]
-#[derive(Clone, Copy)]
+#[derive(Clone, Copy, Debug, PartialEq, Eq)]
 pub struct OstrogoszTaken {
     pub kind: u32,
     pub value: u32,
@@ -35,35 +35,19 @@ pub struct OstrogoszTaken {
 fn phase_of(number: u32) -> Phase
     ensures { result ≡ phase_of number }
 {
-    if number == 0 {
-        Phase::Hunting
-    } else if number == 1 {
-        Phase::Reading
-    } else if number == 2 {
-        Phase::Escape
-    } else if number == 3 {
-        Phase::BadEscape
-    } else {
-        Phase::TooLong
+    match number {
+        0 => Phase::Hunting,
+        1 => Phase::Reading,
+        2 => Phase::Escape,
+        3 => Phase::BadEscape,
+        _ => Phase::TooLong,
     }
 }
 
 fn phase_number(phase: Phase) -> u32
     ensures { result ≡ phase_number phase }
 {
-    match phase {
-        Phase::Hunting => 0,
-        Phase::Reading => 1,
-        Phase::Escape => 2,
-        Phase::BadEscape => 3,
-        Phase::TooLong => 4,
-    }
-}
-
-fn wide(number: u32) -> usize
-    ensures { (result ≡ number) × (result < 2 ^ 32) }
-{
-    number as usize
+    phase as u32
 }
 
 fn rest_in(line: &RecordNumbers) -> Rest
@@ -71,7 +55,7 @@ fn rest_in(line: &RecordNumbers) -> Rest
 {
     Rest {
         phase: phase_of(line[0]),
-        stored: wide(line[1]),
+        stored: line[1] as usize,
     }
 }
 
@@ -100,14 +84,10 @@ fn put_line(line: &mut RecordNumbers, receiver: Record)
     requires { receiver.rest.stored < 2 ^ 32 }
     ensures { line.new ≡ record_numbers receiver }
 {
-    let rest = receiver.rest;
-    let counts = receiver.counts;
-    let phase = rest.phase;
-    let number = phase_number(phase);
-    let stored = rest.stored as u32;
+    let Record { rest, counts } = receiver;
     *line = [
-        number,
-        stored,
+        phase_number(rest.phase),
+        rest.stored as u32,
         counts.flags,
         counts.delivered,
         counts.refused,
@@ -116,15 +96,13 @@ fn put_line(line: &mut RecordNumbers, receiver: Record)
     ];
 }
 
-// Only what an octet other than the flag can change: the others are not even loaded. A slice, since its length is known here.
-fn put_open_line(line: &mut [u32], receiver: Record)
-    requires { (length line.old ≡ 7) × (receiver.rest.stored < 2 ^ 32) × (receiver.counts.flags ≡ slice_index line.old 2) × (receiver.counts.delivered ≡ slice_index line.old 3) × (receiver.counts.refused ≡ slice_index line.old 4) }
+// Only what an octet other than the flag can change: the others are not even loaded.
+fn put_open_line(line: &mut RecordNumbers, receiver: Record)
+    requires { (receiver.rest.stored < 2 ^ 32) × (receiver.counts.flags ≡ slice_index line.old 2) × (receiver.counts.delivered ≡ slice_index line.old 3) × (receiver.counts.refused ≡ slice_index line.old 4) }
     ensures { line.new ≡ record_numbers receiver }
 {
-    let rest = receiver.rest;
-    let counts = receiver.counts;
-    let phase = rest.phase;
-    line[0] = phase_number(phase);
+    let Record { rest, counts } = receiver;
+    line[0] = phase_number(rest.phase);
     line[1] = rest.stored as u32;
     line[5] = counts.skipped;
     line[6] = counts.unclosed;
@@ -132,24 +110,21 @@ fn put_open_line(line: &mut [u32], receiver: Record)
 
 // ---- the answer
 
-fn kind_of(answer: Answer) -> u32
-    ensures { result ≡ answer_kind answer }
-{
-    match answer {
-        Answer::Nothing => 0,
-        Answer::Delivered(_) => 1,
-        Answer::Refused(_) => 2,
-    }
-}
-
-fn value_of(answer: Answer) -> u32
+fn in_numbers(answer: Answer) -> OstrogoszAnswer
     requires { answer_value answer < 2 ^ 32 }
-    ensures { result ≡ answer_value answer }
+    ensures kind { result.kind ≡ answer_kind answer }
+    ensures value { result.value ≡ answer_value answer }
 {
     match answer {
-        Answer::Nothing => 0,
-        Answer::Delivered(octets) => octets as u32,
-        Answer::Refused(number) => number as u32,
+        None => OstrogoszAnswer { kind: 0, value: 0 },
+        Some(Ok(octets)) => OstrogoszAnswer {
+            kind: 1,
+            value: octets as u32,
+        },
+        Some(Err(why)) => OstrogoszAnswer {
+            kind: 2,
+            value: why.number() as u32,
+        },
     }
 }
 
@@ -174,36 +149,29 @@ fn receive_flag(store: &mut Store, line: &mut RecordNumbers, output: &mut [u8]) 
     ensures { ReceivesNumbers store.old line.old 0x7E output.old result.kind result.value store.new line.new output.new }
 {
     let received = received_by(store, line, 0x7E, output);
-    let receiver = received.receiver;
-    let answer = received.answer;
-    put_line(line, receiver);
-    OstrogoszAnswer {
-        kind: kind_of(answer),
-        value: value_of(answer),
-    }
+    put_line(line, received.receiver);
+    in_numbers(received.answer)
 }
 
-// An octet that a stretch without a fault only stores: the commonest, so it touches as little as there is to change. The line is
-// a slice, since its length is known then.
-fn receive_plain(store: &mut Store, line: &mut [u32], octet: u8) -> OstrogoszAnswer
-    requires { (length line.old ≡ 7) × (slice_index line.old 0 ≡ 1) × (slice_index line.old 1 < 438) × (octet ≢ 0x7E) × (octet ≢ 0x7D) }
+// An octet that a stretch without a fault only stores: the commonest, so it touches as little as there is to change.
+fn receive_plain(store: &mut Store, line: &mut RecordNumbers, octet: u8) -> OstrogoszAnswer
+    requires { (slice_index line.old 0 ≡ 1) × (slice_index line.old 1 < 438) × (octet ≢ 0x7E) × (octet ≢ 0x7D) }
     ensures { (output : List ℕ) → ReceivesNumbers store.old line.old octet output result.kind result.value store.new line.new output }
 {
     let stored = line[1];
-    let unclosed = std::num::wrapping_add_u32(line[6], 1);
-    let at = wide(stored);
-    store[at] = octet;
+    let unclosed = line[6].wrapping_add(1);
+    store[stored as usize] = octet;
     line[1] = stored + 1;
     line[6] = unclosed;
     OstrogoszAnswer { kind: 0, value: 0 }
 }
 
 // An octet behind a fault, which is only counted.
-fn receive_ignored(line: &mut [u32], octet: u8) -> OstrogoszAnswer
-    requires { (length line.old ≡ 7) × (2 < slice_index line.old 0) × (slice_index line.old 0 < 5) × (octet ≢ 0x7E) }
+fn receive_ignored(line: &mut RecordNumbers, octet: u8) -> OstrogoszAnswer
+    requires { (2 < slice_index line.old 0) × (slice_index line.old 0 < 5) × (octet ≢ 0x7E) }
     ensures { (store output : List ℕ) → ReceivesNumbers store line.old octet output result.kind result.value store line.new output }
 {
-    line[6] = std::num::wrapping_add_u32(line[6], 1);
+    line[6] = line[6].wrapping_add(1);
     OstrogoszAnswer { kind: 0, value: 0 }
 }
 
@@ -218,13 +186,8 @@ fn receive_other(
     ensures { ReceivesNumbers store.old line.old octet output.old result.kind result.value store.new line.new output.new }
 {
     let received = received_by(store, line, octet, output);
-    let receiver = received.receiver;
-    let answer = received.answer;
-    put_open_line(line, receiver);
-    OstrogoszAnswer {
-        kind: kind_of(answer),
-        value: value_of(answer),
-    }
+    put_open_line(line, received.receiver);
+    in_numbers(received.answer)
 }
 
 // One octet of the line. The flag is apart, so that a call with any other octet touches little.
@@ -239,17 +202,12 @@ pub fn ostrogosz_ucp_receive(
     if octet == 0x7E {
         return receive_flag(store, line, output);
     }
-    if line[0] == 1 {
-        if line[1] < STORE_OCTETS {
-            if octet != 0x7D {
-                return receive_plain(store, line, octet);
-            }
-        }
+    let phase = line[0];
+    if phase == 1 && line[1] < STORE_OCTETS && octet != 0x7D {
+        return receive_plain(store, line, octet);
     }
-    if 2 < line[0] {
-        if line[0] < 5 {
-            return receive_ignored(line, octet);
-        }
+    if 2 < phase && phase < 5 {
+        return receive_ignored(line, octet);
     }
     receive_other(store, line, octet, output)
 }
@@ -271,12 +229,11 @@ pub fn ostrogosz_ucp_receive_slice(
     ensures { TakesNumbers store.old line.old octets.now output.old result.kind result.value result.taken store.new line.new output.new }
 {
     let taken = taken_by(store, line, octets, output);
-    let receiver = taken.receiver;
-    let answer = taken.answer;
-    put_line(line, receiver);
+    put_line(line, taken.receiver);
+    let answer = in_numbers(taken.answer);
     OstrogoszTaken {
-        kind: kind_of(answer),
-        value: value_of(answer),
+        kind: answer.kind,
+        value: answer.value,
         taken: taken.taken,
     }
 }

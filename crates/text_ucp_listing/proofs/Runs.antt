@@ -2,21 +2,20 @@
 use mathlib.Core.Path.{◌≡◌, refl, sym, ap, ◌∙◌}
 use mathlib.Core.List.{List, [], ◌∷◌, ◌++◌, append_assoc, append-nil}
 use Prim.Native.Nat.{ℕ, suc, ◌+◌, ◌-◌, ◌<◌, ◌≤◌}
-use native.Mathlib.Nat.{add-zero, zero-add, sub-zero}
+use native.Mathlib.Nat.{zero-add, sub-zero}
 use native.Mathlib.Numerals.{add-one}
 use native.Mathlib.Omega.{arith}
-use lib.ListN.{length, drop, length-append, length-drop, drop_of_length-le}
-use lib.Seq.{take-append_seam, drop-drop}
+use Rattle.std.proofs.Common.{None, Some, Ok, Err}
+use lib.ListN.{length, drop, length-append, length-drop}
+use lib.Seq.{take-append_seam}
 use borrow.Author.Tests.{le-ltb, lt-ltb}
 use Rattle.ucp_frame.specs.Stretch.{Verdict, silent, refused, delivered}
 use Rattle.output_writing.specs.Puts.{Puts}
 use Rattle.output_writing.proofs.ToPut.{all_to_put, first_put, last_put}
 use Rattle.ucp_receiver.specs.declared.Record.{Record}
 use Rattle.ucp_receiver.specs.declared.Counts.{Counts}
-use Rattle.ucp_receiver.specs.declared.Answer.{Answer}
-use Rattle.ucp_receiver.specs.declared.Answer.TheVariants.{Nothing, Delivered, Refused}
 use Rattle.ucp_receiver.specs.declared.Taken.{Taken}
-use Rattle.ucp_receiver.specs.Answers.{output_at_flag, ReceiverAnswer, receiver_answer, answer_for}
+use Rattle.ucp_receiver.specs.Answers.{Answer, output_at_flag, ReceiverAnswer, receiver_answer, answer_for}
 use Rattle.ucp_receiver.specs.Octet.{State, state_after, verdict_due, counts_after, state_of}
 use Rattle.ucp_receiver.specs.Slice.{SliceRun, slice_run, later, end_at, Takes}
 use Rattle.text_ucp_listing.specs.declared.Listed.{Listed}
@@ -105,26 +104,27 @@ puts_both {before} {start} {us} {vs = vs} p q h =
     let both = last_put (first_put us vs (all_to_put before start refl room) p) q in
     record { ends = both.0; leaves = both.1 }
 
--- some octets were taken and their lines put, and the lines of the others make up the whole
-pub record SoFar (whole : Lines) (line first : List ℕ) (s : State) (c : Counts) (room text : List ℕ) (taken at : ℕ) : Type 0 where
-  pub within : taken ≤ length line
+-- octets were taken up to this rest of the line and their lines put, and the lines of the rest make up the whole
+pub record SoFar (whole : Lines) (line first : List ℕ) (s : State) (c : Counts) (room text rest : List ℕ) (at : ℕ) : Type 0 where
+  pub within : length rest ≤ length line
   pub ends : at ≤ length first
   pub done : List ℕ
   pub puts : Puts first 0 done at text
-  pub makes : whole ≡ after taken done (lines s c room (drop taken line) (length first - at))
+  pub makes : whole ≡ after (length line - length rest) done (lines s c room rest (length first - at))
 
 pub none_so_far : (s : State) (c : Counts) (room line first : List ℕ)
-    → SoFar (lines s c room line (length first)) line first s c room first 0 0
+    → SoFar (lines s c room line (length first)) line first s c room first line 0
 none_so_far s c room line first =
     let l : Lines = lines s c room line (length first) in
+    let none : l.taken ≡ l.taken + (length line - length line) = omega arith in
     record {
       within = omega arith;
       ends = omega arith;
       done = [];
       puts = record { ends = refl; leaves = refl };
       makes =
-          ap (λ (n : ℕ). record { state = l.state; counts = l.counts; room = l.room; taken = n; text = l.text }) (sym (add-zero l.taken))
-          ∙ ap (λ (free : ℕ). after 0 [] (lines s c room line free)) (sym (sub-zero (length first)));
+          ap (λ (n : ℕ). record { state = l.state; counts = l.counts; room = l.room; taken = n; text = l.text }) none
+          ∙ ap (λ (free : ℕ). after (length line - length line) [] (lines s c room line free)) (sym (sub-zero (length first)));
     }
 
 -- ---- what a call of the receiver adds
@@ -150,11 +150,11 @@ module _ (receiver : Record) (store line room : List ℕ) (given : Taken) (store
       (takes.puts ∙ ap (λ (r : SliceRun). output_at_flag r.verdict room) ran)
     where
       go : (a : Answer) (v : Verdict) → receiver_answer a ≡ answer_for v → room_after ≡ output_at_flag v room → BodyWithin a body_room
-      go Nothing v e f = tt
-      go (Refused number) v e f = tt
-      go (Delivered octets) silent e f = let z : ◌≡◌ {A = ℕ} 0 1 = cc in absurd (omega arith)
-      go (Delivered octets) (refused number) e f = let z : ◌≡◌ {A = ℕ} 0 1 = cc in absurd (omega arith)
-      go (Delivered octets) (delivered body) e f =
+      go None v e f = tt
+      go (Some (Err why)) v e f = tt
+      go (Some (Ok octets)) silent e f = absurd cc
+      go (Some (Ok octets)) (refused number) e f = absurd cc
+      go (Some (Ok octets)) (delivered body) e f =
           let n : octets ≡ length body = cc in
           omega (arith, simp length-append at (ap length f))
 
@@ -175,64 +175,68 @@ after_after m n us vs l =
     λ i. record { state = l.state; counts = l.counts; room = l.room; taken = e i; text = f i }
 
 -- the receiver took octets, and the line of its answer was put
-pub more_so_far : {whole : Lines} {line first : List ℕ} (receiver : Record) (store room : List ℕ) {text : List ℕ} (taken at : ℕ)
+pub more_so_far : {whole : Lines} {line first : List ℕ} (receiver : Record) (store room : List ℕ) {text rest left : List ℕ} (at : ℕ)
     (given : Taken) (store_after room_after : List ℕ) {next : ℕ} {last : List ℕ}
-    → SoFar whole line first (state_of receiver.rest store) receiver.counts room text taken at
+    → SoFar whole line first (state_of receiver.rest store) receiver.counts room text rest at
     → longest_line ≤ length first - at
-    → Takes receiver store (drop taken line) room given store_after room_after → length room ≡ body_room → length room_after ≡ length room
-    → PutsLine text at (line_of_answer (receiver_answer given.answer) room_after) next last
-    → SoFar whole line first (state_of given.receiver.rest store_after) given.receiver.counts room_after last (taken + given.taken) next
-more_so_far {whole} {line} {first} receiver store room taken at given store_after room_after {next} so free takes long kept put =
-    let xs = drop taken line in
-    let r = slice_run (state_of receiver.rest store) receiver.counts xs body_room in
-    let same = ran receiver store xs room given store_after room_after takes long kept in
+    → Takes receiver store rest room given store_after room_after → length room ≡ body_room → length room_after ≡ length room
+    → PutsLine text at (line_of_answer (receiver_answer given.answer) room_after) next last → left ≡ drop given.taken rest
+    → SoFar whole line first (state_of given.receiver.rest store_after) given.receiver.counts room_after last left next
+more_so_far {whole} {line} {first} receiver store room {rest = rest} {left = left} at given store_after room_after {next} so free takes long kept put behind_it =
+    let r = slice_run (state_of receiver.rest store) receiver.counts rest body_room in
+    let same = ran receiver store rest room given store_after room_after takes long kept in
     let took : r.taken ≡ given.taken = sym (takes.taken ∙ ap (λ (q : SliceRun). q.taken) same) in
     let puts : Puts _ at (answer_line r.verdict) next _ =
-    rw (answer_line_lem receiver store xs room given store_after room_after takes long kept) at put.puts in
+    rw (answer_line_lem receiver store rest room given store_after room_after takes long kept) at put.puts in
     let ends : next ≤ length first = omega (arith, put.within, same_long so.puts) in
     let s : r.state ≡ state_of given.receiver.rest store_after = sym (takes.state ∙ ap (λ (q : SliceRun). q.state) same) in
     let c : r.counts ≡ given.receiver.counts = sym (takes.account ∙ ap (λ (q : SliceRun). q.counts) same) in
     let o : output_at_flag r.verdict room ≡ room_after = sym (takes.puts ∙ ap (λ (q : SliceRun). output_at_flag q.verdict room) same) in
-    let d : drop r.taken xs ≡ drop (taken + given.taken) line = drop-drop r.taken taken line ∙ ap (λ (n : ℕ). drop (taken + n) line) took in
+    let d : drop r.taken rest ≡ left = ap (λ (n : ℕ). drop n rest) took ∙ sym behind_it in
     let f : length first - at - length (answer_line r.verdict) ≡ length first - next = omega (arith, puts.ends) in
+    let long_left : length left ≡ length rest - given.taken = ap length behind_it ∙ length-drop given.taken rest in
+    let least : r.taken ≤ length rest = run_within (state_of receiver.rest store) receiver.counts rest body_room in
+    let n : length line - length rest + r.taken ≡ length line - length left = omega (arith, took, long_left, least, so.within) in
     record {
-      within = omega (arith, took, run_within (state_of receiver.rest store) receiver.counts xs body_room, length-drop taken line, so.within);
+      within = omega (arith, long_left, so.within);
       ends = ends;
       done = so.done ++ answer_line r.verdict;
       puts = puts_both so.puts puts ends;
       makes =
           so.makes
-          ∙ ap (after taken so.done) (lines_run (state_of receiver.rest store) receiver.counts room xs (length first - at) free)
-          ∙ after_after taken r.taken so.done (answer_line r.verdict) _
-          ∙ (λ i. after (taken + took i) (so.done ++ answer_line r.verdict) (lines (s i) (c i) (o i) (d i) (f i)));
+          ∙ ap (after (length line - length rest) so.done) (lines_run (state_of receiver.rest store) receiver.counts room rest (length first - at) free)
+          ∙ after_after (length line - length rest) r.taken so.done (answer_line r.verdict) _
+          ∙ (λ i. after (n i) (so.done ++ answer_line r.verdict) (lines (s i) (c i) (o i) (d i) (f i)));
     }
 
 -- ---- the end
 
-pub slice_ends : (s : State) (c : Counts) (room line : List ℕ) (taken free : ℕ) → length line ≤ taken
-    → lines s c room (drop taken line) free ≡ no_lines s c room
+pub slice_ends : (s : State) (c : Counts) (room rest : List ℕ) (free : ℕ) → length rest ≡ 0 → lines s c room rest free ≡ no_lines s c room
 unfolding lines
-slice_ends s c room line taken free h = rw (drop_of_length-le line h)
+slice_ends s c room [] free h = refl
+slice_ends s c room (x ∷ xs) free h = absurd (omega arith)
 
 pub text_full : (s : State) (c : Counts) (room xs : List ℕ) (free : ℕ) → free < longest_line → lines s c room xs free ≡ no_lines s c room
 unfolding lines
 text_full s c room [] free h = refl
 text_full s c room (x ∷ xs) free h = rw (lt-ltb free longest_line h)
 
-pub all_so_far : (receiver : Record) (store room line first : List ℕ) (given : Listed) (store_after room_after : List ℕ) {text : List ℕ}
-    → SoFar (lines (state_of receiver.rest store) receiver.counts room line (length first)) line first (state_of given.receiver.rest store_after) given.receiver.counts room_after text given.taken given.written
-    → lines (state_of given.receiver.rest store_after) given.receiver.counts room_after (drop given.taken line) (length first - given.written)
+pub all_so_far : (receiver : Record) (store room line first rest : List ℕ) (given : Listed) (store_after room_after : List ℕ) {text : List ℕ}
+    → SoFar (lines (state_of receiver.rest store) receiver.counts room line (length first)) line first (state_of given.receiver.rest store_after) given.receiver.counts room_after text rest given.written
+    → lines (state_of given.receiver.rest store_after) given.receiver.counts room_after rest (length first - given.written)
     ≡ no_lines (state_of given.receiver.rest store_after) given.receiver.counts room_after
+    → given.taken ≡ length line - length rest
     → Lists receiver store room line first given store_after room_after text
-all_so_far receiver store room line first given store_after room_after so none =
-    let e = sym (so.makes ∙ ap (after given.taken so.done) none) in
+all_so_far receiver store room line first rest given store_after room_after so none took =
+    let n = length line - length rest in
+    let e = sym (so.makes ∙ ap (after n so.done) none) in
     let all : so.done ≡ (lines (state_of receiver.rest store) receiver.counts room line (length first)).text =
     sym (append-nil so.done) ∙ ap (λ (l : Lines). l.text) e in
     record {
       state = ap (λ (l : Lines). l.state) e;
       account = ap (λ (l : Lines). l.counts) e;
       holds = ap (λ (l : Lines). l.room) e;
-      taken = sym (zero-add given.taken) ∙ ap (λ (l : Lines). l.taken) e;
+      taken = took ∙ sym (zero-add n) ∙ ap (λ (l : Lines). l.taken) e;
       puts = rw all at so.puts;
       within = so.ends;
     }

@@ -1,9 +1,7 @@
 -- What a step of the listing's code does for one line. Assumes nothing.
-use Rattle.std.specs.Prelude.{List, [], ℕ, ◌≤◌, length, take}
+use Rattle.std.specs.Prelude.{List, [], ℕ, ◌≤◌, length, take, None, Some, Ok, Err}
 use Rattle.output_writing.specs.Puts.{Puts}
-use Rattle.ucp_receiver.specs.declared.Answer.{Answer}
-use Rattle.ucp_receiver.specs.declared.Answer.TheVariants.{Nothing, Delivered, Refused}
-use Rattle.ucp_receiver.specs.Answers.{ReceiverAnswer, nothing, refusal, body}
+use Rattle.ucp_receiver.specs.Answers.{Answer, ReceiverAnswer, nothing, refusal, body}
 use Rattle.text_ucp_listing.specs.Listing.{ok_line, no_line}
 
 -- the line of an answer as the receiver gives it, a body by its length and where it stands
@@ -14,9 +12,9 @@ line_of_answer (body octets) room = ok_line (take octets room)
 
 -- a body that an answer gives is within the room
 abbrev pub BodyWithin : Answer → ℕ → Type 0
-BodyWithin Nothing room = Unit
-BodyWithin (Refused number) room = Unit
-BodyWithin (Delivered octets) room = octets ≤ room
+BodyWithin None room = Unit
+BodyWithin (Some (Err why)) room = Unit
+BodyWithin (Some (Ok octets)) room = octets ≤ room
 
 -- a line is put, and ends within the text
 pub record PutsLine (before : List ℕ) (at : ℕ) (line : List ℕ) (next : ℕ) (after : List ℕ) : Type 0 where

@@ -32,17 +32,24 @@ fn put_three(text: &mut [u8], at: usize, first: u8, second: u8, third: u8) -> us
     at + 3
 }
 
+// Octets as they are.
+fn put_word(text: &mut [u8], at: usize, word: &[u8]) -> usize
+    requires { at + length word.now ≤ length text.old }
+    ensures { Puts text.old at word.now result text.new }
+{
+    let end = at + word.len();
+    text[at..end].copy_from_slice(word);
+    end
+}
+
 // Each octet of a body in hexadecimal, with a space before it.
 fn put_octets(text: &mut [u8], at: usize, body: &[u8]) -> usize
     requires { at + length (hex_octets body.now) ≤ length text.old }
     ensures { Puts text.old at (hex_octets body.now) result text.new }
 {
     let mut at = at;
-    let mut i = 0;
-    while i < body.len() {
-        let octet = body[i];
+    for octet in body {
         at = put_three(text, at, b' ', hex_digit(octet / 16), hex_digit(octet % 16));
-        i += 1;
     }
     at
 }
@@ -74,7 +81,7 @@ fn put_ok(text: &mut [u8], at: usize, body: &[u8]) -> usize
     requires { at + length (ok_line body.now) ≤ length text.old }
     ensures { Puts text.old at (ok_line body.now) result text.new }
 {
-    let at = put_three(text, at, b'o', b'k', b' ');
+    let at = put_word(text, at, b"ok ");
     let at = put_decimal(text, at, body.len());
     let at = put_octets(text, at, body);
     put_newline(text, at)
@@ -84,7 +91,7 @@ fn put_no(text: &mut [u8], at: usize, number: u8) -> usize
     requires { at + length (no_line number) ≤ length text.old }
     ensures { Puts text.old at (no_line number) result text.new }
 {
-    let at = put_three(text, at, b'n', b'o', b' ');
+    let at = put_word(text, at, b"no ");
     let at = put_decimal(text, at, number as usize);
     put_newline(text, at)
 }
@@ -95,14 +102,14 @@ fn put_answer(text: &mut [u8], at: usize, answer: Answer, room: &[u8]) -> usize
     ensures { PutsLine text.old at (line_of_answer (receiver_answer answer) room.now) result text.new }
 {
     match answer {
-        Answer::Nothing => at,
-        Answer::Delivered(n) => put_ok(text, at, &room[..n]),
-        Answer::Refused(number) => put_no(text, at, number),
+        None => at,
+        Some(Ok(n)) => put_ok(text, at, &room[..n]),
+        Some(Err(why)) => put_no(text, at, why.number()),
     }
 }
 
 // What a call of list_some gives back: `taken` octets of the line were taken, and `written` octets of text are at its start.
-#[derive(Clone, Copy)]
+#[derive(Clone, Copy, Debug, PartialEq, Eq)]
 pub struct Listed {
     pub receiver: Record,
     pub taken: usize,
@@ -121,38 +128,22 @@ pub fn list_some(
     ensures { Lists receiver store.old room.old line.now text.old result store.new room.new text.new }
 {
     let mut receiver = receiver;
-    let mut taken = 0;
+    let mut rest = line;
     let mut at = 0;
-    while taken < line.len() {
-        if text.len() - at < 1317 {
-            break;
-        }
-        let t = ucp_receiver::slice::receive_slice(receiver, store, &line[taken..], room);
+    while !rest.is_empty() && 1317 <= text.len() - at {
+        let t = ucp_receiver::slice::receive_slice(receiver, store, rest, room);
         receiver = t.receiver;
-        taken += t.taken;
-        let answer = t.answer;
-        at = put_answer(text, at, answer, room);
+        rest = &rest[t.taken..];
+        at = put_answer(text, at, t.answer, room);
     }
     Listed {
-        receiver: receiver,
-        taken: taken,
+        receiver,
+        taken: line.len() - rest.len(),
         written: at,
     }
 }
 
 // ---- the closing line
-
-fn put_word(text: &mut [u8], at: usize, word: &[u8]) -> usize
-    requires { at + length word.now ≤ length text.old }
-    ensures { Puts text.old at word.now result text.new }
-{
-    let mut i = 0;
-    while i < word.len() {
-        text[at + i] = word[i];
-        i += 1;
-    }
-    at + i
-}
 
 fn put_count(text: &mut [u8], at: usize, word: &[u8], n: u32) -> usize
     requires { at + length (counted word.now n) ≤ length text.old }
@@ -166,18 +157,12 @@ fn put_count(text: &mut [u8], at: usize, word: &[u8], n: u32) -> usize
 fn received(counts: Counts) -> u32
     ensures { result ≡ bytes_received counts }
 {
-    let sum = wide(counts.flags)
-        + wide(counts.delivered)
-        + wide(counts.refused)
-        + wide(counts.skipped)
-        + wide(counts.unclosed);
-    (sum % 4294967296) as u32
-}
-
-fn wide(count: u32) -> u64
-    ensures { result ≡ count }
-{
-    count as u64
+    counts
+        .flags
+        .wrapping_add(counts.delivered)
+        .wrapping_add(counts.refused)
+        .wrapping_add(counts.skipped)
+        .wrapping_add(counts.unclosed)
 }
 
 fn put_counts(text: &mut [u8], at: usize, counts: Counts) -> usize
@@ -198,10 +183,7 @@ fn put_counts(text: &mut [u8], at: usize, counts: Counts) -> usize
 pub fn put_closing(text: &mut [u8], at: usize, counts: Counts) -> usize
     ensures { PutsClosing text.old at counts result text.new }
 {
-    if text.len() < 109 {
-        return at;
-    }
-    if text.len() - 109 < at {
+    if text.len() < 109 || text.len() - 109 < at {
         return at;
     }
     put_counts(text, at, counts)

@@ -1,3 +1,4 @@
+pub mod Answered
 pub mod Stretch
 pub mod Reached
 pub mod Cut

@@ -4,25 +4,13 @@ use mathlib.Core.List.{List, [], ◌∷◌, map}
 use Prim.Native.Nat.{suc}
 use lib.ListN.{length}
 use Rattle.crc_polynomial.specs.Polynomial.{Octets}
-use Rattle.ucp_frame.specs.Stretch.{Verdict, silent, refused, delivered}
-use Rattle.ucp_receiver.specs.declared.Answer.{Answer}
-use Rattle.ucp_receiver.specs.declared.Answer.TheVariants.{Nothing, Delivered, Refused}
 use Rattle.ucp_receiver.specs.declared.Counts.{Counts}
 use Rattle.ucp_receiver.specs.Account.{zero_counts}
-use Rattle.ucp_receiver.specs.Answers.{receiver_answer, answer_for, output_at_flag}
+use Rattle.ucp_receiver.specs.Answers.{output_at_flag}
 use Rattle.ucp_receiver.specs.Octet.{State, fresh, state_after, verdict_due, counts_after}
 use Rattle.thm_ucp_receiver.specs.Line.{Observed, Meets, Runs}
 use Rattle.thm_ucp_receiver.specs.Lines.{Handed, handed_to, EveryLine}
-
-abbrev pub answer_given : Verdict → Answer
-answer_given silent = Nothing
-answer_given (refused number) = Refused number
-answer_given (delivered octets) = Delivered (length octets)
-
-pub answer_same : (v : Verdict) → receiver_answer (answer_given v) ≡ answer_for v
-answer_same silent = refl
-answer_same (refused number) = refl
-answer_same (delivered octets) = refl
+use Rattle.thm_ucp_receiver.proofs.Answered.{due_told}
 
 -- the call that the contract asks for
 abbrev pub called : State → Counts → Handed → Observed
@@ -32,7 +20,7 @@ called s c h =
       output = h.output;
       given = record {
         receiver = record { rest = (state_after s h.octet).rest; counts = counts_after c s h.octet (length h.output) };
-        answer = answer_given (verdict_due s h.octet (length h.output));
+        answer = (due_told s h.octet (length h.output)).answer;
       };
       store_after = (state_after s h.octet).store;
       output_then = output_at_flag (verdict_due s h.octet (length h.output)) h.output;
@@ -44,7 +32,7 @@ run s c (h ∷ hs) = called s c h ∷ run (state_after s h.octet) (counts_after 
 
 pub called_receives : (s : State) (c : Counts) (h : Handed) → Meets (record { rest = s.rest; counts = c }) s.store (called s c h)
 called_receives s c h =
-    record { state = refl; account = refl; answers = answer_same (verdict_due s h.octet (length h.output)); puts = refl }
+    record { state = refl; account = refl; answers = (due_told s h.octet (length h.output)).tells; puts = refl }
 
 runs : (s : State) (c : Counts) (hs : List Handed) → Octets (map (λ (h : Handed). h.octet) hs) → Runs (record { rest = s.rest; counts = c }) s.store (run s c hs)
 runs s c [] o = tt

@@ -10,13 +10,12 @@ use Rattle.ucp_frame.specs.Frame.{flag}
 use Rattle.ucp_frame.specs.Stretch.{Verdict, silent, refused, delivered}
 use Rattle.ucp_receiver.specs.declared.Counts.{Counts}
 use Rattle.ucp_receiver.specs.declared.Record.{Record}
-use Rattle.ucp_receiver.specs.declared.Answer.{Answer}
-use Rattle.ucp_receiver.specs.declared.Answer.TheVariants.{Nothing, Delivered, Refused}
-use Rattle.ucp_receiver.specs.Answers.{ReceiverAnswer, nothing, refusal, body, receiver_answer, answer_for, output_at_flag}
+use Rattle.ucp_receiver.specs.Answers.{Answer, ReceiverAnswer, nothing, receiver_answer, answer_for, output_at_flag}
 use Rattle.ucp_receiver.specs.Octet.{State, no_octets, fresh_record, after_flag, state_after, verdict_due, counts_after}
 use Rattle.ucp_receiver.specs.Slice.{SliceRun, later, end_at, slice_run}
 use Rattle.thm_ucp_receiver.specs.Line.{Observed, Meets, Runs, Line}
 use Rattle.thm_ucp_receiver.specs.Slice.{state_over, answers_over, last_of, TakenAs, SliceIsOctets, ObservedSlice, rooms_of, Held, record_after, output_last, Lent, AnswersLast, CallsOf, SliceRuns, SliceFlagClears, SlicesRun, CallsUpTo, LineOfSlices, AllSilent, SliceIsCall}
+use Rattle.thm_ucp_receiver.proofs.Answered.{due_told}
 use Rattle.thm_ucp_receiver.proofs.Stretch.{refused_answers, delivered_answers}
 
 last_silent : (vs : List Verdict) → last_of (silent ∷ vs) ≡ last_of vs
@@ -105,22 +104,6 @@ slice_flag_clears receiver store line output given store_after output_then earli
 
 -- ---- the calls by the octet
 
--- the answer that says this
-abbrev answer_to : ReceiverAnswer → Answer
-answer_to nothing = Nothing
-answer_to (refusal number) = Refused number
-answer_to (body octets) = Delivered octets
-
-tells : (t : ReceiverAnswer) → receiver_answer (answer_to t) ≡ t
-tells nothing = refl
-tells (refusal number) = refl
-tells (body octets) = refl
-
-answer_once : (a : Answer) → a ≡ answer_to (receiver_answer a)
-answer_once Nothing = refl
-answer_once (Refused number) = refl
-answer_once (Delivered octets) = refl
-
 abbrev record_of : State → Counts → Record
 record_of s c = record { rest = s.rest; counts = c }
 
@@ -132,24 +115,24 @@ called s c x output =
       octet = x;
       output = output;
       given =
-          record { receiver = record_of (state_after s x) (counts_after c s x (length output)); answer = answer_to (answer_for v) };
+          record { receiver = record_of (state_after s x) (counts_after c s x (length output)); answer = (due_told s x (length output)).answer };
       store_after = (state_after s x).store;
       output_then = output_at_flag v output;
     }
 
-abbrev called_with : List ℕ → List ℕ → SliceRun → ObservedSlice
-called_with xs output r =
+abbrev called_with : List ℕ → List ℕ → SliceRun → Answer → ObservedSlice
+called_with xs output r answer =
     record {
       line = xs;
       output = output;
       given =
-          record { receiver = record_of r.state r.counts; answer = answer_to (answer_for r.verdict); taken = r.taken };
+          record { receiver = record_of r.state r.counts; answer = answer; taken = r.taken };
       store_after = r.state.store;
       output_then = output_at_flag r.verdict output;
     }
 
 meets : (s : State) (c : Counts) (x : ℕ) (output : List ℕ) → Meets (record_of s c) s.store (called s c x output)
-meets s c x output = record { state = refl; account = refl; answers = tells _; puts = refl }
+meets s c x output = record { state = refl; account = refl; answers = (due_told s x (length output)).tells; puts = refl }
 
 -- an answer that says nothing is due to silence
 pub silence_due : (v : Verdict) → answer_for v ≡ nothing → v ≡ silent
@@ -167,10 +150,13 @@ module _ (s : State) (c : Counts) (x : ℕ) (xs : List ℕ) (output : List ℕ) 
   abbrev first : Observed
   first = called s c x output
 
-  call_then : (r : SliceRun) → verdict_due s x (length output) ≡ silent
-      → CallsOf (record_of (state_after s x) (counts_after c s x (length output))) (state_after s x).store (called_with xs output r)
-      → CallsOf (record_of s c) s.store (called_with (x ∷ xs) output (later r))
-  call_then r e k =
+  tells : receiver_answer first.given.answer ≡ answer_for (verdict_due s x (length output))
+  tells = (due_told s x (length output)).tells
+
+  call_then : (r : SliceRun) (answer : Answer) → verdict_due s x (length output) ≡ silent
+      → CallsOf (record_of (state_after s x) (counts_after c s x (length output))) (state_after s x).store (called_with xs output r answer)
+      → CallsOf (record_of s c) s.store (called_with (x ∷ xs) output (later r) answer)
+  call_then r answer e k =
       rw (add-one r.taken)
       (record {
         calls = first ∷ k.calls;
@@ -180,16 +166,16 @@ module _ (s : State) (c : Counts) (x : ℕ) (xs : List ℕ) (output : List ℕ) 
         lent = (refl, subst (λ (l : List ℕ). Lent l k.calls) (sym same) k.lent);
         leaves = k.leaves;
         puts = ap (λ (l : List ℕ). output_last l k.calls) same ∙ k.puts;
-        answers = silent_first _ first k.calls (tells _ ∙ ap answer_for e) k.answers;
+        answers = silent_first _ first k.calls (tells ∙ ap answer_for e) k.answers;
         all = λ n. ap suc (k.all n);
       })
     where
       same : first.output_then ≡ output
       same = ap (λ (v : Verdict). output_at_flag v output) e
 
-  call_only : (verdict_due s x (length output) ≡ silent → ⊥)
-      → CallsOf (record_of s c) s.store (called_with (x ∷ xs) output (stopped s c x xs (length output)))
-  call_only n =
+  call_only : (answer : Answer) → receiver_answer answer ≡ answer_for (verdict_due s x (length output)) → (verdict_due s x (length output) ≡ silent → ⊥)
+      → CallsOf (record_of s c) s.store (called_with (x ∷ xs) output (stopped s c x xs (length output)) answer)
+  call_only answer told n =
       record {
         calls = first ∷ [];
         runs = (small, meets s c x output, tt);
@@ -198,22 +184,24 @@ module _ (s : State) (c : Counts) (x : ℕ) (xs : List ℕ) (output : List ℕ) 
         lent = (refl, tt);
         leaves = refl;
         puts = refl;
-        answers = refl;
-        all = λ e. absurd (n (silence_due _ (sym (tells _) ∙ e)));
+        answers = tells ∙ sym told;
+        all = λ e. absurd (n (silence_due _ (sym told ∙ e)));
       }
 
-  calls_by_answer : (r : SliceRun)
-      → CallsOf (record_of (state_after s x) (counts_after c s x (length output))) (state_after s x).store (called_with xs output r)
+  calls_by_answer : (r : SliceRun) (answer : Answer)
+      → (receiver_answer answer ≡ answer_for r.verdict → CallsOf (record_of (state_after s x) (counts_after c s x (length output))) (state_after s x).store (called_with xs output r answer))
       → (v : Verdict) → verdict_due s x (length output) ≡ v
-      → CallsOf (record_of s c) s.store (called_with (x ∷ xs) output (end_at v (stopped s c x xs (length output)) (later r)))
-  calls_by_answer r k silent e = call_then r e k
-  calls_by_answer r k (refused number) e = call_only (λ n. refused_answers number (sym e ∙ n))
-  calls_by_answer r k (delivered octets) e = call_only (λ n. delivered_answers octets (sym e ∙ n))
+      → receiver_answer answer ≡ answer_for (end_at v (stopped s c x xs (length output)) (later r)).verdict
+      → CallsOf (record_of s c) s.store (called_with (x ∷ xs) output (end_at v (stopped s c x xs (length output)) (later r)) answer)
+  calls_by_answer r answer k silent e told = call_then r answer e (k told)
+  calls_by_answer r answer k (refused number) e told = call_only answer told (λ n. refused_answers number (sym e ∙ n))
+  calls_by_answer r answer k (delivered octets) e told = call_only answer told (λ n. delivered_answers octets (sym e ∙ n))
 
-calls_of_run : (s : State) (c : Counts) (xs output : List ℕ) → Octets xs
-    → CallsOf (record_of s c) s.store (called_with xs output (slice_run s c xs (length output)))
+calls_of_run : (s : State) (c : Counts) (xs output : List ℕ) (answer : Answer) → Octets xs
+    → receiver_answer answer ≡ answer_for (slice_run s c xs (length output)).verdict
+    → CallsOf (record_of s c) s.store (called_with xs output (slice_run s c xs (length output)) answer)
 unfolding slice_run
-calls_of_run s c [] output small =
+calls_of_run s c [] output answer small told =
     record {
       calls = [];
       runs = tt;
@@ -222,30 +210,25 @@ calls_of_run s c [] output small =
       lent = tt;
       leaves = refl;
       puts = refl;
-      answers = refl;
+      answers = sym told;
       all = λ n. refl;
     }
-calls_of_run s c (x ∷ xs) output small =
-    calls_by_answer s c x xs output (small 0) _
-    (calls_of_run (state_after s x) (counts_after c s x (length output)) xs output (λ i. small (suc i))) (verdict_due s x (length output)) refl
+calls_of_run s c (x ∷ xs) output answer small told =
+    calls_by_answer s c x xs output (small 0) _ answer
+    (calls_of_run (state_after s x) (counts_after c s x (length output)) xs output answer (λ i. small (suc i))) (verdict_due s x (length output)) refl told
 
 pub slice_runs : SliceRuns
 slice_runs receiver store s t =
     subst (CallsOf receiver store) (sym same)
-    (calls_of_run (record { rest = receiver.rest; store = store }) receiver.counts s.line s.output t.0)
+    (calls_of_run (record { rest = receiver.rest; store = store }) receiver.counts s.line s.output s.given.answer t.0 t.1.answers)
   where
-    same : s ≡ called_with s.line s.output (slice_run (record { rest = receiver.rest; store = store }) receiver.counts s.line (length s.output))
+    same : s ≡ called_with s.line s.output (slice_run (record { rest = receiver.rest; store = store }) receiver.counts s.line (length s.output)) s.given.answer
     same =
         λ i.
         record {
           line = s.line;
           output = s.output;
-          given =
-              record {
-                receiver = record { rest = (t.1.state i).rest; counts = t.1.account i };
-                answer = (answer_once s.given.answer ∙ ap answer_to t.1.answers) i;
-                taken = t.1.taken i;
-              };
+          given = record { receiver = record { rest = (t.1.state i).rest; counts = t.1.account i }; answer = s.given.answer; taken = t.1.taken i };
           store_after = (t.1.state i).store;
           output_then = t.1.puts i;
         }

@@ -1,8 +1,12 @@
 -- The receiver's answer in the paper's terms, and what it leaves in the output. Assumes nothing.
-use Rattle.std.specs.Prelude.{ℕ, List, ◌++◌, length, take, drop}
+use Rattle.std.specs.Prelude.{ℕ, List, ◌++◌, length, take, drop, Option, None, Some, Result, Ok, Err}
+use Rattle.refusals.specs.declared.Refusal.{Refusal}
+use Rattle.refusals.specs.Refusals.{refusal_number}
 use Rattle.ucp_frame.specs.Stretch.{Verdict, silent, refused, delivered}
-use Rattle.ucp_receiver.specs.declared.Answer.{Answer}
-use Rattle.ucp_receiver.specs.declared.Answer.TheVariants.{Nothing, Delivered, Refused}
+
+-- no answer, how many octets were delivered, or why there are none
+abbrev pub Answer : Type 0
+Answer = Option (Result ℕ Refusal)
 
 -- the paper's number and values of each case of the answer; a body is given by its length, and stands in the output
 pub data ReceiverAnswer : Type 0 where
@@ -11,9 +15,9 @@ pub data ReceiverAnswer : Type 0 where
   body : ℕ → ReceiverAnswer
 
 abbrev pub receiver_answer : Answer → ReceiverAnswer
-receiver_answer Nothing = nothing
-receiver_answer (Refused number) = refusal number
-receiver_answer (Delivered octets) = body octets
+receiver_answer None = nothing
+receiver_answer (Some (Err why)) = refusal (refusal_number why)
+receiver_answer (Some (Ok octets)) = body octets
 
 abbrev pub answer_for : Verdict → ReceiverAnswer
 answer_for silent = nothing
@@ -22,9 +26,9 @@ answer_for (delivered octets) = body (length octets)
 
 -- the verdict that an answer stands for, while these octets hold the body
 abbrev pub verdict_of : Answer → List ℕ → Verdict
-verdict_of Nothing store = silent
-verdict_of (Refused number) store = refused number
-verdict_of (Delivered octets) store = delivered (take octets store)
+verdict_of None store = silent
+verdict_of (Some (Err why)) store = refused (refusal_number why)
+verdict_of (Some (Ok octets)) store = delivered (take octets store)
 
 -- a body is put at the start of the output; a refusal, and a call without an answer, change nothing in it
 abbrev pub output_at_flag : Verdict → List ℕ → List ℕ

@@ -2,8 +2,7 @@
 use Rattle.std.specs.Prelude.{◌≡◌, ℕ, cond, List, take, ◌==◌, nat_lt}
 use Rattle.refusals.specs.Numbers as because
 use Rattle.ucp_frame.specs.Stretch.{Verdict, silent, refused, store_octets, at_flag}
-use Rattle.ucp_receiver.specs.declared.Answer.{Answer}
-use Rattle.ucp_receiver.specs.Answers.{receiver_answer, answer_for, verdict_of, output_at_flag}
+use Rattle.ucp_receiver.specs.Answers.{Answer, receiver_answer, answer_for, verdict_of, output_at_flag}
 
 -- a stretch without a fault, by how many octets are stored; over 438 are in no record that a fresh one leads to
 abbrev pub closed_stretch : ℕ → List ℕ → ℕ → Verdict

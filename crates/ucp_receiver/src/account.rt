@@ -22,28 +22,21 @@ pub(crate) fn zero_counts() -> Counts
 pub(crate) fn count_flag(counts: Counts, answer: Answer) -> Counts
     ensures { (store : List ℕ) → result ≡ counted_flag (verdict_of answer store) counts }
 {
-    let flags = std::num::wrapping_add_u32(counts.flags, 1);
+    let closed = counts.unclosed;
+    let counts = Counts {
+        flags: counts.flags.wrapping_add(1),
+        unclosed: 0,
+        ..counts
+    };
     match answer {
-        Answer::Nothing => Counts {
-            flags,
-            delivered: counts.delivered,
-            refused: counts.refused,
-            skipped: counts.skipped,
-            unclosed: 0,
+        None => counts,
+        Some(Ok(_)) => Counts {
+            delivered: counts.delivered.wrapping_add(closed),
+            ..counts
         },
-        Answer::Delivered(_) => Counts {
-            flags,
-            delivered: std::num::wrapping_add_u32(counts.delivered, counts.unclosed),
-            refused: counts.refused,
-            skipped: counts.skipped,
-            unclosed: 0,
-        },
-        Answer::Refused(_) => Counts {
-            flags,
-            delivered: counts.delivered,
-            refused: std::num::wrapping_add_u32(counts.refused, counts.unclosed),
-            skipped: counts.skipped,
-            unclosed: 0,
+        Some(Err(_)) => Counts {
+            refused: counts.refused.wrapping_add(closed),
+            ..counts
         },
     }
 }
@@ -60,11 +53,8 @@ pub(crate) fn count_skipped(counts: Counts, n: usize) -> Counts
     ensures { result ≡ repeated counted_skipped n counts }
 {
     Counts {
-        flags: counts.flags,
-        delivered: counts.delivered,
-        refused: counts.refused,
-        skipped: std::num::wrapping_add_u32(counts.skipped, rounded(n)),
-        unclosed: counts.unclosed,
+        skipped: counts.skipped.wrapping_add(rounded(n)),
+        ..counts
     }
 }
 
@@ -73,10 +63,7 @@ pub(crate) fn count_open(counts: Counts, n: usize) -> Counts
     ensures { result ≡ repeated counted_open n counts }
 {
     Counts {
-        flags: counts.flags,
-        delivered: counts.delivered,
-        refused: counts.refused,
-        skipped: counts.skipped,
-        unclosed: std::num::wrapping_add_u32(counts.unclosed, rounded(n)),
+        unclosed: counts.unclosed.wrapping_add(rounded(n)),
+        ..counts
     }
 }

@@ -1,82 +1,70 @@
 // The flag that closes a stretch without a fault: the answer that is due by the stored octets, and the body put out where it is
 // one.
-ghost use Rattle.std.specs.Prelude.{◌≡◌, ◌+◌, ◌*◌, ◌<◌, ◌≤◌, ◌++◌, length, take, drop, slice_index};
-ghost use Rattle.ucp_frame.specs.Stretch.{at_flag};
+ghost use Rattle.std.specs.Prelude.{◌≡◌, ◌≤◌, length};
+ghost use Rattle.ucp_frame.specs.Stretch.{at_flag, check_sent};
 ghost use Rattle.ucp_receiver.specs.Closing.{closed_stretch, Closes};
-ghost use Rattle.ucp_receiver.specs.Steps.{Judges};
+ghost use Rattle.ucp_receiver.specs.Steps.{Judges, PutsOut};
 
 use super::{Answer, Store};
-
-fn wide(octet: u8) -> u16
-    ensures { result ≡ octet }
-{
-    octet as u16
-}
+use refusals::Refusal;
 
 // The check that was sent, low octet first.
-fn check_sent(store: &[u8], at: usize) -> u16
-    requires { at + 1 < length store.now }
-    ensures { result ≡ slice_index store.now at + slice_index store.now (at + 1) * 256 }
+fn check_sent(octets: &[u8]) -> u16
+    requires { 2 ≤ length octets.now }
+    ensures { result ≡ check_sent octets.now }
 {
-    wide(store[at]) + wide(store[at + 1]) * 256
+    let n = octets.len();
+    u16::from_le_bytes([octets[n - 2], octets[n - 1]])
 }
 
-// Refusals 4, 5 and 6 in their order, or how long the body is that is due.
-fn judge(store: &[u8], stored: usize, room: usize) -> Answer
-    requires { stored ≤ length store.now }
-    ensures { Judges result store.now room (at_flag (take stored store.now) room) }
+// How long the body is that is due for the unstuffed octets of a stretch, or refusal 4, 5 or 6, in their order.
+fn judge(octets: &[u8], room: usize) -> Result<usize, Refusal>
+    ensures { Judges result octets.now room (at_flag octets.now room) }
 {
-    if stored < 3 {
-        return Answer::Refused(refusals::TOO_SHORT);
+    if octets.len() < 3 {
+        return Err(Refusal::TooShort);
     }
-    let n = stored - 2;
-    let sent = check_sent(store, n);
-    let check = crc_gdl90::frame_check_by_shifts(&store[..n]);
+    let n = octets.len() - 2;
+    let sent = check_sent(octets);
+    let check = crc_gdl90::frame_check_by_shifts(&octets[..n]);
     if sent != check {
-        return Answer::Refused(refusals::WRONG_CHECK);
+        return Err(Refusal::WrongCheck);
     }
     if room < n {
-        return Answer::Refused(refusals::ROOM);
+        return Err(Refusal::Room);
     }
-    Answer::Delivered(n)
+    Ok(n)
 }
 
-// A stretch without a fault up to its flag. `stored` is over 438 in no record that a fresh one leads to.
-fn judge_stretch(store: &Store, stored: usize, room: usize) -> Answer
-    ensures { Judges result store.now room (closed_stretch stored store.now room) }
+// Copies octets over as many others.
+// Stays: a loop, since `copy_from_slice` calls C's memmove, and the archive calls memcpy and memset at most: that is C's interface.
+pub(crate) fn copy(octets: &[u8], output: &mut [u8])
+    requires { length octets.now ≡ length output.old }
+    ensures { output.new ≡ octets.now }
 {
-    if stored == 0 {
-        return Answer::Nothing;
+    for i in 0..octets.len() {
+        output[i] = octets[i];
     }
-    if super::STORE_OCTETS < stored {
-        return Answer::Refused(refusals::TOO_LONG);
-    }
-    judge(store, stored, room)
 }
 
-// The first n stored octets, put at the start of the output.
-fn deliver(store: &[u8], n: usize, output: &mut [u8])
-    requires { (n ≤ length store.now) × (n ≤ length output.old) }
-    ensures { output.new ≡ take n store.now ++ drop n output.old }
+// The same, with the body put at the start of the output where one is due.
+fn put_out(octets: &[u8], output: &mut [u8]) -> Result<usize, Refusal>
+    ensures { PutsOut result octets.now output.old output.new (at_flag octets.now (length output.old)) }
 {
-    let mut i = 0;
-    while i < n {
-        output[i] = store[i];
-        i += 1;
-    }
+    let n = judge(octets, output.len())?;
+    copy(&octets[..n], &mut output[..n]);
+    Ok(n)
 }
 
-// The answer at the flag, with the body put out where one is due.
+// The answer at the flag, with the body put out where one is due. `stored` is over 438 in no record that a fresh one leads to.
 pub(crate) fn close_stretch(store: &Store, stored: usize, output: &mut [u8]) -> Answer
     ensures { Closes result store.now output.old output.new (closed_stretch stored store.now (length output.old)) }
 {
-    let answer = judge_stretch(store, stored, output.len());
-    match answer {
-        Answer::Nothing => answer,
-        Answer::Refused(_) => answer,
-        Answer::Delivered(octets) => {
-            deliver(store, octets, output);
-            answer
-        }
+    if stored == 0 {
+        return None;
     }
+    if super::STORE_OCTETS < stored {
+        return Some(Err(Refusal::TooLong));
+    }
+    Some(put_out(&store[..stored], output))
 }

@@ -6,10 +6,12 @@ ghost use Rattle.ucp_receiver.specs.Octet.{Receives, storing, advanced_in, close
 ghost use Rattle.ucp_receiver.specs.Steps.{Advances};
 
 use super::{Answer, Counts, Phase, Received, Record, Rest, Store};
+use refusals::Refusal;
 
 // ---- an octet other than the flag
 
 // An unstuffed octet is stored behind the others; the 439th is a fault.
+#[tactic(auto, unfolding(crate::specs::Octet::storing))]
 fn put(rest: Rest, store: &mut Store, octet: u8) -> Rest
     ensures { state_of result store.new ≡ storing octet (state_of rest store.old) }
 {
@@ -23,7 +25,7 @@ fn put(rest: Rest, store: &mut Store, octet: u8) -> Rest
     } else {
         Rest {
             phase: Phase::TooLong,
-            stored: at,
+            ..rest
         }
     }
 }
@@ -32,15 +34,13 @@ fn put(rest: Rest, store: &mut Store, octet: u8) -> Rest
 fn unescape(rest: Rest, store: &mut Store, octet: u8) -> Rest
     ensures { state_of result store.new ≡ advanced_in Phase.Escape octet (state_of rest store.old) }
 {
-    if octet == 0x5E {
-        put(rest, store, 0x7E)
-    } else if octet == 0x5D {
-        put(rest, store, 0x7D)
-    } else {
-        Rest {
+    match octet {
+        0x5E => put(rest, store, 0x7E),
+        0x5D => put(rest, store, 0x7D),
+        _ => Rest {
             phase: Phase::BadEscape,
-            stored: rest.stored,
-        }
+            ..rest
+        },
     }
 }
 
@@ -48,22 +48,19 @@ fn unescape(rest: Rest, store: &mut Store, octet: u8) -> Rest
 fn advance(rest: Rest, store: &mut Store, octet: u8) -> Rest
     ensures { state_of result store.new ≡ advanced_in rest.phase octet (state_of rest store.old) }
 {
-    let phase = rest.phase;
-    match phase {
-        Phase::Hunting => rest,
+    match rest.phase {
         Phase::Reading => {
             if octet == 0x7D {
                 Rest {
                     phase: Phase::Escape,
-                    stored: rest.stored,
+                    ..rest
                 }
             } else {
                 put(rest, store, octet)
             }
         }
         Phase::Escape => unescape(rest, store, octet),
-        Phase::BadEscape => rest,
-        Phase::TooLong => rest,
+        Phase::Hunting | Phase::BadEscape | Phase::TooLong => rest,
     }
 }
 
@@ -73,14 +70,12 @@ fn advance(rest: Rest, store: &mut Store, octet: u8) -> Rest
 fn close(rest: Rest, store: &Store, output: &mut [u8]) -> Answer
     ensures { Closes result store.now output.old output.new (closed_in rest.phase (state_of rest store.now) (length output.old)) }
 {
-    let phase = rest.phase;
-    let stored = rest.stored;
-    match phase {
-        Phase::Hunting => Answer::Nothing,
-        Phase::Reading => super::closing::close_stretch(store, stored, output),
-        Phase::Escape => Answer::Refused(refusals::ESCAPE_BEFORE_FLAG),
-        Phase::BadEscape => Answer::Refused(refusals::BAD_ESCAPE),
-        Phase::TooLong => Answer::Refused(refusals::TOO_LONG),
+    match rest.phase {
+        Phase::Hunting => None,
+        Phase::Reading => super::closing::close_stretch(store, rest.stored, output),
+        Phase::Escape => Some(Err(Refusal::EscapeBeforeFlag)),
+        Phase::BadEscape => Some(Err(Refusal::BadEscape)),
+        Phase::TooLong => Some(Err(Refusal::TooLong)),
     }
 }
 
@@ -92,22 +87,20 @@ pub(crate) fn count_octets(counts: Counts, phase: Phase, n: usize) -> Counts
 {
     match phase {
         Phase::Hunting => super::account::count_skipped(counts, n),
-        Phase::Reading => super::account::count_open(counts, n),
-        Phase::Escape => super::account::count_open(counts, n),
-        Phase::BadEscape => super::account::count_open(counts, n),
-        Phase::TooLong => super::account::count_open(counts, n),
+        Phase::Reading | Phase::Escape | Phase::BadEscape | Phase::TooLong =>
+            super::account::count_open(counts, n),
     }
 }
 
 // ---- one octet
 
-// The flag: the answer is due, the store is cleared, and the next stretch begins.
-pub(crate) fn receive_flag(receiver: Record, store: &mut Store, output: &mut [u8]) -> Received
+// The flag: the answer is due, the store is cleared, and the next stretch begins. A function of its own in the compiled code too, so
+// that no caller carries it for every octet.
+#[inline(never)]
+fn receive_flag(receiver: Record, store: &mut Store, output: &mut [u8]) -> Received
     ensures { Receives receiver store.old 0x7E output.old result store.new output.new }
 {
-    let rest = receiver.rest;
-    let counts = receiver.counts;
-    let answer = close(rest, store, output);
+    let answer = close(receiver.rest, store, output);
     *store = [0; super::STORE_OCTETS];
     Received {
         receiver: Record {
@@ -115,29 +108,28 @@ pub(crate) fn receive_flag(receiver: Record, store: &mut Store, output: &mut [u8
                 phase: Phase::Reading, // whatever the last one was
                 stored: 0,
             },
-            counts: super::account::count_flag(counts, answer),
+            counts: super::account::count_flag(receiver.counts, answer),
         },
         answer,
     }
 }
 
-// Any other octet brings no answer. No crate but this calls it: here a flag would be stored as it is.
-pub(crate) fn receive_other(receiver: Record, store: &mut Store, octet: u8) -> Received
+// Any other octet brings no answer.
+fn receive_other(receiver: Record, store: &mut Store, octet: u8) -> Received
     ensures { Advances receiver store.old octet result store.new }
 {
-    let rest = receiver.rest;
-    let counts = receiver.counts;
-    let phase = rest.phase;
+    let Record { rest, counts } = receiver;
     Received {
         receiver: Record {
             rest: advance(rest, store, octet),
-            counts: count_octets(counts, phase, 1),
+            counts: count_octets(counts, rest.phase, 1),
         },
-        answer: Answer::Nothing,
+        answer: None,
     }
 }
 
-// One octet of the line, from any value of the record.
+// One octet of the line, from any value of the record. Inlined, since a call to it costs by the octet and by the slice alike.
+#[inline(always)]
 pub fn receive(receiver: Record, store: &mut Store, octet: u8, output: &mut [u8]) -> Received
     ensures { Receives receiver store.old octet output.old result store.new output.new }
 {

@@ -1,189 +1,135 @@
 // The receiver by the slice: what `receive` does octet by octet, up to and including the octet that brings the next answer.
-ghost use Rattle.ucp_frame.specs.Stretch.{store_octets};
-ghost use Rattle.std.specs.Prelude.{◌≡◌, ℕ, ◌+◌, ◌<◌, ◌≤◌, List, length};
-ghost use Rattle.ucp_receiver.specs.Octet.{Receives};
+ghost use Rattle.std.specs.Prelude.{◌≡◌, ◌≢◌, ℕ, ◌*◌, ◌<◌, ◌≤◌, List, length, take, drop, slice_index, true};
+ghost use Rattle.ucp_frame.specs.Frame.{flag, escape, stuffed};
 ghost use Rattle.ucp_receiver.specs.Slice.{Takes};
-ghost use Rattle.ucp_receiver.specs.Steps.{PutsPlain, NoFlag, Ignores, Passes, is_answer, Turns};
+ghost use Rattle.ucp_receiver.specs.Steps.{Plain, NoFlag, Ignores, Passes, Turns};
 
-use super::{Answer, Phase, Received, Record, Rest, Store, Taken};
+use super::{Phase, Record, Rest, Store, Taken};
 
-// How many octets of a slice were passed without a full step.
+// How many octets at the start of a line were passed without a full step.
 #[derive(Clone, Copy)]
 struct Passed {
     receiver: Record,
     taken: usize,
 }
 
-// How many octets there is room for in the store and that the slice has.
-fn most_plain(stored: usize, line: &[u8], from: usize) -> usize
-    requires { (stored ≤ store_octets) × (from ≤ length line.now) }
-    ensures { (stored + result ≤ store_octets) × (from + result ≤ length line.now) }
+// None of eight octets is a flag or an escape where it says so.
+fn is_plain(octets: &[u8]) -> bool
+    requires { length octets.now ≡ 8 }
+    ensures { result ≡ true → stuffed octets.now ≡ octets.now }
 {
-    let room = super::STORE_OCTETS - stored;
-    let left = line.len() - from;
-    if room < left { room } else { left }
+    ucp_stuffing::is_plain(field_words::little_64(octets, 0))
 }
 
-// The first of these octets, eight at a time, up to eight of which one may be a flag or an escape: how many.
-fn put_words(store: &mut Store, stored: usize, line: &[u8], from: usize, most: usize) -> usize
-    requires { (stored + most ≤ store_octets) × (from + most ≤ length line.now) }
-    ensures { (result ≤ most) × PutsPlain store.old stored line.now from result store.new }
+// How many times eight octets there are before eight of which one may be a flag or an escape.
+fn plain_words(line: &[u8]) -> usize
+    ensures within { result * 8 ≤ length line.now }
+    ensures plain { (i : ℕ) → i < result → stuffed (take 8 (drop (i * 8) line.now)) ≡ take 8 (drop (i * 8) line.now) }
 {
-    let mut n = 0;
-    while most - n > 7 {
-        let word = field_words::little_64(line, from + n);
-        if ucp_stuffing::is_plain(word) {
-            field_words::put_64(store, stored + n, word);
-            n += 8;
-        } else {
-            return n;
-        }
-    }
-    n
+    line.chunks_exact(8)
+        .take_while(|octets| is_plain(octets))
+        .count()
 }
 
-// Octets that are neither flag nor escape are stored as they are, up to the first other one: how many. Apart from the step
-// of `receive`, so that its loop is short.
-fn put_plain(store: &mut Store, stored: usize, line: &[u8], from: usize) -> usize
-    requires { (stored ≤ store_octets) × (from ≤ length line.now) }
-    ensures { PutsPlain store.old stored line.now from result store.new }
+// How many octets there are before the next flag or escape, or the end.
+fn plain_octets(line: &[u8]) -> usize
+    ensures within { result ≤ length line.now }
+    ensures not_flag { (i : ℕ) → i < result → slice_index line.now i ≢ flag }
+    ensures not_escape { (i : ℕ) → i < result → slice_index line.now i ≢ escape }
 {
-    let most = most_plain(stored, line, from);
-    let mut n = put_words(store, stored, line, from, most);
-    while n < most {
-        let octet = line[from + n];
-        if octet == 0x7D {
-            return n;
-        }
-        if octet == 0x7E {
-            return n;
-        }
-        store[stored + n] = octet;
-        n += 1;
-    }
-    n
+    line.iter()
+        .take_while(|octet| !ucp_stuffing::is_escaped(**octet))
+        .count()
 }
 
-// How many octets there are before the next flag, or the slice's end.
-fn to_flag(line: &[u8], from: usize) -> usize
-    requires { from ≤ length line.now }
-    ensures { NoFlag line.now from result }
+// The same, eight at a time as far as that goes.
+fn plain(line: &[u8]) -> usize
+    ensures { Plain line.now result }
 {
-    let left = line.len() - from;
-    let mut n = 0;
-    while n < left {
-        if line[from + n] == 0x7E {
-            return n;
-        }
-        n += 1;
-    }
-    n
+    let n = plain_words(line) * 8;
+    n + plain_octets(&line[n..])
+}
+
+// How many octets there are before the next flag, or the end.
+fn to_flag(line: &[u8]) -> usize
+    ensures { NoFlag line.now result }
+{
+    line.iter().take_while(|octet| **octet != 0x7E).count()
 }
 
 // The octets that a phase only counts.
-fn pass_ignored(receiver: Record, line: &[u8], from: usize) -> Passed
-    requires { (from ≤ length line.now) × Ignores receiver.rest.phase }
-    ensures { (store : List ℕ) → Passes receiver store line.now from result store }
+fn pass_ignored(receiver: Record, line: &[u8]) -> Passed
+    requires { Ignores receiver.rest.phase }
+    ensures { (store : List ℕ) → Passes receiver store line.now result store }
 {
-    let rest = receiver.rest;
-    let counts = receiver.counts;
-    let phase = rest.phase;
-    let n = to_flag(line, from);
+    let n = to_flag(line);
     Passed {
         receiver: Record {
-            rest,
-            counts: super::octet::count_octets(counts, phase, n),
+            counts: super::octet::count_octets(receiver.counts, receiver.rest.phase, n),
+            ..receiver
         },
         taken: n,
     }
 }
 
-// The octets that a stretch without a fault only stores.
-fn pass_plain(receiver: Record, store: &mut Store, line: &[u8], from: usize) -> Passed
-    requires { (from ≤ length line.now) × (receiver.rest.phase ≡ Phase.Reading) }
-    ensures { Passes receiver store.old line.now from result store.new }
+// The octets that a stretch without a fault only stores, as they are.
+fn pass_plain(receiver: Record, store: &mut Store, line: &[u8]) -> Passed
+    requires { receiver.rest.phase ≡ Phase.Reading }
+    ensures { Passes receiver store.old line.now result store.new }
 {
-    let rest = receiver.rest;
-    let counts = receiver.counts;
-    let stored = rest.stored;
-    if stored <= super::STORE_OCTETS {
-        let n = put_plain(store, stored, line, from);
-        Passed {
-            receiver: Record {
-                rest: Rest {
-                    phase: Phase::Reading,
-                    stored: stored + n,
-                },
-                counts: super::account::count_open(counts, n),
+    let Record { rest, counts } = receiver;
+    if super::STORE_OCTETS < rest.stored {
+        return Passed { receiver, taken: 0 };
+    }
+    let room = super::STORE_OCTETS - rest.stored;
+    let n = plain(&line[..line.len().min(room)]);
+    super::closing::copy(&line[..n], &mut store[rest.stored..rest.stored + n]);
+    Passed {
+        receiver: Record {
+            rest: Rest {
+                stored: rest.stored + n,
+                ..rest
             },
-            taken: n,
-        }
-    } else {
-        Passed { receiver, taken: 0 }
+            counts: super::account::count_open(counts, n),
+        },
+        taken: n,
     }
 }
 
-// Octets that need no full step, as many as there are at `from`.
-fn pass(receiver: Record, store: &mut Store, line: &[u8], from: usize) -> Passed
-    requires { from ≤ length line.now }
-    ensures { Passes receiver store.old line.now from result store.new }
+// Octets that need no full step, as many as the line begins with.
+fn pass(receiver: Record, store: &mut Store, line: &[u8]) -> Passed
+    ensures { Passes receiver store.old line.now result store.new }
 {
-    let rest = receiver.rest;
-    let phase = rest.phase;
-    match phase {
-        Phase::Hunting => pass_ignored(receiver, line, from),
-        Phase::Reading => pass_plain(receiver, store, line, from),
+    match receiver.rest.phase {
+        Phase::Hunting => pass_ignored(receiver, line),
+        Phase::Reading => pass_plain(receiver, store, line),
         Phase::Escape => Passed { receiver, taken: 0 },
-        Phase::BadEscape => pass_ignored(receiver, line, from),
-        Phase::TooLong => pass_ignored(receiver, line, from),
-    }
-}
-
-// One octet, by a full step: `super::octet::receive` written out. With two callers `receive_flag` stays a function of its own in
-// the compiled code, so that neither of them carries it for every octet.
-fn step(receiver: Record, store: &mut Store, octet: u8, output: &mut [u8]) -> Received
-    ensures { Receives receiver store.old octet output.old result store.new output.new }
-{
-    if octet == 0x7E {
-        super::octet::receive_flag(receiver, store, output)
-    } else {
-        super::octet::receive_other(receiver, store, octet)
+        Phase::BadEscape => pass_ignored(receiver, line),
+        Phase::TooLong => pass_ignored(receiver, line),
     }
 }
 
 // One turn: what needs no full step, and then one octet more.
-fn turn(receiver: Record, store: &mut Store, line: &[u8], from: usize, output: &mut [u8]) -> Taken
-    requires { from < length line.now }
-    ensures { Turns receiver store.old line.now from output.old result store.new output.new }
+fn turn(receiver: Record, store: &mut Store, line: &[u8], output: &mut [u8]) -> Taken
+    requires { 0 < length line.now }
+    ensures { Turns receiver store.old line.now output.old result store.new output.new }
 {
-    let passed = pass(receiver, store, line, from);
+    let passed = pass(receiver, store, line);
     let receiver = passed.receiver;
-    let at = from + passed.taken;
+    let at = passed.taken;
     if at < line.len() {
-        let received = step(receiver, store, line[at], output);
-        let receiver = received.receiver;
-        let answer = received.answer;
+        let received = super::octet::receive(receiver, store, line[at], output);
         Taken {
-            receiver,
-            answer,
-            taken: passed.taken + 1,
+            receiver: received.receiver,
+            answer: received.answer,
+            taken: at + 1,
         }
     } else {
         Taken {
             receiver,
-            answer: Answer::Nothing,
-            taken: passed.taken,
+            answer: None,
+            taken: at,
         }
-    }
-}
-
-fn answered(answer: Answer) -> bool
-    ensures { result ≡ is_answer answer }
-{
-    match answer {
-        Answer::Nothing => false,
-        Answer::Delivered(_) => true,
-        Answer::Refused(_) => true,
     }
 }
 
@@ -192,24 +138,21 @@ pub fn receive_slice(receiver: Record, store: &mut Store, line: &[u8], output: &
     ensures { Takes receiver store.old line.now output.old result store.new output.new }
 {
     let mut receiver = receiver;
-    let mut i = 0;
-    while i < line.len() {
-        let t = turn(receiver, store, line, i, output);
-        receiver = t.receiver;
-        i += t.taken;
-        let answer = t.answer;
-        let all = Taken {
-            receiver,
-            answer,
-            taken: i,
-        };
-        if answered(answer) {
-            return all;
+    let mut rest = line;
+    while !rest.is_empty() {
+        let turned = turn(receiver, store, rest, output);
+        receiver = turned.receiver;
+        rest = &rest[turned.taken..];
+        if turned.answer.is_some() {
+            return Taken {
+                taken: line.len() - rest.len(),
+                ..turned
+            };
         }
     }
     Taken {
         receiver,
-        answer: Answer::Nothing,
-        taken: i,
+        answer: None,
+        taken: line.len(),
     }
 }

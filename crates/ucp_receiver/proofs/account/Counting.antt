@@ -18,5 +18,5 @@ module _ (put : ℕ → Counts) (counted : Counts → Counts) (one : (k : ℕ) �
   many count zero h = ap put (none_more count h)
   many count (suc n) h = ap put (one_more count n) ∙ sym (one (plus count n)) ∙ ap counted (many count n h)
 
-  pub many_rounded : (count n by sum : ℕ) → count < 2 ^ 32 → by ≡ n % 2 ^ 32 → sum ≡ plus count by → put sum ≡ repeated counted n (put count)
-  many_rounded count n by sum h b s = ap put (s ∙ ap (plus count) b ∙ round count n) ∙ many count n h
+  pub many_rounded : (count n by : ℕ) → count < 2 ^ 32 → by ≡ n % 2 ^ 32 → put (plus count by) ≡ repeated counted n (put count)
+  many_rounded count n by h b = ap put (ap (plus count) b ∙ round count n) ∙ many count n h

@@ -1,17 +1,19 @@
 -- A run over a slice of the line, from some place of it on. Assumes nothing.
-use Rattle.std.proofs.Common.{◌≡◌, ℕ, zero, suc, ◌+◌, ◌<◌, ◌≤◌, true, false, List, ◌∷◌, length, get_or, drop, set, sym, refl, ap, ◌∙◌, add-zero, zero-add, add-one, arith, drop_of_length-le, drop-cons, lt-ltb, ne_eqb}
-use Rattle.ucp_frame.specs.Frame.{flag, escape}
+use Rattle.std.proofs.Common.{◌≡◌, ℕ, zero, suc, ◌+◌, ◌<◌, ◌≤◌, List, [], ◌∷◌, ◌++◌, length, length-take-le, get_or, take, drop, take-append-drop, take-take, set, sym, refl, ap, ◌∙◌, add-zero, zero-add, add-one, arith, drop-cons, lt-ltb, ne_eqb}
+use lib.Seq.{sets, sets-eq, paste}
+use Rattle.ucp_frame.specs.Frame.{flag, escape, stuffed}
 use Rattle.ucp_frame.specs.Stretch.{Verdict, silent, refused, delivered, store_octets}
+use Rattle.ucp_frame.proofs.Stuffing.{plain_first}
+use Rattle.ucp_receiver.specs.declared.Phase.{Phase}
 use Rattle.ucp_receiver.specs.declared.Phase.TheVariants.{Reading}
+use Rattle.ucp_receiver.specs.declared.Rest.{Rest}
 use Rattle.ucp_receiver.specs.declared.Record.{Record}
 use Rattle.ucp_receiver.specs.declared.Counts.{Counts}
-use Rattle.ucp_receiver.specs.declared.Answer.TheVariants.{Nothing, Delivered, Refused}
-use Rattle.ucp_receiver.specs.declared.Answer.{Answer}
 use Rattle.ucp_receiver.specs.declared.Taken.{Taken}
-use Rattle.ucp_receiver.specs.Answers.{receiver_answer, nothing, answer_for, output_at_flag}
+use Rattle.ucp_receiver.specs.Answers.{receiver_answer, answer_for, output_at_flag}
 use Rattle.ucp_receiver.specs.Octet.{State, state_after, verdict_due, counts_after, advanced_in, storing, counted_octet, counted_by, state_of}
 use Rattle.ucp_receiver.specs.Slice.{SliceRun, slice_run, later, end_at, Takes}
-use Rattle.ucp_receiver.specs.Steps.{reading, later_by, Ignores, is_answer, Turns}
+use Rattle.ucp_receiver.specs.Steps.{later_by, Plain, Ignores}
 
 abbrev taken_by : SliceRun → ℕ → SliceRun
 taken_by r n = record { state = r.state; counts = r.counts; taken = n; verdict = r.verdict }
@@ -21,14 +23,9 @@ later_by_later_by m n r =
     let e : r.taken + n + m ≡ r.taken + (m + n) = omega arith in
     ap (taken_by r) e
 
-pub none_later : (r : SliceRun) → r ≡ later_by 0 r
-none_later r = ap (taken_by r) (sym (add-zero r.taken))
-
 -- no octet is taken
-pub none_taken : (s : State) (line : List ℕ) (at : ℕ) (counts : Counts) (room : ℕ)
-    → slice_run s counts (drop at line) room ≡ later_by 0 (slice_run s counts (drop (at + 0) line) room)
-none_taken s line at counts room =
-    rw (add-zero at) (none_later (slice_run s counts (drop at line) room))
+pub none_taken : (r : SliceRun) → r ≡ later_by 0 r
+none_taken r = ap (taken_by r) (sym (add-zero r.taken))
 
 -- an octet other than the flag
 pub other_first : (s s' : State) (c : Counts) (x : ℕ) (xs : List ℕ) (room : ℕ) → (x ≡ flag → ⊥) → advanced_in s.rest.phase x s ≡ s'
@@ -37,37 +34,72 @@ unfolding slice_run state_after verdict_due counts_after
 other_first s s' c x xs room f e =
     rw (ne_eqb x flag f) (ap (λ (t : State). later (slice_run t (counted_octet s.rest.phase c) xs room)) e)
 
--- one such octet more
-pub other_more : (s s' : State) (line : List ℕ) (at n : ℕ) (counts : Counts) (room : ℕ)
-    → at + n < length line → (get_or line (at + n) 0 ≡ flag → ⊥) → advanced_in s.rest.phase (get_or line (at + n) 0) s ≡ s'
-    → later_by n (slice_run s (counted_by s.rest.phase n counts) (drop (at + n) line) room)
-    ≡ later_by (n + 1) (slice_run s' (counted_by s.rest.phase (n + 1) counts) (drop (at + (n + 1)) line) room)
-other_more s s' line at n counts room h f e =
-    let p = s.rest.phase in
-    let i : suc (at + n) ≡ at + (n + 1) = omega arith in
-    ap (λ (xs : List ℕ). later_by n (slice_run s (counted_by p n counts) xs room)) (drop-cons line (at + n) 0 h)
-    ∙ ap (later_by n) (other_first s s' (counted_by p n counts) (get_or line (at + n) 0) (drop (suc (at + n)) line) room f e)
-    ∙ later_by_later_by n 1 (slice_run s' (counted_by p (suc n) counts) (drop (suc (at + n)) line) room)
-    ∙ ap (λ (k : ℕ). later_by (n + 1) (slice_run s' (counted_by p k counts) (drop (suc (at + n)) line) room)) (sym (add-one n))
-    ∙ ap (λ (k : ℕ). later_by (n + 1) (slice_run s' (counted_by p (n + 1) counts) (drop k line) room)) i
+-- n octets counted, and then k
+counted_more : (p : Phase) (k n : ℕ) (c : Counts) → counted_by p k (counted_by p n c) ≡ counted_by p (n + k) c
+counted_more p zero n c = ap (λ (m : ℕ). counted_by p m c) (sym (add-zero n))
+counted_more p (suc k) n c =
+    let e : suc (n + k) ≡ n + suc k = omega arith in
+    ap (counted_octet p) (counted_more p k n c) ∙ ap (λ (m : ℕ). counted_by p m c) e
 
--- an octet that is stored as it is
-pub stores : (store : List ℕ) (stored n x : ℕ) → stored + n < store_octets → (x ≡ escape → ⊥)
-    → advanced_in Reading x (state_of (reading (stored + n)) store) ≡ state_of (reading (stored + (n + 1))) (set store (stored + n) x)
-unfolding storing
-stores store stored n x h e =
-    let i : stored + n + 1 ≡ stored + (n + 1) = omega arith in
-    rw (ne_eqb x escape e, lt-ltb (stored + n) store_octets h) (ap (λ (k : ℕ). state_of (reading k) (set store (stored + n) x)) i)
+-- one octet counted before n more
+counted_first : (s : State) (p : Phase) (n : ℕ) (c : Counts) (xs : List ℕ) (room : ℕ)
+    → later_by 1 (later_by n (slice_run s (counted_by p n (counted_octet p c)) xs room)) ≡ later_by (suc n) (slice_run s (counted_by p (suc n) c) xs room)
+counted_first s p n c xs room =
+    let all : 1 + n ≡ suc n = omega arith in
+    later_by_later_by 1 n (slice_run s (counted_by p n (counted_octet p c)) xs room)
+    ∙ ap (λ (d : Counts). later_by (1 + n) (slice_run s d xs room)) (counted_more p n 1 c)
+    ∙ ap (λ (m : ℕ). later_by m (slice_run s (counted_by p m c) xs room)) all
 
 -- octets that are only counted
-pub ignored : (s : State) → Ignores s.rest.phase → (line : List ℕ) (at n : ℕ) (counts : Counts) (room : ℕ) → at + n ≤ length line
-    → ((i : ℕ) → i < n → get_or line (at + i) 0 ≡ flag → ⊥)
-    → slice_run s counts (drop at line) room ≡ later_by n (slice_run s (counted_by s.rest.phase n counts) (drop (at + n) line) room)
-ignored s ignores line at zero counts room h f = none_taken s line at counts room
-ignored s ignores line at (suc n) counts room h f =
-    ignored s ignores line at n counts room (omega arith) (λ i l. f i (omega arith))
-    ∙ other_more s s line at n counts room (omega arith) (f n (omega arith)) (ignores (get_or line (at + n) 0) s)
-    ∙ ap (λ (k : ℕ). later_by k (slice_run s (counted_by s.rest.phase k counts) (drop (at + k) line) room)) (add-one n)
+pub ignored : (s : State) → Ignores s.rest.phase → (n : ℕ) (line : List ℕ) (counts : Counts) (room : ℕ) → n ≤ length line
+    → ((i : ℕ) → i < n → get_or line i 0 ≡ flag → ⊥)
+    → slice_run s counts line room ≡ later_by n (slice_run s (counted_by s.rest.phase n counts) (drop n line) room)
+ignored s ignores zero line counts room h f = none_taken (slice_run s counts line room)
+ignored s ignores (suc n) [] counts room h f = absurd (omega arith)
+ignored s ignores (suc n) (x ∷ xs) counts room h f =
+    other_first s s counts x xs room (f 0 (omega arith)) (ignores x s)
+    ∙ ap (later_by 1) (ignored s ignores n xs (counted_octet s.rest.phase counts) room (omega arith) (λ i l. f (suc i) (omega arith)))
+    ∙ counted_first s s.rest.phase n counts (drop n xs) room
+
+-- ---- octets that are stored as they are
+
+abbrev reading : ℕ → Rest
+reading stored = record { phase = Reading; stored = stored }
+
+stores : (store : List ℕ) (stored x : ℕ) → stored < store_octets → (x ≡ escape → ⊥)
+    → advanced_in Reading x (state_of (reading stored) store) ≡ state_of (reading (suc stored)) (set store stored x)
+unfolding storing
+stores store stored x h e =
+    rw (ne_eqb x escape e, lt-ltb stored store_octets h) (ap (λ (k : ℕ). state_of (reading k) (set store stored x)) (add-one stored))
+
+-- those that stuffing leaves as they are
+pub plain_run : (xs store : List ℕ) (stored : ℕ) (left : List ℕ) (counts : Counts) (room : ℕ) → stuffed xs ≡ xs → stored + length xs ≤ store_octets
+    → slice_run (state_of (reading stored) store) counts (xs ++ left) room
+    ≡ later_by (length xs) (slice_run (state_of (reading (stored + length xs)) (sets store stored xs)) (counted_by Reading (length xs) counts) left room)
+plain_run [] store stored left counts room e h = rw (add-zero stored) (none_taken (slice_run (state_of (reading stored) store) counts left room))
+plain_run (x ∷ xs) store stored left counts room e h =
+    let plain = plain_first x xs e in
+    let n = length xs in
+    let place : suc stored + n ≡ stored + suc n = omega arith in
+    let s : ℕ → State = λ k. state_of (reading k) (sets store stored (x ∷ xs)) in
+    other_first (state_of (reading stored) store) _ counts x (xs ++ left) room plain.0 (stores store stored x (omega arith) plain.1)
+    ∙ ap (later_by 1) (plain_run xs (set store stored x) (suc stored) left (counted_octet Reading counts) room plain.2 (omega arith))
+    ∙ counted_first (s (suc stored + n)) Reading n counts left room
+    ∙ ap (λ (k : ℕ). later_by (suc n) (slice_run (s k) (counted_by Reading (suc n) counts) left room)) place
+
+-- so many of the line, put behind those that are stored
+pub stored_run : (receiver : Record) (store line store_after : List ℕ) (n : ℕ) (counts : Counts) → receiver.rest.phase ≡ Reading → length store ≡ store_octets
+    → receiver.rest.stored + n ≤ store_octets → Plain line n → store_after ≡ paste store receiver.rest.stored (take n line) n
+    → counts ≡ counted_by Reading n receiver.counts → (room : ℕ)
+    → slice_run (state_of receiver.rest store) receiver.counts line room
+    ≡ later_by n (slice_run (state_of (record { phase = receiver.rest.phase; stored = receiver.rest.stored + n }) store_after) counts (drop n line) room)
+stored_run receiver store line store_after n counts p long fits plain e c room =
+    let stored = receiver.rest.stored in
+    let most : length (take n line) ≡ n = length-take-le n line plain.within in
+    let put : sets store stored (take n line) ≡ paste store stored (take n line) n =
+    rw (take-take n n line (omega arith)) (rw most at (sets-eq (take n line) store stored (omega arith))) in
+    let run = plain_run (take n line) store stored (drop n line) receiver.counts room plain.plain (omega arith) in
+    rw (p, e, c, ← put) (rw (take-append-drop, most) at run)
 
 -- ---- the octet that may bring an answer
 
@@ -85,98 +117,29 @@ stepped_first : (s s' : State) (c c' : Counts) (x : ℕ) (xs : List ℕ) (room :
 unfolding slice_run
 stepped_first s s' c c' x xs room e d = rw (e, d)
 
-pub stepped : (s s' : State) (c c' : Counts) (line : List ℕ) (at n : ℕ) (room : ℕ) → at + n < length line
-    → s' ≡ state_after s (get_or line (at + n) 0) → c' ≡ counts_after c s (get_or line (at + n) 0) room
-    → later_by n (slice_run s c (drop (at + n) line) room)
-    ≡ end_at (verdict_due s (get_or line (at + n) 0) room) (ended_by s' c' (n + 1) (verdict_due s (get_or line (at + n) 0) room))
-    (later_by (n + 1) (slice_run s' c' (drop (at + (n + 1)) line) room))
-stepped s s' c c' line at n room h e d =
-    let x = get_or line (at + n) 0 in
-    let xs = drop (suc (at + n)) line in
+pub stepped : (s s' : State) (c c' : Counts) (line : List ℕ) (n room : ℕ) → n < length line
+    → s' ≡ state_after s (get_or line n 0) → c' ≡ counts_after c s (get_or line n 0) room
+    → later_by n (slice_run s c (drop n line) room)
+    ≡ end_at (verdict_due s (get_or line n 0) room) (ended_by s' c' (n + 1) (verdict_due s (get_or line n 0) room))
+    (later_by (n + 1) (slice_run s' c' (drop (n + 1) line) room))
+stepped s s' c c' line n room h e d =
+    let x = get_or line n 0 in
+    let xs = drop (suc n) line in
     let due = verdict_due s x room in
-    let i : suc (at + n) ≡ at + (n + 1) = omega arith in
     let k : 1 + n ≡ n + 1 = omega arith in
-    ap (λ (l : List ℕ). later_by n (slice_run s c l room)) (drop-cons line (at + n) 0 h)
+    ap (λ (l : List ℕ). later_by n (slice_run s c l room)) (drop-cons line n 0 h)
     ∙ ap (later_by n) (stepped_first s s' c c' x xs room e d)
     ∙ later_by_end_at n due (ended_by s' c' 1 due) (later (slice_run s' c' xs room))
     ∙ ap (λ (m : ℕ). end_at due (ended_by s' c' m due) (later_by n (later (slice_run s' c' xs room)))) k
-    ∙ ap (end_at due (ended_by s' c' (n + 1) due)) (later_by_later_by n 1 (slice_run s' c' xs room) ∙ ap (λ (m : ℕ). later_by (n + 1) (slice_run s' c' (drop m line) room)) i)
+    ∙ ap (end_at due (ended_by s' c' (n + 1) due)) (later_by_later_by n 1 (slice_run s' c' xs room) ∙ ap (λ (m : ℕ). later_by (n + 1) (slice_run s' c' (drop m line) room)) (sym (add-one n)))
 
--- ---- a turn of the loop
-
-pub one_moved : (n : ℕ) → 0 < n + 1
-one_moved n = omega arith
-
-pub one_within : (at n : ℕ) {long : ℕ} → at + n < long → at + (n + 1) ≤ long
-one_within at n h = omega arith
-
-silent_due : (due : Verdict) → nothing ≡ answer_for due → due ≡ silent
-silent_due silent e = refl
-silent_due (refused number) e =
-    let z : ◌≡◌ {A = ℕ} 0 1 = cc in
-    absurd (omega arith)
-silent_due (delivered octets) e =
-    let z : ◌≡◌ {A = ℕ} 0 1 = cc in
-    absurd (omega arith)
-
--- what the test of an answer shows
-pub no_answer : (answer : Answer) → is_answer answer ≡ false → answer ≡ Nothing
-no_answer Nothing h = refl
-no_answer (Delivered octets) h =
-    let z : ◌≡◌ {A = ℕ} 0 1 = cc in
-    absurd (omega arith)
-no_answer (Refused number) h =
-    let z : ◌≡◌ {A = ℕ} 0 1 = cc in
-    absurd (omega arith)
-
-pub some_answer : (answer : Answer) → is_answer answer ≡ true → nothing ≡ receiver_answer answer → ⊥
-some_answer Nothing e h =
-    let z : ◌≡◌ {A = ℕ} 0 1 = cc in
-    omega arith
-some_answer (Delivered octets) e h =
-    let z : ◌≡◌ {A = ℕ} 0 1 = cc in
-    omega arith
-some_answer (Refused number) e h =
-    let z : ◌≡◌ {A = ℕ} 0 1 = cc in
-    omega arith
-
-ends : (due : Verdict) (ended goes_on : SliceRun) → (nothing ≡ answer_for due → ⊥) → end_at due ended goes_on ≡ ended
-ends silent ended goes_on h = absurd (h refl)
-ends (refused number) ended goes_on h = refl
-ends (delivered octets) ended goes_on h = refl
-
-module _ (whole : SliceRun) (receiver : Record) (store line : List ℕ) (at : ℕ) (output : List ℕ) (given : Taken) (store_after output_then : List ℕ)
-    (before : whole ≡ later_by at (slice_run (state_of receiver.rest store) receiver.counts (drop at line) (length output)))
-    (turns : Turns receiver store line at output given store_after output_then) where
-  abbrev next : SliceRun
-  next = slice_run (state_of given.receiver.rest store_after) given.receiver.counts (drop (at + given.taken) line) (length output)
-
-  -- without an answer the run goes on, and nothing was put out
-  pub turned_on : given.answer ≡ Nothing → (output_then ≡ output) × (whole ≡ later_by (at + given.taken) next)
-  turned_on e =
-      let d : turns.due ≡ silent = silent_due turns.due (sym (ap receiver_answer e) ∙ turns.answers) in
-      let ended = ended_by (state_of given.receiver.rest store_after) given.receiver.counts given.taken turns.due in (
-        turns.puts ∙ ap (λ (v : Verdict). output_at_flag v output) d,
-        before
-            ∙ ap (later_by at) (turns.runs ∙ ap (λ (v : Verdict). end_at v ended (later_by given.taken next)) d)
-            ∙ later_by_later_by at given.taken next,
-      )
-
-  -- an answer ends it
-  pub turned_out : (nothing ≡ receiver_answer given.answer → ⊥)
-      → whole ≡ ended_by (state_of given.receiver.rest store_after) given.receiver.counts (at + given.taken) turns.due
-  turned_out h =
-      let e : given.taken + at ≡ at + given.taken = omega arith in
-      before
-      ∙ ap (later_by at) (turns.runs ∙ ends turns.due _ _ (λ n. h (n ∙ sym turns.answers)))
-      ∙ ap (λ (n : ℕ). ended_by (state_of given.receiver.rest store_after) given.receiver.counts n turns.due) e
+-- ---- the loop
 
 -- the slice is used up
-pub used_up : (s : State) (counts : Counts) (line : List ℕ) (at room : ℕ) → length line ≤ at
-    → later_by at (slice_run s counts (drop at line) room) ≡ ended_by s counts at silent
+pub used_up : (s : State) (counts : Counts) (line : List ℕ) (n room : ℕ) → length line ≡ 0 → later_by n (slice_run s counts line room) ≡ ended_by s counts n silent
 unfolding slice_run
-used_up s counts line at room h =
-    rw (drop_of_length-le line h) (ap (λ (n : ℕ). ended_by s counts n silent) (zero-add at))
+used_up s counts [] n room h = ap (λ (k : ℕ). ended_by s counts k silent) (zero-add n)
+used_up s counts (x ∷ xs) n room h = absurd (omega arith)
 
 pub takes : (receiver : Record) (store line output : List ℕ) (given : Taken) (store_after output_then : List ℕ) (due : Verdict)
     → slice_run (state_of receiver.rest store) receiver.counts line (length output) ≡ ended_by (state_of given.receiver.rest store_after) given.receiver.counts given.taken due

@@ -9,4 +9,4 @@ pub returns : goal.returns
 returns c =
     let a = c.args in
     let put : ℕ → Counts = λ k. record { flags = a.counts.flags; delivered = a.counts.delivered; refused = a.counts.refused; skipped = a.counts.skipped; unclosed = k } in
-    many_rounded put counted_open (λ k. refl) a.counts.unclosed a.n c.rounded.result _ (search rules) c.rounded.ensures c.wrapping_add_u32.ensures.value
+    many_rounded put counted_open (λ k. refl) a.counts.unclosed a.n c.rounded.result (search rules) c.rounded.ensures
