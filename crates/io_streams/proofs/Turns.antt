@@ -1,17 +1,17 @@
 -- What every turn keeps: its octets are within the block, and fewer turns are left. Assumes nothing.
 use Rattle.std.proofs.Common.{◌≡◌, ℕ, ◌+◌, ◌-◌, ◌<◌, ◌≤◌, Bool, true, false, cond, eqb, sym, refl, ap, ◌∙◌, subst, arith}
-use Rattle.io_streams.specs.declared.Got.{Got}
-use Rattle.io_streams.specs.declared.Got.TheVariants.{Octets, Ended as NoMore, Failed as ReadFailed}
+use Rattle.std.specs.Prelude.{Result, Ok, Err, Option, Some, None}
+use Rattle.io_streams.specs.declared.StreamError.{StreamError}
 use Rattle.io_streams.specs.declared.Input.{Input}
 use Rattle.io_streams.specs.declared.Input.TheVariants.{More, Ended, Failed}
 use Rattle.io_streams.specs.declared.Turn.{Turn}
 use Rattle.io_streams.specs.Blocks.{WithinBlock}
 use Rattle.io_streams.specs.Turns.{Behind, over, AtEnd, ReadsBlock, BlockTurns, UnlessFailed}
 
-pub read_behind : (g : Got) (part held block : ℕ) → WithinBlock g part → held + part ≤ block → Behind g held block
-read_behind (Octets n) part held block w h = (omega (arith, w.0), w.1)
-read_behind NoMore part held block w h = tt
-read_behind ReadFailed part held block w h = tt
+pub read_behind : (r : Result (Option ℕ) StreamError) (part held block : ℕ) → WithinBlock r part → held + part ≤ block → Behind r held block
+read_behind (Ok (Some n)) part held block w h = (omega (arith, w.0), w.1)
+read_behind (Ok None) part held block w h = tt
+read_behind (Err e) part held block w h = tt
 
 pub record Onward (left block : ℕ) (t : Turn) : Type 0 where
   pub within : t.octets ≤ block

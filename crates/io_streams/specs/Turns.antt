@@ -1,16 +1,15 @@
 -- The turns of a program that works on its input block by block. Assumes nothing.
-use Rattle.std.specs.Prelude.{◌≡◌, ℕ, ◌+◌, ◌-◌, ◌<◌, ◌≤◌, Bool, true, false, cond, List, take, ◌==◌}
-use Rattle.io_streams.specs.declared.Got.{Got}
-use Rattle.io_streams.specs.declared.Got.TheVariants.{Octets, Ended as NoMore, Failed as ReadFailed}
+use Rattle.std.specs.Prelude.{◌≡◌, ℕ, ◌+◌, ◌-◌, ◌<◌, ◌≤◌, Bool, true, false, cond, List, take, ◌==◌, Result, Ok, Err, Option, Some, None}
+use Rattle.io_streams.specs.declared.StreamError.{StreamError}
 use Rattle.io_streams.specs.declared.Input.{Input}
 use Rattle.io_streams.specs.declared.Input.TheVariants.{More, Ended, Failed}
 use Rattle.io_streams.specs.declared.Turn.{Turn}
 
 -- octets that were read behind those held: some, and within the block
-abbrev pub Behind : Got → ℕ → ℕ → Type 0
-Behind (Octets n) held block = (held + n ≤ block) × (0 < n)
-Behind NoMore held block = Unit {0}
-Behind ReadFailed held block = Unit {0}
+abbrev pub Behind : Result (Option ℕ) StreamError → ℕ → ℕ → Type 0
+Behind (Ok (Some n)) held block = (held + n ≤ block) × (0 < n)
+Behind (Ok None) held block = Unit {0}
+Behind (Err e) held block = Unit {0}
 
 -- the octets held at the start of the block stay
 abbrev pub KeepsHeld : ℕ → List ℕ → List ℕ → Type 0

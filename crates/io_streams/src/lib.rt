@@ -5,8 +5,8 @@
 // shows the rest on the built programs.
 #![tactic(auto)]
 
-ghost use Rattle.std.specs.Prelude.{◌≡◌, ◌+◌, ◌%◌, ◌^◌, ◌<◌, ◌≤◌, min, length, take};
-ghost use Rattle.io_streams.specs.Blocks.{Zeroed, WithinBlock, WrittenIfEmpty, WritesFirst};
+ghost use Rattle.std.specs.Prelude.{◌≡◌, ◌<◌, ◌≤◌, min, length, take};
+ghost use Rattle.io_streams.specs.Blocks.{Zeroed, WithinBlock, WrittenIfEmpty, WritesSome, WritesFirst};
 ghost use Rattle.io_streams.specs.Gathering.{Gathers, WritesWaiting};
 ghost use Rattle.io_streams.specs.Turns.{Behind, KeepsHeld, over, has_ended, AtEnd, ReadsBlock, BlockTurns};
 
@@ -22,6 +22,10 @@ pub struct Streams {
     pub errors: Stderr,
 }
 
+// A read or a write failed. It is said on standard error by then.
+#[derive(Clone, Copy, Debug, PartialEq, Eq)]
+pub struct StreamError;
+
 // The words for an error. `Display` puts the system's number behind them, which is left out.
 fn words_of(text: &str) -> &str {
     match text.split_once(" (os error ") {
@@ -31,49 +35,36 @@ fn words_of(text: &str) -> &str {
 }
 
 // Says on standard error what failed, and the system's words for why. Where nothing can be said there, nothing is said.
-fn fail(streams: Streams, what: &str, error: Error) {
+fn fail(streams: Streams, what: &str, error: Error) -> StreamError {
     let mut room = [0u8; 320];
     let mut text = Cursor::new(&mut room[..]);
     let _ = write!(text, "{error}");
-    let n = least(text.position() as usize, 320);
+    let n = (text.position() as usize).min(320);
     let said = match str::from_utf8(&room[..n]) {
         Ok(said) => words_of(said),
         Err(_) => "",
     };
     let _ = streams.errors.println(format_args!("{what}: {said}"));
+    StreamError
 }
 
 // Whether there is more of the input.
-#[derive(Clone, Copy)]
+#[derive(Clone, Copy, Debug, PartialEq, Eq)]
 pub enum Input {
     More,
     Ended,
     Failed,
 }
 
-// What a read gave: octets at the start of the block; the input's end; a failure, which is said on standard error.
-#[derive(Clone, Copy)]
-pub enum Got {
-    Octets(usize),
-    Ended,
-    Failed,
-}
-
-pub fn read_block(streams: Streams, block: &mut [u8]) -> Got
+// Reads into a block: how many octets stand at its start, or None where the input has ended.
+pub fn read_block(streams: Streams, block: &mut [u8]) -> Result<Option<usize>, StreamError>
     ensures { WithinBlock result (length block.new) }
 {
     let mut input = streams.input;
     match input.read(block) {
-        Err(error) => {
-            fail(streams, "read", error);
-            Got::Failed
-        }
-        Ok(got) => {
-            if got == 0 {
-                return Got::Ended;
-            }
-            Got::Octets(got)
-        }
+        Ok(0) => Ok(None),
+        Ok(octets) => Ok(Some(octets)),
+        Err(error) => Err(fail(streams, "read", error)),
     }
 }
 
@@ -94,7 +85,7 @@ fn last_turn(input: Input) -> Turn
 {
     Turn {
         octets: 0,
-        input: input,
+        input,
         left: 0,
     }
 }
@@ -114,7 +105,11 @@ fn end_turn(held: usize, left: u64) -> Turn
     }
 }
 
-fn read_behind(streams: Streams, block: &mut [u8], held: usize) -> Got
+fn read_behind(
+    streams: Streams,
+    block: &mut [u8],
+    held: usize,
+) -> Result<Option<usize>, StreamError>
     requires { held ≤ length block.old }
     ensures behind { Behind result held (length block.old) }
     ensures keeps_held { KeepsHeld held block.old block.new }
@@ -132,15 +127,14 @@ fn read_turn(streams: Streams, block: &mut [u8], held: usize, left: u64) -> Turn
     if block.len() < held {
         return last_turn(Input::Failed);
     }
-    let got = read_behind(streams, block, held);
-    match got {
-        Got::Octets(n) => Turn {
-            octets: held + n,
+    match read_behind(streams, block, held) {
+        Ok(None) => end_turn(held, left),
+        Ok(Some(octets)) => Turn {
+            octets: held + octets,
             input: Input::More,
             left: left - 1,
         },
-        Got::Ended => end_turn(held, left),
-        Got::Failed => last_turn(Input::Failed),
+        Err(_) => last_turn(Input::Failed),
     }
 }
 
@@ -167,112 +161,88 @@ pub fn next_turn(streams: Streams, input: Input, block: &mut [u8], held: usize, 
 pub fn has_ended(input: Input) -> bool
     ensures { result ≡ has_ended input }
 {
-    match input {
-        Input::More => false,
-        Input::Ended => true,
-        Input::Failed => false,
-    }
+    input == Input::Ended
 }
 
 // ---- writing
 
-fn write_failed(streams: Streams, error: Error) {
-    fail(streams, "write", error);
-}
-
-// Writes some of text, and answers how many octets went out: none where it failed. That is said on standard error, but of a pipe
-// that was closed behind the program: who reads no more wants to hear no more.
-fn write_some(streams: Streams, text: &[u8]) -> usize
-    ensures { result ≤ length text.now }
+// Writes some of text, and answers how many octets went out. That it failed is said on standard error, but of a pipe that was
+// closed behind the program: who reads no more wants to hear no more.
+fn write_some(streams: Streams, text: &[u8]) -> Result<usize, StreamError>
+    ensures { WritesSome (length text.now) result }
 {
     let mut output = streams.output;
     match output.write(text) {
+        Ok(0) => Err(fail(streams, "write", Error::from(ErrorKind::WriteZero))),
+        Ok(octets) => Ok(octets),
         Err(error) => {
-            if error.kind() != ErrorKind::BrokenPipe {
-                write_failed(streams, error);
+            if error.kind() == ErrorKind::BrokenPipe {
+                return Err(StreamError);
             }
-            0
-        }
-        Ok(put) => {
-            if put == 0 {
-                write_failed(streams, Error::from(ErrorKind::WriteZero));
-            }
-            put
+            Err(fail(streams, "write", error))
         }
     }
 }
 
-// Writes all of text, or answers that it failed. The octets of a frame stay in the memory that main lends.
-pub fn write_out(streams: Streams, text: &[u8]) -> bool
+// Writes all of text. The octets of a frame stay in the memory that main lends.
+pub fn write_out(streams: Streams, text: &[u8]) -> Result<(), StreamError>
     ensures { WrittenIfEmpty (length text.now) result }
 {
-    let mut done = 0;
-    while done < text.len() {
-        let put = write_some(streams, &text[done..]);
-        if put == 0 {
-            return false;
-        }
-        done += put;
+    let mut rest = text;
+    while !rest.is_empty() {
+        let octets = write_some(streams, rest)?;
+        rest = &rest[octets..];
     }
-    true
+    Ok(())
 }
 
 // Writes the first octets of text, or all of it where there are no more.
-pub fn write_first(streams: Streams, text: &[u8], n: usize) -> bool
+pub fn write_first(streams: Streams, text: &[u8], n: usize) -> Result<(), StreamError>
     ensures { WrittenIfEmpty (min n (length text.now)) result }
 {
-    if n < text.len() {
-        return write_out(streams, &text[..n]);
-    }
-    write_out(streams, text)
+    write_out(streams, &text[..n.min(text.len())])
 }
 
-// What writing came to: so many octets went out, or it failed.
-#[derive(Clone, Copy)]
-pub enum Output {
-    Wrote(usize),
-    Failed,
-}
-
-fn least(a: usize, b: usize) -> usize
-    ensures { result ≡ min a b }
-{
-    if a < b { a } else { b }
-}
-
-// Writes the first octets of text, or all of it where there are no more, and says how many went out.
-pub fn write_lines(streams: Streams, text: &[u8], octets: usize) -> Output
+// The same, and says how many octets went out.
+pub fn write_lines(streams: Streams, text: &[u8], octets: usize) -> Result<usize, StreamError>
     ensures { WritesFirst (min octets (length text.now)) result }
 {
-    let n = least(octets, text.len());
-    if write_out(streams, &text[..n]) {
-        return Output::Wrote(n);
-    }
-    Output::Failed
+    let n = octets.min(text.len());
+    write_out(streams, &text[..n])?;
+    Ok(n)
 }
 
 // ---- lines that wait: one call of the system for many of them
 
-// What putting a line behind those that wait came to: so many octets wait then, and so many went out; or writing failed.
-#[derive(Clone, Copy)]
-pub enum Gathered {
-    Waiting(usize, usize),
-    Failed,
+// A line was put behind those that wait: so many octets wait then, and so many went out.
+#[derive(Clone, Copy, Debug, PartialEq, Eq)]
+pub struct Waiting {
+    pub octets: usize,
+    pub written: usize,
 }
 
-fn put_behind(streams: Streams, buffer: &mut [u8], waiting: usize, line: &[u8]) -> Gathered
+fn put_behind(
+    streams: Streams,
+    buffer: &mut [u8],
+    waiting: usize,
+    line: &[u8],
+) -> Result<Waiting, StreamError>
     requires { (waiting ≤ length buffer.old) × (length line.now ≤ length buffer.old) }
     ensures { Gathers buffer.old waiting line.now result buffer.new }
 {
     if line.len() <= buffer.len() - waiting {
         field_words::copies::copy(line, buffer, waiting);
-        return Gathered::Waiting(waiting + line.len(), 0);
+        return Ok(Waiting {
+            octets: waiting + line.len(),
+            written: 0,
+        });
     }
-    if !write_out(streams, &buffer[..waiting]) {
-        return Gathered::Failed;
-    }
+    write_out(streams, &buffer[..waiting])?;
     field_words::copies::copy(line, buffer, 0);
-    Gathered::Waiting(line.len(), waiting)
+    Ok(Waiting {
+        octets: line.len(),
+        written: waiting,
+    })
 }
 
 // Puts the first octets of text behind those that wait at the start of the buffer, and writes those that wait out first where
@@ -283,24 +253,26 @@ pub fn gather(
     waiting: usize,
     text: &[u8],
     octets: usize,
-) -> Gathered
+) -> Result<Waiting, StreamError>
     ensures { Gathers buffer.old (min waiting (length buffer.old)) (take (min octets (length buffer.old)) text.now) result buffer.new }
 {
-    let waits = least(waiting, buffer.len());
-    let most = least(octets, buffer.len());
-    let n = least(most, text.len());
+    let waits = waiting.min(buffer.len());
+    let most = octets.min(buffer.len());
+    let n = most.min(text.len());
     put_behind(streams, buffer, waits, &text[..n])
 }
 
 // Writes out what waits at the start of the buffer, behind so many octets that went out before.
-pub fn write_waiting(streams: Streams, buffer: &[u8], waiting: usize, written: usize) -> Output
+pub fn write_waiting(
+    streams: Streams,
+    buffer: &[u8],
+    waiting: usize,
+    written: usize,
+) -> Result<usize, StreamError>
     ensures { WritesWaiting written (min waiting (length buffer.now)) result }
 {
-    let output = write_lines(streams, buffer, waiting);
-    match output {
-        Output::Wrote(n) => Output::Wrote(std::num::wrapping_add_usize(written, n)),
-        Output::Failed => Output::Failed,
-    }
+    let octets = write_lines(streams, buffer, waiting)?;
+    Ok(written.wrapping_add(octets))
 }
 
 // ---- clearing
@@ -308,11 +280,7 @@ pub fn write_waiting(streams: Streams, buffer: &[u8], waiting: usize, written: u
 fn zero(memory: &mut [u8])
     ensures { Zeroed memory.old memory.new }
 {
-    let mut i = 0;
-    while i < memory.len() {
-        memory[i] = 0;
-        i += 1;
-    }
+    memory.fill(0);
 }
 
 // Clears memory that was lent. A compiler drops stores to memory that nothing reads again, and this language has no way to
@@ -346,24 +314,21 @@ pub fn clear_stack() {
 // Some file systems say only late that a write failed. Where the output is a file, has the system write out what it still
 // holds of it; a failure is said on standard error.
 pub fn close_output<R: Files>(rt: &R, streams: Streams) {
-    match settle(rt) {
-        Err(error) => write_failed(streams, error),
-        Ok(()) => {}
+    if let Err(error) = settle(rt) {
+        fail(streams, "write", error);
     }
 }
 
 fn settle<R: Files>(rt: &R) -> std::io::Result<()> {
     let name = "/dev/stdout";
-    match fs::metadata(rt, name) {
-        Err(_) => Ok(()),
-        Ok(what) => {
-            if !what.is_file() {
-                return Ok(());
-            }
-            match OpenOptions::new().write(true).open(rt, name) {
-                Err(_) => Ok(()),
-                Ok(file) => file.sync_data(),
-            }
-        }
+    let Ok(what) = fs::metadata(rt, name) else {
+        return Ok(());
+    };
+    if !what.is_file() {
+        return Ok(());
     }
+    let Ok(file) = OpenOptions::new().write(true).open(rt, name) else {
+        return Ok(());
+    };
+    file.sync_data()
 }

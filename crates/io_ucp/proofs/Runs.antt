@@ -19,8 +19,7 @@ use Rattle.io_streams.specs.Turns.{BlockTurns, UnlessFailed}
 use Rattle.io_streams.proofs.Turns.{NoneLeft, not_failed, claimed, failed_claims}
 use Rattle.io_ucp.specs.declared.BlockDone.{BlockDone}
 use Rattle.io_ucp.specs.declared.TurnDone.{TurnDone}
-use Rattle.io_ucp.specs.declared.Run.{Run}
-use Rattle.io_ucp.specs.Records.{Leaves, WritesLines, Follows, LinesOf, WorksTurn, Passed, RunsWhole, RunsLine, Ends}
+use Rattle.io_ucp.specs.Records.{Leaves, WritesLines, Follows, LinesOf, WorksTurn, Passed, RunsLine, Ends}
 
 -- lines of octets behind others are those from the record behind the others on
 pub record Onto (every : LinesOf) : Type 0 where

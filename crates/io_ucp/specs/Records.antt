@@ -1,15 +1,13 @@
 -- What a block of the input leaves of the receiver's record, the closing line, and what goes out. Assumes nothing.
-use Rattle.std.specs.Prelude.{◌≡◌, Bool, true, false, List, ℕ, ◌%◌, ◌^◌, ◌<◌, ◌≤◌, length, take, drop}
+use Rattle.std.specs.Prelude.{◌≡◌, Bool, true, false, List, ℕ, ◌%◌, ◌^◌, ◌<◌, ◌≤◌, length, take, drop, Result, Ok, Err}
 use Rattle.ucp_receiver.specs.declared.Counts.{Counts}
 use Rattle.ucp_receiver.specs.declared.Record.{Record}
 use Rattle.ucp_receiver.specs.Octet.{State, state_of}
 use Rattle.text_ucp_listing.specs.Lists.{RecordBehind, behind_all, PutsClosing}
-use Rattle.io_streams.specs.Blocks.{WrittenIfEmpty}
 use Rattle.io_streams.specs.Turns.{BlockTurns}
 use Rattle.io_streams.specs.declared.Input.{Input}
 use Rattle.io_streams.specs.declared.Input.TheVariants.{More, Ended, Failed}
-use Rattle.io_streams.specs.declared.Output.{Output}
-use Rattle.io_streams.specs.declared.Output.TheVariants.{Wrote, Failed as WriteFailed}
+use Rattle.io_streams.specs.declared.StreamError.{StreamError}
 use Rattle.io_streams.specs.declared.Turn.{Turn}
 use Rattle.io_ucp.specs.declared.BlockDone.{BlockDone}
 use Rattle.io_ucp.specs.declared.TurnDone.{TurnDone}
@@ -32,7 +30,7 @@ Leaves Failed s c b block = BehindSome s c b block
 pub record Closed (counts : Counts) (before : List ℕ) (written : Bool) (after : List ℕ) : Type 0 where
   pub next : ℕ
   pub line : PutsClosing before 0 counts next after
-  pub tells : WrittenIfEmpty next written
+  pub tells : next ≡ 0 → written ≡ true
 
 -- how a program closes, by how its reading ended
 abbrev pub Ends : Input → Counts → List ℕ → Bool → List ℕ → Type 0
@@ -43,9 +41,9 @@ Ends Failed counts before written after = (written ≡ false) × (after ≡ befo
 -- ---- what goes out
 
 -- a block is done where all of its text went out
-abbrev pub block_done : Record → Output → BlockDone
-block_done receiver (Wrote n) = record { progress = record { receiver = receiver; input = More }; written = n }
-block_done receiver WriteFailed = record { progress = record { receiver = receiver; input = Failed }; written = 0 }
+abbrev pub block_done : Record → Result ℕ StreamError → BlockDone
+block_done receiver (Ok n) = record { progress = record { receiver = receiver; input = More }; written = n }
+block_done receiver (Err e) = record { progress = record { receiver = receiver; input = Failed }; written = 0 }
 
 -- the input goes on: as many octets went out as these lines have, modulo 2^64. A write fails only where there are lines to write
 abbrev pub WritesLines : Input → ℕ → List ℕ → Type 0

@@ -6,43 +6,35 @@ ghost use Rattle.std.specs.Prelude.{◌≡◌, length};
 ghost use Rattle.io_streams.specs.Blocks.{Zeroed};
 ghost use Rattle.io_ucp.specs.Records.{Closed, Ends, block_done, Follows};
 
-use io_streams::{Input, Output, Streams, Turn};
+use io_streams::{Input, StreamError, Streams, Turn};
 use ucp_frame::BodyRoom;
 use ucp_receiver::{Counts, Record, Store};
 
 // The receiver's record besides its store, from block to block.
-#[derive(Clone, Copy)]
+#[derive(Clone, Copy, Debug, PartialEq, Eq)]
 pub struct Progress {
     pub receiver: Record,
     pub input: Input,
 }
 
 // What a block came to, and how many octets of text went out for it, modulo 2^64: so far a contract can say what is written.
-#[derive(Clone, Copy)]
+#[derive(Clone, Copy, Debug, PartialEq, Eq)]
 pub struct BlockDone {
     pub progress: Progress,
     pub written: usize,
 }
 
 // A block is done where all of its text went out.
-pub fn block_done(receiver: Record, output: Output) -> BlockDone
+pub fn block_done(receiver: Record, output: Result<usize, StreamError>) -> BlockDone
     ensures { result ≡ block_done receiver output }
 {
-    match output {
-        Output::Wrote(n) => BlockDone {
-            progress: Progress {
-                receiver: receiver,
-                input: Input::More,
-            },
-            written: n,
-        },
-        Output::Failed => BlockDone {
-            progress: Progress {
-                receiver: receiver,
-                input: Input::Failed,
-            },
-            written: 0,
-        },
+    let (input, written) = match output {
+        Ok(n) => (Input::More, n),
+        Err(_) => (Input::Failed, 0),
+    };
+    BlockDone {
+        progress: Progress { receiver, input },
+        written,
     }
 }
 
@@ -59,20 +51,17 @@ pub struct TurnDone {
 pub fn follow(streams: Streams, done: BlockDone, block: &mut [u8], left: u64) -> TurnDone
     ensures { Follows done left (length block.old) result }
 {
-    let progress = done.progress;
-    let receiver = progress.receiver;
-    let input = progress.input;
-    let turn = io_streams::next_turn(streams, input, block, 0, left);
+    let Progress { receiver, input } = done.progress;
     TurnDone {
-        receiver: receiver,
-        turn: turn,
+        receiver,
+        turn: io_streams::next_turn(streams, input, block, 0, left),
         written: done.written,
     }
 }
 
 // What a run came to: whether the input was read to its end and all was written; how many of its octets were worked on, and how
 // many of text went out before the closing line, both modulo 2^64.
-#[derive(Clone, Copy)]
+#[derive(Clone, Copy, Debug, PartialEq, Eq)]
 pub struct Run {
     pub whole: bool,
     pub octets: usize,
@@ -84,7 +73,7 @@ pub fn write_closing(streams: Streams, text: &mut [u8], counts: Counts) -> bool
     ensures { Closed counts text.old result text.new }
 {
     let n = text_ucp_listing::put_closing(text, 0, counts);
-    io_streams::write_out(streams, &text[..n])
+    io_streams::write_out(streams, &text[..n]).is_ok()
 }
 
 // The closing line stands only behind an input that was read to its end: whether it was, and the line was written.
@@ -92,9 +81,8 @@ pub fn write_ending(streams: Streams, input: Input, text: &mut [u8], counts: Cou
     ensures { Ends input counts text.old result text.new }
 {
     match input {
-        Input::More => false,
         Input::Ended => write_closing(streams, text, counts),
-        Input::Failed => false,
+        Input::More | Input::Failed => false,
     }
 }
 

@@ -17,7 +17,7 @@ ghost use Rattle.ucp_receiver.specs.Octet.{state_of, fresh_rest};
 ghost use Rattle.text_ucp_listing.specs.Lists.{behind_all, every_line};
 ghost use Rattle.io_ucp.specs.Records.{Leaves, WritesLines, WorksTurn, RunsLine};
 
-use io_streams::{Output, Streams, Turn};
+use io_streams::{Streams, Turn};
 use io_ucp::{BlockDone, Run, TurnDone};
 use ucp_frame::BodyRoom;
 use ucp_receiver::{Record, Store};
@@ -36,23 +36,18 @@ fn list_block(
     ensures writes_lines { WritesLines result.progress.input result.written (every_line (state_of receiver.rest store.old) receiver.counts block.now) }
 {
     let mut receiver = receiver;
-    let mut taken = 0;
-    let mut written = 0;
-    while taken < block.len() {
-        let listed = text_ucp_listing::list_some(receiver, store, room, &block[taken..], text);
+    let mut rest = block;
+    let mut written: usize = 0;
+    while !rest.is_empty() {
+        let listed = text_ucp_listing::list_some(receiver, store, room, rest, text);
         receiver = listed.receiver;
-        taken += listed.taken;
-        let output = io_streams::write_lines(streams, text, listed.written);
-        match output {
-            Output::Failed => {
-                return io_ucp::block_done(receiver, Output::Failed);
-            }
-            Output::Wrote(n) => {
-                written = std::num::wrapping_add_usize(written, n);
-            }
+        rest = &rest[listed.taken..];
+        match io_streams::write_lines(streams, text, listed.written) {
+            Ok(n) => written = written.wrapping_add(n),
+            Err(error) => return io_ucp::block_done(receiver, Err(error)),
         }
     }
-    io_ucp::block_done(receiver, Output::Wrote(written))
+    io_ucp::block_done(receiver, Ok(written))
 }
 
 // A turn: lists its octets of the block, and reads on.
@@ -68,8 +63,7 @@ fn list_turn(
     requires { (longest_line ≤ length text.old) × (turn.octets ≤ length block.old) }
     ensures { WorksTurn every_line receiver store.old block.old turn result store.new }
 {
-    let end = turn.octets;
-    let done = list_block(streams, receiver, store, room, &block[..end], text);
+    let done = list_block(streams, receiver, store, room, &block[..turn.octets], text);
     io_ucp::follow(streams, done, block, turn.left)
 }
 
@@ -86,22 +80,19 @@ fn list_input(
 {
     let mut receiver = ucp_receiver::octet::fresh_record();
     let mut turn = io_streams::first_turn(streams, block);
-    let mut octets = 0;
-    let mut written = 0;
+    let mut octets: usize = 0;
+    let mut written: usize = 0;
     while turn.left > 0 {
-        octets = std::num::wrapping_add_usize(octets, turn.octets);
+        octets = octets.wrapping_add(turn.octets);
         let done = list_turn(streams, receiver, store, room, block, text, turn);
         receiver = done.receiver;
         turn = done.turn;
-        written = std::num::wrapping_add_usize(written, done.written);
+        written = written.wrapping_add(done.written);
     }
-    let input = turn.input;
-    let counts = receiver.counts;
-    let whole = io_ucp::write_ending(streams, input, text, counts);
     Run {
-        whole: whole,
-        octets: octets,
-        written: written,
+        whole: io_ucp::write_ending(streams, turn.input, text, receiver.counts),
+        octets,
+        written,
     }
 }
 
