@@ -2,10 +2,8 @@
 #![tactic(auto)]
 
 ghost use Rattle.std.specs.Prelude.{◌≡◌};
-ghost use Rattle.ucp_meanings.specs.Meanings.{altitude_answer, rate_answer, altitude_means, rate_means, geometric_means, degrees_e7};
-ghost use Rattle.c_ucp_meanings.specs.Measures.{measure_of};
-
-use ucp_meanings::{Altitude, Rate};
+ghost use Rattle.ucp_meanings.specs.Meanings.{altitude_means, rate_means, geometric_means, degrees_e7};
+ghost use Rattle.c_ucp_meanings.specs.Measures.{measure_of, IsMeasured};
 
 // A value, or no data.
 #[repr(C)]
@@ -17,27 +15,14 @@ pub struct OstrogoszMeasure {
     pub value: i32,
 }
 
-fn feet(altitude: Altitude) -> OstrogoszMeasure
-    ensures { result ≡ measure_of (altitude_answer altitude) }
-{
-    match altitude {
-        Altitude::NoData => OstrogoszMeasure { known: 0, value: 0 },
-        Altitude::Feet(feet) => OstrogoszMeasure {
-            known: 1,
-            value: feet,
-        },
-    }
-}
+impl From<Option<i32>> for OstrogoszMeasure {
+    ghost from_gives = { IsMeasured };
 
-fn feet_per_minute(rate: Rate) -> OstrogoszMeasure
-    ensures { result ≡ measure_of (rate_answer rate) }
-{
-    match rate {
-        Rate::NoData => OstrogoszMeasure { known: 0, value: 0 },
-        Rate::FeetPerMinute(feet) => OstrogoszMeasure {
-            known: 1,
-            value: feet,
-        },
+    fn from(known: Option<i32>) -> OstrogoszMeasure {
+        match known {
+            Some(value) => OstrogoszMeasure { known: 1, value },
+            None => OstrogoszMeasure { known: 0, value: 0 },
+        }
     }
 }
 
@@ -45,14 +30,14 @@ fn feet_per_minute(rate: Rate) -> OstrogoszMeasure
 pub fn ostrogosz_ucp_altitude_in_feet(altitude: u16) -> OstrogoszMeasure
     ensures { result ≡ measure_of (altitude_means altitude) }
 {
-    feet(ucp_meanings::altitude_in_feet(altitude))
+    OstrogoszMeasure::from(ucp_meanings::altitude_in_feet(altitude))
 }
 
 // The vertical rate of messages 10 and 20, in feet per minute.
 pub fn ostrogosz_ucp_rate_in_feet_per_minute(vertical_rate: i16) -> OstrogoszMeasure
     ensures { result ≡ measure_of (rate_means vertical_rate) }
 {
-    feet_per_minute(ucp_meanings::rate_in_feet_per_minute(vertical_rate))
+    OstrogoszMeasure::from(ucp_meanings::rate_in_feet_per_minute(vertical_rate))
 }
 
 // The geometric altitude of message 11, in feet.

@@ -9,7 +9,7 @@
 // standard error, and no closing line follows.
 #![tactic(auto)]
 
-ghost use Rattle.std.specs.Prelude.{◌≤◌, length};
+ghost use Rattle.std.specs.Prelude.{◌≡◌, ◌≤◌, length};
 ghost use Rattle.text_output.specs.Clips.{text_room};
 ghost use Rattle.ucp_receiver.specs.Account.{zero_counts};
 ghost use Rattle.ucp_receiver.specs.Octet.{state_of, fresh_rest};
@@ -18,9 +18,9 @@ ghost use Rattle.text_ucp_explanation.specs.Explanation.{every_explanation};
 ghost use Rattle.io_ucp.specs.Records.{Leaves, WritesLines, WorksTurn, RunsLine};
 ghost use Rattle.io_streams.specs.Blocks.{Zeroed};
 
-use io_streams::{Gathered, Output, Streams, Turn};
+use io_streams::{Streams, Turn};
 use io_ucp::{BlockDone, Run, TurnDone};
-use text_output::TextRoom;
+use text_output::page::Page;
 use ucp_frame::BodyRoom;
 use ucp_receiver::{Record, Store};
 
@@ -31,7 +31,7 @@ fn explain_block(
     store: &mut Store,
     room: &mut BodyRoom,
     block: &[u8],
-    text: &mut TextRoom,
+    page: &mut Page,
     buffer: &mut [u8],
 ) -> BlockDone
     requires { text_room ≤ length buffer.old }
@@ -39,24 +39,19 @@ fn explain_block(
     ensures writes_lines { WritesLines result.progress.input result.written (every_explanation (state_of receiver.rest store.old) receiver.counts block.now) }
 {
     let mut receiver = receiver;
-    let mut taken = 0;
+    let mut rest = block;
     let mut waiting = 0;
-    let mut written = 0;
-    while taken < block.len() {
-        let line = &block[taken..];
-        let explained = text_ucp_explanation::explain_next(receiver, store, room, line, text);
-        let more = explained.taken;
-        receiver = more.receiver;
-        taken += more.taken;
-        let gathered = io_streams::gather(streams, buffer, waiting, text, explained.written);
-        match gathered {
-            Gathered::Failed => {
-                return io_ucp::block_done(receiver, Output::Failed);
+    let mut written: usize = 0;
+    while !rest.is_empty() {
+        let taken = text_ucp_explanation::explain_next(receiver, store, room, rest, page);
+        receiver = taken.receiver;
+        rest = &rest[taken.taken..];
+        match io_streams::gather(streams, buffer, waiting, &page.room, page.end) {
+            Ok(gathered) => {
+                waiting = gathered.octets;
+                written = written.wrapping_add(gathered.written);
             }
-            Gathered::Waiting(next, out) => {
-                waiting = next;
-                written = std::num::wrapping_add_usize(written, out);
-            }
+            Err(error) => return io_ucp::block_done(receiver, Err(error)),
         }
     }
     let output = io_streams::write_waiting(streams, buffer, waiting, written);
@@ -70,15 +65,15 @@ fn explain_turn(
     store: &mut Store,
     room: &mut BodyRoom,
     block: &mut [u8],
-    text: &mut TextRoom,
+    page: &mut Page,
     buffer: &mut [u8],
     turn: Turn,
 ) -> TurnDone
     requires { (text_room ≤ length buffer.old) × (turn.octets ≤ length block.old) }
     ensures { WorksTurn every_explanation receiver store.old block.old turn result store.new }
 {
-    let end = turn.octets;
-    let done = explain_block(streams, receiver, store, room, &block[..end], text, buffer);
+    let octets = &block[..turn.octets];
+    let done = explain_block(streams, receiver, store, room, octets, page, buffer);
     io_ucp::follow(streams, done, block, turn.left)
 }
 
@@ -88,30 +83,27 @@ fn explain_input(
     store: &mut Store,
     room: &mut BodyRoom,
     block: &mut [u8],
-    text: &mut TextRoom,
+    page: &mut Page,
     buffer: &mut [u8],
 ) -> Run
     requires { text_room ≤ length buffer.old }
-    ensures { RunsLine every_explanation (state_of fresh_rest store.old) zero_counts result text.new }
+    ensures { RunsLine every_explanation (state_of fresh_rest store.old) zero_counts result page.new.room }
 {
     let mut receiver = ucp_receiver::octet::fresh_record();
     let mut turn = io_streams::first_turn(streams, block);
-    let mut octets = 0;
-    let mut written = 0;
+    let mut octets: usize = 0;
+    let mut written: usize = 0;
     while turn.left > 0 {
-        octets = std::num::wrapping_add_usize(octets, turn.octets);
-        let done = explain_turn(streams, receiver, store, room, block, text, buffer, turn);
+        octets = octets.wrapping_add(turn.octets);
+        let done = explain_turn(streams, receiver, store, room, block, page, buffer, turn);
         receiver = done.receiver;
         turn = done.turn;
-        written = std::num::wrapping_add_usize(written, done.written);
+        written = written.wrapping_add(done.written);
     }
-    let input = turn.input;
-    let counts = receiver.counts;
-    let whole = io_ucp::write_ending(streams, input, text, counts);
     Run {
-        whole: whole,
-        octets: octets,
-        written: written,
+        whole: io_ucp::write_ending(streams, turn.input, &mut page.room, receiver.counts),
+        octets,
+        written,
     }
 }
 
@@ -120,16 +112,17 @@ fn clear_lent(
     store: &mut Store,
     room: &mut BodyRoom,
     block: &mut [u8],
-    text: &mut TextRoom,
+    page: &mut Page,
     buffer: &mut [u8],
 )
     ensures zeroed { Zeroed store.old store.new }
     ensures zeroed_2 { Zeroed room.old room.new }
     ensures zeroed_3 { Zeroed block.old block.new }
-    ensures zeroed_4 { Zeroed text.old text.new }
+    ensures zeroed_4 { Zeroed page.old.room page.new.room × (page.new.end ≡ 0) }
     ensures zeroed_5 { Zeroed buffer.old buffer.new }
 {
-    io_ucp::clear_lent(store, room, block, text);
+    io_ucp::clear_lent(store, room, block, &mut page.room);
+    page.clear();
     io_streams::clear(buffer);
 }
 
@@ -144,17 +137,17 @@ fn main(rt: HostRuntime) {
     let mut store = [0u8; ucp_receiver::STORE_OCTETS];
     let mut room = [0u8; ucp_frame::LONGEST_BODY];
     let mut block = [0u8; 65536];
-    let mut text = [0u8; text_output::TEXT_ROOM];
+    let mut page = Page::new();
     let mut buffer = [0u8; 65536];
     let run = explain_input(
         streams,
         &mut store,
         &mut room,
         &mut block,
-        &mut text,
+        &mut page,
         &mut buffer,
     );
-    clear_lent(&mut store, &mut room, &mut block, &mut text, &mut buffer);
+    clear_lent(&mut store, &mut room, &mut block, &mut page, &mut buffer);
     let none = ucp_receiver::octet::fresh_record();
     explain_block(
         streams,
@@ -162,7 +155,7 @@ fn main(rt: HostRuntime) {
         &mut store,
         &mut room,
         &block,
-        &mut text,
+        &mut page,
         &mut buffer,
     );
     io_streams::clear_stack();

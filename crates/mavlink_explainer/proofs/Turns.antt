@@ -1,14 +1,14 @@
 -- What a turn of each loop keeps. Assumes nothing.
-use Rattle.std.proofs.Common.{◌≡◌, ℕ, zero, suc, ◌+◌, ◌-◌, ◌%◌, ◌^◌, ◌<◌, ◌≤◌, Bool, true, false, cond, List, [], ◌∷◌, ◌++◌, length, get_or, take, drop, set, sym, refl, ap, ◌∙◌, subst, ap₂, append_assoc, append-nil, add_comm, zero-add, add-one, arith, length-append, length-drop, get_or-drop, drop-drop}
+use Rattle.std.proofs.Common.{◌≡◌, ℕ, zero, suc, ◌+◌, ◌-◌, ◌%◌, ◌^◌, ◌<◌, ◌≤◌, Bool, true, false, cond, List, [], ◌∷◌, ◌++◌, length, take, drop, sym, refl, ap, ◌∙◌, subst, ap₂, append_assoc, append-nil, arith, length-append, length-drop, drop-drop}
 use native.Mathlib.Nat.{mod-add-mod}
-use lib.Seq.{paste, paste-suc, take-paste, drop-paste}
+use lib.Seq.{paste, take-paste}
 use Rattle.io_streams.specs.declared.Input.TheVariants.{More, Ended, Failed}
-use Rattle.io_streams.specs.declared.Output.{Output}
-use Rattle.io_streams.specs.declared.Output.TheVariants.{Wrote, Failed as WriteFailed}
+use Rattle.std.proofs.Common.{Option, Some, None, Result, Ok, Err}
+use Rattle.io_streams.specs.declared.StreamError.{StreamError}
 use Rattle.io_streams.specs.Gathering.{WritesWaiting}
-use Rattle.text_mavlink_explanation.specs.declared.Explained.{Explained}
-use Rattle.mavlink_messages.specs.Messages.{read_due}
-use Rattle.text_mavlink_explanation.specs.Explanation.{frame_line}
+use Rattle.text_output.specs.declared.page.Page.{Page}
+use Rattle.mavlink_messages.specs.Messages.{MavlinkAnswer, means, refused, read_due}
+use Rattle.text_mavlink_explanation.specs.Explanation.{frame_line, used_by, used_answer, is_refused}
 use Rattle.text_mavlink_explanation.specs.Calls.{ExplainsFrame}
 use Rattle.text_mavlink_explanation.specs.Decided.{frame_room}
 use Rattle.text_mavlink_explanation.proofs.Used.{used_within, used_some}
@@ -17,12 +17,23 @@ use Rattle.mavlink_explainer.specs.Blocks.{Carries, Walks, few, stops, onward, i
 
 -- ---- explaining
 
-module _ {input text : List ℕ} {given : Explained} {after : List ℕ} (e : ExplainsFrame input text given after) where
-  pub turn_within : given.used ≤ length input
-  turn_within = omega (arith, e.used, used_within input)
+read_uses : (r : MavlinkAnswer) {n : ℕ} → used_answer r ≡ Some n → (used_by r ≡ n) × (is_refused r ≡ false)
+read_uses (means h used m f) e = (cc, refl)
+read_uses (refused number) e = cc
 
-  pub turn_uses : given.refused ≡ false → 0 < given.used
-  turn_uses r = omega (arith, e.used, used_some input (sym e.refuses ∙ r))
+read_none : (r : MavlinkAnswer) → used_answer r ≡ None → is_refused r ≡ true
+read_none (means h used m f) e = cc
+read_none (refused number) e = refl
+
+module _ {input : List ℕ} {page : Page} {given : Option ℕ} {after : Page} (e : ExplainsFrame input page given after) where
+  uses : {n : ℕ} → given ≡ Some n → (used_by (read_due input) ≡ n) × (is_refused (read_due input) ≡ false)
+  uses r = read_uses (read_due input) (sym e.used ∙ r)
+
+  pub turn_within : {n : ℕ} → given ≡ Some n → n ≤ length input
+  turn_within r = omega (arith, (uses r).0, used_within input)
+
+  pub turn_uses : {n : ℕ} → given ≡ Some n → 0 < n
+  turn_uses r = omega (arith, (uses r).0, used_some input (uses r).1)
 
 -- too few octets to decide, and the input goes on; or none, and it has ended
 pub few_left : (last : Bool) (left : ℕ) → left < cond last 1 frame_room → Carries (cond last Ended More) left
@@ -65,29 +76,29 @@ module _ (least : ℕ) (block : List ℕ) (count left total : ℕ) (h : left ≤
   with_line = so.done ++ frame_line (read_due rest)
 
   -- one line more
-  more_out : {text : List ℕ} {given : Explained} {after : List ℕ} → ExplainsFrame rest text given after → {next : ℕ}
-      → next ≡ (total + given.written) % 2 ^ 64 → next ≡ length with_line % 2 ^ 64
+  more_out : {page : Page} {given : Option ℕ} {after : Page} → ExplainsFrame rest page given after → {next : ℕ}
+      → next ≡ (total + after.end) % 2 ^ 64 → next ≡ length with_line % 2 ^ 64
   more_out e adds =
       adds
       ∙ ap₂ (λ (a b : ℕ). (a + b) % 2 ^ 64) so.number e.line.all
       ∙ mod-add-mod (length so.done) (2 ^ 64) (length (frame_line (read_due rest)))
       ∙ ap (λ (k : ℕ). k % 2 ^ 64) (sym (length-append so.done (frame_line (read_due rest))))
 
-  pub next_frame : {text : List ℕ} {given : Explained} {after : List ℕ} → ExplainsFrame rest text given after
-      → least ≤ left → given.refused ≡ false → (next : ℕ) → next ≡ (total + given.written) % 2 ^ 64
-      → SoFar least block (count + 1) (left - given.used) next
-  next_frame {text} {given} e enough r next adds = record {
+  pub next_frame : {page : Page} {given : Option ℕ} {after : Page} → ExplainsFrame rest page given after
+      → least ≤ left → {n : ℕ} → given ≡ Some n → (next : ℕ) → next ≡ (total + after.end) % 2 ^ 64
+      → SoFar least block (count + 1) (left - n) next
+  next_frame {page} {given} e enough {n = used} r next adds = record {
     done = with_line;
     goes = λ n l q lines w.
-        let within : given.used ≤ left = omega (arith, turn_within e, long) in
-        let place : length block - (left - given.used) ≡ length block - left + given.used = omega arith in
+        let within : used ≤ left = omega (arith, turn_within e r, long) in
+        let place : length block - (left - used) ≡ length block - left + used = omega arith in
         let there =
         ap (λ (k : ℕ). drop k block) place
-        ∙ sym (drop-drop given.used (length block - left) block)
-        ∙ ap (λ (k : ℕ). drop k rest) e.used in
+        ∙ sym (drop-drop used (length block - left) block)
+        ∙ ap (λ (k : ℕ). drop k rest) (sym (uses e r).0) in
         let further = subst (λ (d : List ℕ). Walks least d n l q lines) there w in
         let more : n + 1 + count ≡ n + (count + 1) = omega arith in
-        let all = so.goes (n + 1) l q (frame_line (read_due rest) ++ lines) (onward (omega (arith, long)) (sym e.refuses ∙ r) further) in
+        let all = so.goes (n + 1) l q (frame_line (read_due rest) ++ lines) (onward (omega (arith, long)) (uses e r).1 further) in
         subst (λ (ls : List ℕ). Walks least block (n + (count + 1)) l q ls) (sym (append_assoc so.done (frame_line (read_due rest)) lines))
         (subst (λ (k : ℕ). Walks least block k l q (so.done ++ (frame_line (read_due rest) ++ lines))) more all);
     number = more_out e adds;
@@ -104,26 +115,26 @@ module _ (least : ℕ) (block : List ℕ) (count left total : ℕ) (h : left ≤
     pub at_failure : Explores last block frames bytes (explains frames bytes count (length block - left) left Failed 0)
     at_failure = record { leaves = record { carries = tt; within = h }; explored = tt }
 
-    pub at_refused : {text : List ℕ} {given : Explained} {after : List ℕ} → ExplainsFrame rest text given after → least ≤ left
-        → given.refused ≡ true → (written waiting : ℕ) → (written + waiting) % 2 ^ 64 ≡ (total + given.written) % 2 ^ 64
-        → (output : Output) → WritesWaiting written waiting output
+    pub at_refused : {page : Page} {given : Option ℕ} {after : Page} → ExplainsFrame rest page given after → least ≤ left
+        → given ≡ None → (written waiting : ℕ) → (written + waiting) % 2 ^ 64 ≡ (total + after.end) % 2 ^ 64
+        → (output : Result ℕ StreamError) → WritesWaiting written waiting output
         → Explores last block frames bytes (explains frames bytes count (length block - left) left (input_of output Ended) (octets_out output))
-    at_refused e enough r written waiting adds WriteFailed w = at_failure
-    at_refused e enough r written waiting adds (Wrote n) w = record {
+    at_refused e enough r written waiting adds (Err x) w = at_failure
+    at_refused e enough r written waiting adds (Ok n) w = record {
       leaves = record { carries = tt; within = h };
       explored = record {
         count = count;
         refused = true;
         lines = with_line;
-        walks = walked true _ (stops long enough (sym e.refuses ∙ r));
+        walks = walked true _ (stops long enough (read_none _ (sym e.used ∙ r)));
         counts = ap (explains frames bytes count (length block - left) left Ended) (w ∙ more_out e adds);
       };
     }
 
-    pub at_end : left < least → (written waiting : ℕ) → (written + waiting) % 2 ^ 64 ≡ total → (output : Output) → WritesWaiting written waiting output
+    pub at_end : left < least → (written waiting : ℕ) → (written + waiting) % 2 ^ 64 ≡ total → (output : Result ℕ StreamError) → WritesWaiting written waiting output
         → Explores last block frames bytes (explains frames bytes count (length block - left) left (input_of output (cond last Ended More)) (octets_out output))
-    at_end less written waiting all WriteFailed w = at_failure
-    at_end less written waiting all (Wrote n) w =
+    at_end less written waiting all (Err x) w = at_failure
+    at_end less written waiting all (Ok n) w =
         let out : n ≡ length (so.done ++ []) % 2 ^ 64 = w ∙ all ∙ so.number ∙ ap (λ (ls : List ℕ). length ls % 2 ^ 64) (sym (append-nil so.done)) in
         record {
           leaves = record { carries = few_left last left (omega (arith, same)); within = h };
@@ -139,32 +150,6 @@ module _ (least : ℕ) (block : List ℕ) (count left total : ℕ) (h : left ≤
         }
 
 -- ---- carrying over
-
-module _ (block : List ℕ) (from i : ℕ) (h : from + i < length block) where
-  there : i < length (drop from block)
-  there = simp length-drop (omega arith)
-
-  -- an octet that is still to be moved stands where it stood
-  kept : get_or (paste block 0 (drop from block) i) (from + i) 0 ≡ get_or (drop from block) i 0
-  kept =
-      let moved = paste block 0 (drop from block) i in
-      let some : i ≤ length (drop from block) = omega (arith, there) in
-      let zero : 0 + i ≡ i = zero-add i in
-      ap (λ (n : ℕ). get_or moved n 0) (add_comm from i)
-      ∙ sym (get_or-drop i moved from 0)
-      ∙ ap (λ (n : ℕ). get_or (drop n moved) from 0) (sym zero)
-      ∙ ap (λ (l : List ℕ). get_or l from 0) (drop-paste block 0 (drop from block) i (omega arith) some)
-      ∙ ap (λ (n : ℕ). get_or (drop n block) from 0) zero
-      ∙ get_or-drop i block from 0
-      ∙ ap (λ (n : ℕ). get_or block n 0) (add_comm i from)
-      ∙ sym (get_or-drop from block i 0)
-
-  pub carried : set (paste block 0 (drop from block) i) i (get_or (paste block 0 (drop from block) i) (from + i) 0) ≡ paste block 0 (drop from block) (i + 1)
-  carried =
-      ap (set (paste block 0 (drop from block) i) i) kept
-      ∙ ap (λ (n : ℕ). set (paste block 0 (drop from block) i) n (get_or (drop from block) i 0)) (sym (zero-add i))
-      ∙ paste-suc block 0 (drop from block) i 0 (omega arith) there
-      ∙ ap (paste block 0 (drop from block)) (sym (add-one i))
 
 take_none : (n : ℕ) → take {A = ℕ} n [] ≡ []
 take_none zero = refl

@@ -1,15 +1,15 @@
 -- What a block of the input leaves, and the closing line. Assumes nothing.
-use Rattle.std.specs.Prelude.{◌≡◌, ℕ, ◌+◌, ◌-◌, ◌%◌, ◌^◌, ◌<◌, ◌≤◌, Bool, true, false, cond, List, [], ◌++◌, length, take, drop}
+use Rattle.std.specs.Prelude.{◌≡◌, ℕ, ◌+◌, ◌-◌, ◌%◌, ◌^◌, ◌<◌, ◌≤◌, Bool, true, false, cond, List, [], ◌++◌, length, take, drop, Result, Ok, Err}
 use Rattle.io_streams.specs.declared.Input.{Input}
 use Rattle.io_streams.specs.declared.Input.TheVariants.{More, Ended, Failed}
-use Rattle.io_streams.specs.declared.Output.{Output}
-use Rattle.io_streams.specs.declared.Output.TheVariants.{Wrote, Failed as WriteFailed}
+use Rattle.io_streams.specs.declared.StreamError.{StreamError}
 use Rattle.io_streams.specs.declared.Turn.{Turn}
 use Rattle.io_streams.specs.Turns.{ReadsBlock, BlockTurns, has_ended, UnlessFailed}
 use Rattle.mavlink_explainer.specs.declared.Progress.{Progress}
 use Rattle.mavlink_explainer.specs.declared.TurnDone.{TurnDone}
 use Rattle.mavlink_messages.specs.Messages.{read_due}
 use Rattle.text_mavlink_explanation.specs.Explanation.{frame_line, used_by, is_refused, frames_line}
+use Rattle.text_output.specs.declared.page.Page.{Page}
 use Rattle.text_mavlink_explanation.specs.Calls.{WholeLine}
 use Rattle.text_mavlink_explanation.specs.Decided.{frame_room}
 
@@ -41,13 +41,13 @@ explains frames bytes count used left input written =
     record { frames = (frames + count) % 2 ^ 64; bytes = (bytes + used) % 2 ^ 64; left = left; input = input; written = written }
 
 -- where a write fails, the input goes no further, and nothing is said of what went out
-abbrev pub input_of : Output → Input → Input
-input_of (Wrote n) input = input
-input_of WriteFailed input = Failed
+abbrev pub input_of : Result ℕ StreamError → Input → Input
+input_of (Ok n) input = input
+input_of (Err e) input = Failed
 
-abbrev pub octets_out : Output → ℕ
-octets_out (Wrote n) = n
-octets_out WriteFailed = 0
+abbrev pub octets_out : Result ℕ StreamError → ℕ
+octets_out (Ok n) = n
+octets_out (Err e) = 0
 
 -- a refused frame ends the input, and so does its end
 abbrev pub input_after : Bool → Bool → Input
@@ -76,10 +76,9 @@ pub record WorksFrames (frames bytes : ℕ) (before : List ℕ) (turn : Turn) (g
 
 -- ---- the closing line
 
--- the closing line stands at the start of the text
-pub record FramesClosed (frames bytes : ℕ) (before after : List ℕ) : Type 0 where
-  pub written : ℕ
-  pub line : WholeLine before (frames_line frames bytes) written after
+-- the closing line stands at the start of the page
+abbrev pub FramesClosed : ℕ → ℕ → Page → Page → Type 0
+FramesClosed frames bytes before after = WholeLine before (frames_line frames bytes) after
 
 -- ---- a run
 
@@ -90,13 +89,13 @@ pub data FramesRun : ℕ → ℕ → List ℕ → Turn → Type 0 where
       → 0 < turn.left → WorksFrames frames bytes before turn given after
       → FramesRun given.progress.frames given.progress.bytes after given.turn
 
--- a run, whole: no turn is left, and where the input has ended the closing line in the text has the run's counts; else it says no
-pub record RunsFrames (whole : Bool) (after : List ℕ) : Type 0 where
+-- a run, whole: no turn is left, and where the input has ended the closing line on the page has the run's counts; else it says no
+pub record RunsFrames (whole : Bool) (after : Page) : Type 0 where
   pub frames : ℕ
   pub bytes : ℕ
   pub block : List ℕ
   pub turn : Turn
-  pub before : List ℕ
+  pub before : Page
   pub runs : FramesRun frames bytes block turn
   pub none : turn.left ≡ 0
   pub closes : has_ended turn.input ≡ true → FramesClosed frames bytes before after

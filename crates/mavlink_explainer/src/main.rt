@@ -18,8 +18,8 @@ ghost use Rattle.text_output.specs.Clips.{text_room};
 ghost use Rattle.text_mavlink_explanation.specs.Decided.{frame_room};
 ghost use Rattle.mavlink_explainer.specs.Blocks.{input_of, octets_out, explains, Explores, WorksFrames, FramesClosed, RunsFrames};
 
-use io_streams::{Gathered, Input, Output, Streams, Turn};
-use text_output::TextRoom;
+use io_streams::{Input, StreamError, Streams, Turn};
+use text_output::page::Page;
 
 // How far the frames are explained: how many, the octets that they used, and how many octets behind them are left of the block.
 // The input has ended where it is at its end or a frame was refused. So many octets of text went out for the block, modulo
@@ -60,24 +60,24 @@ fn progressed(
     used: usize,
     left: usize,
     input: Input,
-    output: Output,
+    output: Result<usize, StreamError>,
 ) -> Progress
     ensures { result ≡ explains frames bytes count used left (input_of output input) (octets_out output) }
 {
-    let frames = std::num::wrapping_add_u64(frames, count as u64);
-    let bytes = std::num::wrapping_add_u64(bytes, used as u64);
+    let frames = frames.wrapping_add(count as u64);
+    let bytes = bytes.wrapping_add(used as u64);
     match output {
-        Output::Wrote(n) => Progress {
-            frames: frames,
-            bytes: bytes,
-            left: left,
-            input: input,
-            written: n,
+        Ok(written) => Progress {
+            frames,
+            bytes,
+            left,
+            input,
+            written,
         },
-        Output::Failed => Progress {
-            frames: frames,
-            bytes: bytes,
-            left: left,
+        Err(StreamError) => Progress {
+            frames,
+            bytes,
+            left,
             input: Input::Failed,
             written: 0,
         },
@@ -88,8 +88,15 @@ fn progressed(
 fn stopped(frames: u64, bytes: u64, count: usize, used: usize, left: usize) -> Progress
     ensures { result ≡ explains frames bytes count used left Failed 0 }
 {
-    let failed = Input::Failed;
-    progressed(frames, bytes, count, used, left, failed, Output::Failed)
+    progressed(
+        frames,
+        bytes,
+        count,
+        used,
+        left,
+        Input::Failed,
+        Err(StreamError),
+    )
 }
 
 // Explains the frames of a block, and writes their lines out. A frame is decided where 50 octets are there, or the input has
@@ -100,7 +107,7 @@ fn explain_block(
     bytes: u64,
     last: bool,
     block: &[u8],
-    text: &mut TextRoom,
+    page: &mut Page,
     buffer: &mut [u8],
 ) -> Progress
     requires { text_room ≤ length buffer.old }
@@ -109,23 +116,23 @@ fn explain_block(
     let mut count = 0;
     let mut left = block.len();
     let mut waiting = 0;
-    let mut written = 0;
+    let mut written: usize = 0;
     let least = least_octets(last);
     while least <= left {
         let used = block.len() - left;
-        let explained = text_mavlink_explanation::explain_frame(&block[used..], text);
-        let gathered = io_streams::gather(streams, buffer, waiting, text, explained.written);
-        let Gathered::Waiting(next, out) = gathered else {
+        let explained = text_mavlink_explanation::explain_frame(&block[used..], page);
+        let gathered = io_streams::gather(streams, buffer, waiting, &page.room, page.end);
+        let Ok(next) = gathered else {
             return stopped(frames, bytes, count, used, left);
         };
-        waiting = next;
-        written = std::num::wrapping_add_usize(written, out);
-        if explained.refused {
+        waiting = next.octets;
+        written = written.wrapping_add(next.written);
+        let Some(octets) = explained else {
             let output = io_streams::write_waiting(streams, buffer, waiting, written);
             return progressed(frames, bytes, count, used, left, Input::Ended, output);
-        }
+        };
         count += 1;
-        left -= explained.used;
+        left -= octets;
     }
     let output = io_streams::write_waiting(streams, buffer, waiting, written);
     let used = block.len() - left;
@@ -137,19 +144,15 @@ fn carry(block: &mut [u8], from: usize, end: usize)
     requires { (from ≤ end) × (end ≤ length block.old) }
     ensures { block.new ≡ paste block.old 0 (drop from block.old) (end - from) }
 {
-    let mut i = 0;
-    while i < end - from {
-        block[i] = block[from + i];
-        i += 1;
-    }
+    block.copy_within(from..end, 0);
 }
 
 // The closing line, and whether it was written.
-fn write_closing(streams: Streams, text: &mut TextRoom, frames: u64, bytes: u64) -> bool
-    ensures { FramesClosed frames bytes text.old text.new }
+fn write_closing(streams: Streams, page: &mut Page, frames: u64, bytes: u64) -> bool
+    ensures { FramesClosed frames bytes page.old page.new }
 {
-    let n = text_mavlink_explanation::put_closing(text, frames, bytes);
-    io_streams::write_first(streams, text, n)
+    text_mavlink_explanation::put_closing(page, frames, bytes);
+    io_streams::write_first(streams, &page.room, page.end).is_ok()
 }
 
 // What a turn came to, and the turn that follows.
@@ -166,7 +169,7 @@ fn explain_turn(
     frames: u64,
     bytes: u64,
     block: &mut [u8],
-    text: &mut TextRoom,
+    page: &mut Page,
     buffer: &mut [u8],
     turn: Turn,
 ) -> TurnDone
@@ -176,27 +179,27 @@ fn explain_turn(
     let end = turn.octets;
     let input = turn.input;
     let last = io_streams::has_ended(input);
-    let progress = explain_block(streams, frames, bytes, last, &block[..end], text, buffer);
+    let progress = explain_block(streams, frames, bytes, last, &block[..end], page, buffer);
     let held = progress.left;
     carry(block, end - held, end);
     let input = progress.input;
     let next = io_streams::next_turn(streams, input, block, held, turn.left);
     TurnDone {
-        progress: progress,
+        progress,
         turn: next,
     }
 }
 
 // Explains all of the input, and answers whether it came to its end or to a refused frame, and all was written.
-fn explain_input(streams: Streams, block: &mut [u8], text: &mut TextRoom, buffer: &mut [u8]) -> bool
+fn explain_input(streams: Streams, block: &mut [u8], page: &mut Page, buffer: &mut [u8]) -> bool
     requires { text_room ≤ length buffer.old }
-    ensures { RunsFrames result text.new }
+    ensures { RunsFrames result page.new }
 {
     let mut frames: u64 = 0;
     let mut bytes: u64 = 0;
     let mut turn = io_streams::first_turn(streams, block);
     while turn.left > 0 {
-        let done = explain_turn(streams, frames, bytes, block, text, buffer, turn);
+        let done = explain_turn(streams, frames, bytes, block, page, buffer, turn);
         let progress = done.progress;
         frames = progress.frames;
         bytes = progress.bytes;
@@ -204,19 +207,20 @@ fn explain_input(streams: Streams, block: &mut [u8], text: &mut TextRoom, buffer
     }
     let input = turn.input;
     if io_streams::has_ended(input) {
-        return write_closing(streams, text, frames, bytes);
+        return write_closing(streams, page, frames, bytes);
     }
     false
 }
 
 // Frames, and what they say, passed through all of these. What was carried over stood in the block.
-fn clear_lent(block: &mut [u8], text: &mut TextRoom, buffer: &mut [u8])
+fn clear_lent(block: &mut [u8], page: &mut Page, buffer: &mut [u8])
     ensures zeroed { Zeroed block.old block.new }
-    ensures zeroed_2 { Zeroed text.old text.new }
+    ensures zeroed_2 { Zeroed page.old.room page.new.room × (page.new.end ≡ 0) }
     ensures zeroed_3 { Zeroed buffer.old buffer.new }
 {
     io_streams::clear(block);
-    io_streams::clear(text);
+    io_streams::clear(&mut page.room);
+    page.clear();
     io_streams::clear(buffer);
 }
 
@@ -229,11 +233,11 @@ fn main(rt: HostRuntime) {
         errors: rt.stderr(),
     };
     let mut block = [0u8; 65536];
-    let mut text = [0u8; text_output::TEXT_ROOM];
+    let mut page = Page::new();
     let mut buffer = [0u8; 65536];
-    let whole = explain_input(streams, &mut block, &mut text, &mut buffer);
-    clear_lent(&mut block, &mut text, &mut buffer);
-    explain_block(streams, 0, 0, whole, &[], &mut text, &mut buffer);
+    let whole = explain_input(streams, &mut block, &mut page, &mut buffer);
+    clear_lent(&mut block, &mut page, &mut buffer);
+    explain_block(streams, 0, 0, whole, &[], &mut page, &mut buffer);
     io_streams::clear_stack();
     if whole {
         io_streams::close_output(&rt, streams);

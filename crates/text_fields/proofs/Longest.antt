@@ -7,8 +7,7 @@ use lib.ListN.{length, length-append}
 use Rattle.text_output.specs.declared.Scale.{Scale}
 use Rattle.text_output.proofs.Numerals.{numeral_most}
 use Rattle.text_output.proofs.Longest.{either_most, printed_most, fixed_most}
-use Rattle.text_fields.specs.declared.Reading.{Reading}
-use Rattle.text_fields.specs.declared.Reading.TheVariants.{NoData, Known}
+use Rattle.std.specs.Prelude.{ℤ, Option, Some, None}
 use Rattle.text_fields.specs.declared.Unit.{Unit}
 use Rattle.text_fields.specs.declared.Unit.TheVariants.{Bare, Seconds, Feet, FeetPerMinute, Knots, Metres, MetresPerSecond}
 use Rattle.text_fields.specs.Fields.{unit_shown, reading_shown, Value, number, reading, squawk, hexadecimal, quoted, truth, none, shown, Labelled, fields_shown}
@@ -22,9 +21,9 @@ unit_most Knots = omega arith
 unit_most Metres = omega arith
 unit_most MetresPerSecond = omega arith
 
-reading_most : (s : Scale) (u : Unit) (r : Reading) → length (reading_shown s u r) ≤ 47
-reading_most s u NoData = omega arith
-reading_most s u (Known z) = simp length-append (omega (arith, fixed_most s z, unit_most u))
+reading_most : (s : Scale) (u : Unit) (r : Option ℤ) → length (reading_shown s u r) ≤ 47
+reading_most s u None = omega arith
+reading_most s u (Some z) = simp length-append (omega (arith, fixed_most s z, unit_most u))
 
 -- what a value can take, whatever the number is
 abbrev pub most : Value → ℕ

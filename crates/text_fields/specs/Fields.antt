@@ -1,6 +1,6 @@
 -- How a field is shown: its label, and its value in users' units. Assumes nothing.
 use Prim.Native.String.{String}
-use Rattle.std.specs.Prelude.{Bool, cond, List, [], ◌∷◌, ◌++◌, ℕ, eqb, ℤ, pos, negsuc}
+use Rattle.std.specs.Prelude.{Bool, cond, List, [], ◌∷◌, ◌++◌, ℕ, eqb, ℤ, pos, negsuc, Option, Some, None}
 use Rattle.ucp_meanings.specs.Meanings.{Meaning, no_data, value as meant_value, altitude_means, rate_means, geometric_means, degrees_e7}
 use Rattle.field_layout.specs.declared.Text.{Text}
 use Rattle.field_layout.specs.Layout.{text_octets}
@@ -9,22 +9,20 @@ use Rattle.text_output.specs.declared.Base.TheVariants.{Decimal, Hexadecimal}
 use Rattle.text_output.specs.declared.Scale.{Scale}
 use Rattle.text_output.specs.declared.Scale.TheVariants.{Ones, TenMillionths}
 use Rattle.text_output.specs.Text.{codes, printed, natural, padded, fixed_point}
-use Rattle.text_fields.specs.declared.Reading.{Reading}
-use Rattle.text_fields.specs.declared.Reading.TheVariants.{NoData, Known}
 use Rattle.text_fields.specs.declared.Unit.{Unit}
 use Rattle.text_fields.specs.declared.Unit.TheVariants.{Bare, Seconds, Feet, FeetPerMinute, Knots, Metres, MetresPerSecond}
 
 -- ---- readings
 
 -- a number, or no data where it is the mark for that
-abbrev pub unless : ℕ → ℤ → Reading
-unless mark (pos n) = cond (eqb n mark) NoData (Known (pos n))
-unless mark (negsuc n) = Known (negsuc n)
+abbrev pub unless : ℕ → ℤ → Option ℤ
+unless mark (pos n) = cond (eqb n mark) None (Some (pos n))
+unless mark (negsuc n) = Some (negsuc n)
 
 -- what a raw number means
-abbrev pub meant_reading : Meaning → Reading
-meant_reading no_data = NoData
-meant_reading (meant_value z) = Known z
+abbrev pub meant_reading : Meaning → Option ℤ
+meant_reading no_data = None
+meant_reading (meant_value z) = Some z
 
 -- behind a number
 abbrev pub unit_shown : Unit → List ℕ
@@ -36,9 +34,9 @@ unit_shown Knots = codes " knots"
 unit_shown Metres = codes " metres"
 unit_shown MetresPerSecond = codes " metres per second"
 
-abbrev pub reading_shown : Scale → Unit → Reading → List ℕ
-reading_shown scale unit NoData = codes "no data"
-reading_shown scale unit (Known z) = fixed_point scale z ++ unit_shown unit
+abbrev pub reading_shown : Scale → Unit → Option ℤ → List ℕ
+reading_shown scale unit None = codes "no data"
+reading_shown scale unit (Some z) = fixed_point scale z ++ unit_shown unit
 
 -- ---- values
 
@@ -46,7 +44,7 @@ pub data Value : Type 0 where
   -- a code, or a count
   number : ℕ → Value
   -- a number of small units, shown in the unit
-  reading : Scale → Unit → Reading → Value
+  reading : Scale → Unit → Option ℤ → Value
   squawk : ℕ → Value
   -- so many digits
   hexadecimal : ℕ → ℕ → Value
@@ -75,11 +73,11 @@ abbrev pub rate : ℤ → Value
 rate z = reading Ones FeetPerMinute (meant_reading (rate_means z))
 
 abbrev pub geometric_altitude : ℤ → Value
-geometric_altitude z = reading Ones Feet (Known (geometric_means z))
+geometric_altitude z = reading Ones Feet (Some (geometric_means z))
 
 -- in degrees
 abbrev pub angle : ℤ → Value
-angle z = reading TenMillionths Bare (Known (degrees_e7 z))
+angle z = reading TenMillionths Bare (Some (degrees_e7 z))
 
 -- ---- fields
 

@@ -5,12 +5,10 @@
 -- hexadecimal digits; the fourth the mark for no data, '.' where there is none. '@' alone is for the octets that go with the
 -- numbers, quoted.
 use Prim.Native.String.{String}
-use Rattle.std.specs.Prelude.{Bool, cond, ◌&&◌, List, [], ◌∷◌, ◌++◌, ℕ, zero, suc, ◌%◌, eqb, ℤ, pos, get_or, drop}
+use Rattle.std.specs.Prelude.{Bool, cond, ◌&&◌, List, [], ◌∷◌, ◌++◌, ℕ, zero, suc, ◌%◌, eqb, ℤ, pos, get_or, drop, Option, Some}
 use Rattle.text_output.specs.declared.Scale.{Scale}
 use Rattle.text_output.specs.declared.Scale.TheVariants.{Ones, Hundredths, Thousandths, TenMillionths}
 use Rattle.text_output.specs.Text.{codes}
-use Rattle.text_fields.specs.declared.Reading.{Reading}
-use Rattle.text_fields.specs.declared.Reading.TheVariants.{Known}
 use Rattle.text_fields.specs.declared.Unit.{Unit}
 use Rattle.text_fields.specs.declared.Unit.TheVariants.{Bare, Seconds, Knots, Metres, MetresPerSecond}
 use Rattle.text_fields.specs.Fields.{unless, Value, number, reading, squawk, hexadecimal, quoted, truth, none, shown, report_altitude, rate, geometric_altitude, angle}
@@ -33,14 +31,14 @@ unit_of x = cond (is "s" x) Seconds (cond (is "k" x) Knots (cond (is "m" x) Metr
 abbrev pub mark_of : ℕ → ℕ
 mark_of x = cond (is "b" x) 255 (cond (is "k" x) 4095 (cond (is "w" x) 65535 4294967295))
 
-abbrev pub natural_reading : ℕ → ℕ → Reading
-natural_reading mark n = cond (is "." mark) (Known (pos n)) (unless (mark_of mark) (pos n))
+abbrev pub natural_reading : ℕ → ℕ → Option ℤ
+natural_reading mark n = cond (is "." mark) (Some (pos n)) (unless (mark_of mark) (pos n))
 
-abbrev pub short_reading : ℕ → ℤ → Reading
-short_reading mark z = cond (is "." mark) (Known z) (unless 32767 z)
+abbrev pub short_reading : ℕ → ℤ → Option ℤ
+short_reading mark z = cond (is "." mark) (Some z) (unless 32767 z)
 
-abbrev pub long_reading : ℕ → ℤ → Reading
-long_reading mark z = cond (is "." mark) (Known z) (unless 2147483647 z)
+abbrev pub long_reading : ℕ → ℤ → Option ℤ
+long_reading mark z = cond (is "." mark) (Some z) (unless 2147483647 z)
 
 -- a code of four digits; where 65535 is the mark, that is none
 abbrev pub squawk_value : ℕ → ℕ → Value

@@ -1,25 +1,20 @@
 // A message's text by its template: a label as it is, and a code where a value stands.
-#![tactic(auto)]
+#![tactic(auto, using(text_output::proofs::Clipped::then), unfolding(crate::specs::Fields::shown))]
 
 mod readings;
 
-ghost use Rattle.std.specs.Prelude.{◌≡◌, ◌+◌, min, length, get_or, pos};
-ghost use Rattle.text_fields.specs.declared.Reading.TheVariants.{Known};
+ghost use Rattle.std.specs.Prelude.{◌≡◌, get_or, drop};
+ghost use Rattle.std.specs.Slice.Iter.{iter_rest};
 ghost use Rattle.field_layout.specs.Layout.{text_octets};
-ghost use Rattle.text_output.specs.Clips.{Clips};
+ghost use Rattle.text_output.specs.Pages.{Appends};
 ghost use Rattle.text_fields.specs.Fields.{unit_shown, reading_shown, quoted, truth, shown};
-ghost use Rattle.text_fields.specs.Templates.{scale_of, unit_of, squawk_value, natural_value, short_value, long_value, natural_code, short_code, long_code, plain_piece, filled};
+ghost use Rattle.text_fields.specs.Templates.{scale_of, unit_of, squawk_value, natural_value, short_value, long_value, filled};
 
 use field_layout::Text;
 use readings::{long_reading, natural_reading, short_reading};
-use text_output::{Base, Printing, Scale, TextRoom, put_nothing, put_octet, put_word};
-
-// What a field's number says: nothing, where it is the mark for that; or a number of small units.
-#[derive(Clone, Copy)]
-pub enum Reading {
-    NoData,
-    Known(i64),
-}
+use std::slice::Iter;
+use text_output::page::Page;
+use text_output::{Base, Printing, Scale};
 
 // What users count in. A bare number is one of degrees, or a plain count.
 #[derive(Clone, Copy)]
@@ -35,60 +30,59 @@ pub enum Unit {
 
 // ---- values
 
-fn put_unit(text: &mut TextRoom, at: usize, unit: Unit) -> usize
-    ensures { Clips text.old at (unit_shown unit) result text.new }
+fn put_unit(page: &mut Page, unit: Unit)
+    ensures { Appends page.old (unit_shown unit) page.new }
 {
     match unit {
-        Unit::Bare => put_nothing(text, at),
-        Unit::Seconds => put_word(text, at, b" seconds"),
-        Unit::Feet => put_word(text, at, b" feet"),
-        Unit::FeetPerMinute => put_word(text, at, b" feet per minute"),
-        Unit::Knots => put_word(text, at, b" knots"),
-        Unit::Metres => put_word(text, at, b" metres"),
-        Unit::MetresPerSecond => put_word(text, at, b" metres per second"),
+        Unit::Bare => page.put_nothing(),
+        Unit::Seconds => page.put_word(b" seconds"),
+        Unit::Feet => page.put_word(b" feet"),
+        Unit::FeetPerMinute => page.put_word(b" feet per minute"),
+        Unit::Knots => page.put_word(b" knots"),
+        Unit::Metres => page.put_word(b" metres"),
+        Unit::MetresPerSecond => page.put_word(b" metres per second"),
     }
 }
 
-fn put_known(text: &mut TextRoom, at: usize, scale: Scale, unit: Unit, n: i64) -> usize
-    ensures { Clips text.old at (reading_shown scale unit (Known n)) result text.new }
-{
-    let at = text_output::put_fixed(text, at, scale, n);
-    put_unit(text, at, unit)
-}
-
-fn put_reading(text: &mut TextRoom, at: usize, scale: Scale, unit: Unit, reading: Reading) -> usize
-    ensures { Clips text.old at (reading_shown scale unit reading) result text.new }
+// What a field's number says: nothing, where it is the mark for that; or a number of small units.
+fn put_reading(page: &mut Page, scale: Scale, unit: Unit, reading: Option<i64>)
+    ensures { Appends page.old (reading_shown scale unit reading) page.new }
 {
     match reading {
-        Reading::NoData => put_word(text, at, b"no data"),
-        Reading::Known(n) => put_known(text, at, scale, unit, n),
+        None => page.put_word(b"no data"),
+        Some(n) => {
+            page.put_fixed(scale, n);
+            put_unit(page, unit);
+        }
     }
 }
 
-fn put_quoted(text: &mut TextRoom, at: usize, octets: &[u8]) -> usize
-    ensures { Clips text.old at (shown (quoted octets.now)) result text.new }
+fn put_quoted(page: &mut Page, octets: &[u8])
+    ensures { Appends page.old (shown (quoted octets.now)) page.new }
 {
-    let at = put_octet(text, at, b'"');
-    let at = text_output::put_printed(text, at, Printing::Escaped, octets, 0);
-    put_octet(text, at, b'"')
+    page.put_octet(b'"');
+    page.put_printed(Printing::Escaped, octets);
+    page.put_octet(b'"');
 }
 
-fn put_truth(text: &mut TextRoom, at: usize, value: bool) -> usize
-    ensures { Clips text.old at (shown (truth value)) result text.new }
+fn put_truth(page: &mut Page, value: bool)
+    ensures { Appends page.old (shown (truth value)) page.new }
 {
     if value {
-        return put_word(text, at, b"yes");
+        page.put_word(b"yes");
+    } else {
+        page.put_word(b"no");
     }
-    put_word(text, at, b"no")
 }
 
-fn put_squawk(text: &mut TextRoom, at: usize, mark: u8, n: u32) -> usize
-    ensures { Clips text.old at (shown (squawk_value mark n)) result text.new }
+fn put_squawk(page: &mut Page, mark: u8, n: u32)
+    ensures { Appends page.old (shown (squawk_value mark n)) page.new }
 {
     if (mark == b'w') & (n == 65535) {
-        return put_word(text, at, b"none");
+        page.put_word(b"none");
+    } else {
+        page.put_padded(Base::Decimal, 4, n as u64);
     }
-    text_output::put_padded(text, at, Base::Decimal, 4, n as u64)
 }
 
 // ---- codes
@@ -96,237 +90,158 @@ fn put_squawk(text: &mut TextRoom, at: usize, mark: u8, n: u32) -> usize
 fn scale_of(code: u8) -> Scale
     ensures { result ≡ scale_of code }
 {
-    if code == b'2' {
-        return Scale::Hundredths;
+    match code {
+        b'2' => Scale::Hundredths,
+        b'3' => Scale::Thousandths,
+        b'7' => Scale::TenMillionths,
+        _ => Scale::Ones,
     }
-    if code == b'3' {
-        return Scale::Thousandths;
-    }
-    if code == b'7' {
-        return Scale::TenMillionths;
-    }
-    Scale::Ones
 }
 
 fn unit_of(code: u8) -> Unit
     ensures { result ≡ unit_of code }
 {
-    if code == b's' {
-        return Unit::Seconds;
+    match code {
+        b's' => Unit::Seconds,
+        b'k' => Unit::Knots,
+        b'm' => Unit::Metres,
+        b'v' => Unit::MetresPerSecond,
+        _ => Unit::Bare,
     }
-    if code == b'k' {
-        return Unit::Knots;
-    }
-    if code == b'm' {
-        return Unit::Metres;
-    }
-    if code == b'v' {
-        return Unit::MetresPerSecond;
-    }
-    Unit::Bare
 }
 
-fn put_natural_value(text: &mut TextRoom, at: usize, what: u8, scale: u8, mark: u8, n: u32) -> usize
-    ensures { Clips text.old at (shown (natural_value what scale mark n)) result text.new }
-{
-    if what == b'n' {
-        return text_output::put_natural(text, at, n as u64);
-    }
-    if what == b'x' {
-        return text_output::put_padded(text, at, Base::Hexadecimal, scale % 16, n as u64);
-    }
-    if what == b'q' {
-        return put_squawk(text, at, mark, n);
-    }
-    if what == b'y' {
-        return put_truth(text, at, n == 1);
-    }
-    if what == b'a' {
-        return put_reading(text, at, Scale::Ones, Unit::Feet, readings::altitude(n));
-    }
-    let reading = natural_reading(mark, n);
-    put_reading(text, at, scale_of(scale), unit_of(what), reading)
+// What stands behind a code's first octet: what its value is, its scale or how many digits, and its mark for no data. An octet that is not
+// there is 0.
+#[derive(Clone, Copy)]
+struct Code {
+    what: u8,
+    scale: u8,
+    mark: u8,
 }
 
-fn put_short_value(text: &mut TextRoom, at: usize, what: u8, scale: u8, mark: u8, n: i16) -> usize
-    ensures { Clips text.old at (shown (short_value what scale mark n)) result text.new }
+fn code_at(template: &[u8]) -> Code
+    ensures { result ≡ record { what = get_or template.now 0 0; scale = get_or template.now 1 0; mark = get_or template.now 2 0 } }
 {
-    if what == b'r' {
-        return put_reading(
-            text,
-            at,
-            Scale::Ones,
-            Unit::FeetPerMinute,
-            readings::rate(n),
-        );
+    Code {
+        what: value_at(template, 0, 0),
+        scale: value_at(template, 1, 0),
+        mark: value_at(template, 2, 0),
     }
-    if what == b'g' {
-        return put_reading(text, at, Scale::Ones, Unit::Feet, readings::geometric(n));
-    }
-    let reading = short_reading(mark, n);
-    put_reading(text, at, scale_of(scale), unit_of(what), reading)
 }
 
-fn put_long_value(text: &mut TextRoom, at: usize, what: u8, scale: u8, mark: u8, n: i32) -> usize
-    ensures { Clips text.old at (shown (long_value what scale mark n)) result text.new }
+// A value, or another one where there is none at the place.
+fn value_at<T: Copy>(values: &[T], i: usize, none: T) -> T
+    ensures { result ≡ get_or values.now i none }
 {
-    if what == b'a' {
-        return put_reading(
-            text,
-            at,
-            Scale::TenMillionths,
-            Unit::Bare,
-            readings::angle(n),
-        );
-    }
-    let reading = long_reading(mark, n);
-    put_reading(text, at, scale_of(scale), unit_of(what), reading)
+    values.get(i).copied().unwrap_or(none)
 }
 
-// ---- a code behind its first octet. An octet or a number that is not there is 0.
-
-fn octet_at(octets: &[u8], i: usize) -> u8
-    ensures { result ≡ get_or octets.now i 0 }
+fn put_natural(page: &mut Page, code: Code, n: u32)
+    ensures { Appends page.old (shown (natural_value code.what code.scale code.mark n)) page.new }
 {
-    if i < octets.len() {
-        return octets[i];
-    }
-    0
-}
-
-fn natural_at(numbers: &[u32], i: usize) -> u32
-    ensures { result ≡ get_or numbers.now i 0 }
-{
-    if i < numbers.len() {
-        return numbers[i];
-    }
-    0
-}
-
-fn short_at(numbers: &[i16], i: usize) -> i16
-    ensures { result ≡ get_or numbers.now i (pos 0) }
-{
-    if i < numbers.len() {
-        return numbers[i];
-    }
-    0
-}
-
-fn long_at(numbers: &[i32], i: usize) -> i32
-    ensures { result ≡ get_or numbers.now i (pos 0) }
-{
-    if i < numbers.len() {
-        return numbers[i];
-    }
-    0
-}
-
-fn put_natural_code(text: &mut TextRoom, at: usize, code: &[u8], n: u32) -> usize
-    ensures { Clips text.old at (shown (natural_code code.now n)) result text.new }
-{
-    let what = octet_at(code, 1);
-    let scale = octet_at(code, 2);
-    let mark = octet_at(code, 3);
-    put_natural_value(text, at, what, scale, mark, n)
-}
-
-fn put_short_code(text: &mut TextRoom, at: usize, code: &[u8], n: i16) -> usize
-    ensures { Clips text.old at (shown (short_code code.now n)) result text.new }
-{
-    let what = octet_at(code, 1);
-    let scale = octet_at(code, 2);
-    let mark = octet_at(code, 3);
-    put_short_value(text, at, what, scale, mark, n)
-}
-
-fn put_long_code(text: &mut TextRoom, at: usize, code: &[u8], n: i32) -> usize
-    ensures { Clips text.old at (shown (long_code code.now n)) result text.new }
-{
-    let what = octet_at(code, 1);
-    let scale = octet_at(code, 2);
-    let mark = octet_at(code, 3);
-    put_long_value(text, at, what, scale, mark, n)
-}
-
-fn put_plain(text: &mut TextRoom, at: usize, octet: u8, octets: &[u8]) -> usize
-    ensures { Clips text.old at (plain_piece octet octets.now) result text.new }
-{
-    if octet == b'@' {
-        return put_quoted(text, at, octets);
-    }
-    put_octet(text, at, octet)
-}
-
-// The place behind a code that begins at a place.
-fn past_code(i: usize, end: usize) -> usize
-    ensures { result ≡ min (i + 4) end }
-{
-    if end < 4 {
-        return end;
-    }
-    if i <= end - 4 {
-        return i + 4;
-    }
-    end
-}
-
-// A template filled in: its codes take the numbers in turn, each from its own kind, and the octets. Labels are mostly spaces
-// and letters, which one test tells from codes.
-pub fn put_fields(
-    text: &mut TextRoom,
-    at: usize,
-    template: &[u8],
-    naturals: &[u32],
-    shorts: &[i16],
-    longs: &[i32],
-    octets: &[u8],
-) -> usize
-    ensures { Clips text.old at (filled 0 template.now naturals.now shorts.now longs.now octets.now) result text.new }
-{
-    let mut at = put_nothing(text, at);
-    let mut i = 0;
-    let mut n = 0;
-    let mut s = 0;
-    let mut l = 0;
-    while i < template.len() {
-        let octet = template[i];
-        if (octet == b' ') | (b'@' < octet) {
-            at = put_octet(text, at, octet);
-            i += 1;
-        } else if octet == b'%' {
-            at = put_natural_code(text, at, &template[i..], natural_at(naturals, n));
-            i = past_code(i, template.len());
-            n += 1;
-        } else if octet == b'&' {
-            at = put_short_code(text, at, &template[i..], short_at(shorts, s));
-            i = past_code(i, template.len());
-            s += 1;
-        } else if octet == b'$' {
-            at = put_long_code(text, at, &template[i..], long_at(longs, l));
-            i = past_code(i, template.len());
-            l += 1;
-        } else {
-            at = put_plain(text, at, octet, octets);
-            i += 1;
+    match code.what {
+        b'n' => page.put_natural(n as u64),
+        b'x' => page.put_padded(Base::Hexadecimal, code.scale % 16, n as u64),
+        b'q' => put_squawk(page, code.mark, n),
+        b'y' => put_truth(page, n == 1),
+        b'a' => put_reading(page, Scale::Ones, Unit::Feet, readings::altitude(n)),
+        what => {
+            let reading = natural_reading(code.mark, n);
+            put_reading(page, scale_of(code.scale), unit_of(what), reading);
         }
     }
-    at
+}
+
+fn put_short(page: &mut Page, code: Code, n: i16)
+    ensures { Appends page.old (shown (short_value code.what code.scale code.mark n)) page.new }
+{
+    match code.what {
+        b'r' => put_reading(page, Scale::Ones, Unit::FeetPerMinute, readings::rate(n)),
+        b'g' => put_reading(page, Scale::Ones, Unit::Feet, readings::geometric(n)),
+        what => {
+            let reading = short_reading(code.mark, n);
+            put_reading(page, scale_of(code.scale), unit_of(what), reading);
+        }
+    }
+}
+
+fn put_long(page: &mut Page, code: Code, n: i32)
+    ensures { Appends page.old (shown (long_value code.what code.scale code.mark n)) page.new }
+{
+    match code.what {
+        b'a' => put_reading(page, Scale::TenMillionths, Unit::Bare, readings::angle(n)),
+        what => {
+            let reading = long_reading(code.mark, n);
+            put_reading(page, scale_of(code.scale), unit_of(what), reading);
+        }
+    }
+}
+
+// The next of some numbers, or another one where none is left.
+fn next_or<T: Copy>(values: &mut Iter<'_, T>, none: T) -> T
+    ensures gives { result ≡ get_or (iter_rest values.old) 0 none }
+    ensures leaves { iter_rest values.new ≡ drop 1 (iter_rest values.old) }
+{
+    values.next().copied().unwrap_or(none)
+}
+
+// What stands behind a code, whose first octet was taken.
+fn past_code(template: &[u8]) -> &[u8]
+    ensures { result.now ≡ drop 3 template.now }
+{
+    template.get(3..).unwrap_or(&[])
+}
+
+// What a template's codes take, each the next of its own kind, and the octets for its '@'.
+#[derive(Clone, Copy, Default)]
+pub struct Values<'a> {
+    pub naturals: &'a [u32],
+    pub shorts: &'a [i16],
+    pub longs: &'a [i32],
+    pub octets: &'a [u8],
+}
+
+// A template filled in.
+pub fn put_fields(page: &mut Page, template: &[u8], values: Values<'_>)
+    ensures { Appends page.old (filled 0 template.now values.entry.naturals.now values.entry.shorts.now values.entry.longs.now values.entry.octets.now) page.new }
+{
+    let mut naturals = values.naturals.iter();
+    let mut shorts = values.shorts.iter();
+    let mut longs = values.longs.iter();
+    let mut rest = template;
+    page.put_nothing();
+    while let Some((octet, behind)) = rest.split_first() {
+        rest = behind;
+        match *octet {
+            b'%' => {
+                put_natural(page, code_at(behind), next_or(&mut naturals, 0));
+                rest = past_code(behind);
+            }
+            b'&' => {
+                put_short(page, code_at(behind), next_or(&mut shorts, 0));
+                rest = past_code(behind);
+            }
+            b'$' => {
+                put_long(page, code_at(behind), next_or(&mut longs, 0));
+                rest = past_code(behind);
+            }
+            b'@' => put_quoted(page, values.octets),
+            label => page.put_octet(label),
+        }
+    }
 }
 
 // The same with a text for its octets.
-pub fn put_named(
-    text: &mut TextRoom,
-    at: usize,
-    template: &[u8],
-    naturals: &[u32],
-    shorts: &[i16],
-    longs: &[i32],
-    name: Text,
-) -> usize
-    ensures { Clips text.old at (filled 0 template.now naturals.now shorts.now longs.now (text_octets name)) result text.new }
+pub fn put_named(page: &mut Page, template: &[u8], values: Values<'_>, name: Text)
+    ensures { Appends page.old (filled 0 template.now values.entry.naturals.now values.entry.shorts.now values.entry.longs.now (text_octets name)) page.new }
 {
-    let octets = [
-        name.c0, name.c1, name.c2, name.c3, name.c4, name.c5, name.c6, name.c7,
-    ];
-    put_fields(text, at, template, naturals, shorts, longs, &octets)
+    let octets = field_layout::text_octets(name);
+    put_fields(
+        page,
+        template,
+        Values {
+            octets: &octets,
+            ..values
+        },
+    );
 }

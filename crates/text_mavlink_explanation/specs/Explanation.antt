@@ -1,5 +1,5 @@
 -- The line that explains what stands at the start of an input. Assumes nothing.
-use Rattle.std.specs.Prelude.{Bool, true, false, List, ◌++◌, ℕ}
+use Rattle.std.specs.Prelude.{Bool, true, false, List, ◌++◌, ℕ, Option, Some, None}
 use Rattle.text_output.specs.Text.{codes, natural}
 use Rattle.text_refusals.specs.Refusals.{refusal}
 use Rattle.mavlink_messages.specs.Messages.{MavlinkAnswer, refused, means}
@@ -18,6 +18,11 @@ used_by (refused number) = 0
 abbrev pub is_refused : MavlinkAnswer → Bool
 is_refused (means h used m f) = false
 is_refused (refused number) = true
+
+-- the octets of a frame that is read, or none
+abbrev pub used_answer : MavlinkAnswer → Option ℕ
+used_answer (means h used m f) = Some used
+used_answer (refused number) = None
 
 -- the last line: how many frames were explained, and the octets that they used, which is where a refused one begins
 unfoldable pub frames_line : ℕ → ℕ → List ℕ

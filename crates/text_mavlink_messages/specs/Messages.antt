@@ -1,10 +1,9 @@
 -- The fields of each MAVLink kind as they are shown, in the order of its layout: units and marks for unknown as document 001
 -- has them. Assumes nothing.
 use Prim.Native.String.{String}
-use Rattle.std.specs.Prelude.{List, [], ◌∷◌, ◌++◌, ℕ, pos}
+use Rattle.std.specs.Prelude.{List, [], ◌∷◌, ◌++◌, ℕ, pos, Some}
 use Rattle.text_output.specs.declared.Scale.TheVariants.{Ones, Hundredths}
 use Rattle.text_output.specs.Text.{codes}
-use Rattle.text_fields.specs.declared.Reading.TheVariants.{Known}
 use Rattle.text_fields.specs.declared.Unit.TheVariants.{Bare, MetresPerSecond}
 use Rattle.text_fields.specs.Fields.{Value, number, reading, hexadecimal, quoted_text, none, Labelled, ◌is◌, fields_shown}
 use Rattle.text_mavlink_messages.specs.Dynamic202.{dynamic_fields}
@@ -12,9 +11,7 @@ use Rattle.text_mavlink_messages.specs.Traffic246.{traffic_fields}
 use Rattle.mavlink_frame.specs.declared.Header.{Header}
 use Rattle.mavlink_messages.specs.declared.DataStream.{DataStream}
 use Rattle.mavlink_messages.specs.declared.Static.{Static}
-use Rattle.mavlink_messages.specs.declared.Dynamic.{Dynamic}
 use Rattle.mavlink_messages.specs.declared.Status.{Status}
-use Rattle.mavlink_messages.specs.declared.Traffic.{Traffic}
 use Rattle.mavlink_messages.specs.Failures as failures-as
 use Rattle.mavlink_messages.specs.Failures.{LowestAnswer, bit, FailureAnswer}
 use Rattle.mavlink_messages.specs.declared.Message.{Message}
@@ -30,7 +27,7 @@ header_fields h =
 -- 66
 abbrev pub data_stream_fields : DataStream → List Labelled
 data_stream_fields d =
-    "rate" is reading Ones Bare (Known (pos d.req_message_rate))
+    "rate" is reading Ones Bare (Some (pos d.req_message_rate))
     ∷ "target system" is number d.target_system
     ∷ "target component" is number d.target_component
     ∷ "stream" is number d.req_stream_id
@@ -42,7 +39,7 @@ abbrev pub static_fields : Static → List Labelled
 static_fields s =
     "address" is hexadecimal 6 s.icao
     ∷ "integrity" is hexadecimal 2 s.integrity
-    ∷ "stall speed" is reading Hundredths MetresPerSecond (Known (pos s.stall_speed))
+    ∷ "stall speed" is reading Hundredths MetresPerSecond (Some (pos s.stall_speed))
     ∷ "callsign" is quoted_text s.callsign
     ∷ "capability" is hexadecimal 2 s.capability
     ∷ "emitter" is number s.emitter
@@ -52,14 +49,14 @@ static_fields s =
     ∷ []
 
 abbrev pub lowest_shown : LowestAnswer → Value
-lowest_shown (bit b) = reading Ones Bare (Known (pos b))
+lowest_shown (bit b) = reading Ones Bare (Some (pos b))
 lowest_shown failures-as.none = none
 
 -- 203, with how many failures it reports and the lowest
 abbrev pub status_fields : Status → FailureAnswer → List Labelled
 status_fields s f =
     "status" is hexadecimal 2 s.status
-    ∷ "failures" is reading Ones Bare (Known (pos f.count))
+    ∷ "failures" is reading Ones Bare (Some (pos f.count))
     ∷ "lowest" is lowest_shown f.lowest
     ∷ []
 

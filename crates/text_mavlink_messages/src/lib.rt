@@ -2,7 +2,7 @@
 #![tactic(auto)]
 
 ghost use Rattle.std.specs.Prelude.{◌++◌};
-ghost use Rattle.text_output.specs.Clips.{Clips};
+ghost use Rattle.text_output.specs.Pages.{Appends};
 ghost use Rattle.text_fields.specs.Fields.{fields_shown};
 ghost use Rattle.mavlink_messages.specs.Failures.{failure_answer};
 ghost use Rattle.text_mavlink_messages.specs.Dynamic202.{dynamic_fields};
@@ -10,32 +10,31 @@ ghost use Rattle.text_mavlink_messages.specs.Traffic246.{traffic_fields};
 ghost use Rattle.text_mavlink_messages.specs.Messages.{header_fields, data_stream_fields, static_fields, status_fields, mavlink_shown};
 
 use mavlink_frame::Header;
-use mavlink_messages::{DataStream, Dynamic, Failures, Lowest, Message, Static, Status, Traffic};
-use text_fields::{put_fields, put_named};
-use text_output::{TextRoom, put_word};
+use mavlink_messages::{DataStream, Dynamic, Failures, Framed, Message, Static, Status, Traffic};
+use text_fields::{Values, put_fields, put_named};
+use text_output::page::Page;
 
-fn put_heading(text: &mut TextRoom, at: usize, name: &[u8], header: Header) -> usize
-    ensures { Clips text.old at (name.now ++ fields_shown (header_fields header)) result text.new }
+fn put_heading(page: &mut Page, name: &[u8], header: Header)
+    ensures { Appends page.old (name.now ++ fields_shown (header_fields header)) page.new }
 {
     let naturals = [
         header.sequence as u32,
         header.system as u32,
         header.component as u32,
     ];
-    let at = put_word(text, at, name);
+    page.put_word(name);
     put_fields(
-        text,
-        at,
+        page,
         b" sequence %n0. system %n0. component %n0.",
-        &naturals,
-        &[],
-        &[],
-        &[],
-    )
+        Values {
+            naturals: &naturals,
+            ..Values::default()
+        },
+    );
 }
 
-fn put_data_stream(text: &mut TextRoom, at: usize, message: DataStream) -> usize
-    ensures { Clips text.old at (fields_shown (data_stream_fields message)) result text.new }
+fn put_data_stream(page: &mut Page, message: DataStream)
+    ensures { Appends page.old (fields_shown (data_stream_fields message)) page.new }
 {
     let naturals = [
         message.req_message_rate as u32,
@@ -45,18 +44,17 @@ fn put_data_stream(text: &mut TextRoom, at: usize, message: DataStream) -> usize
         message.start_stop as u32,
     ];
     put_fields(
-        text,
-        at,
+        page,
         b" rate %c0. target system %n0. target component %n0. stream %n0. start %n0.",
-        &naturals,
-        &[],
-        &[],
-        &[],
-    )
+        Values {
+            naturals: &naturals,
+            ..Values::default()
+        },
+    );
 }
 
-fn put_static(text: &mut TextRoom, at: usize, message: Static) -> usize
-    ensures { Clips text.old at (fields_shown (static_fields message)) result text.new }
+fn put_static(page: &mut Page, message: Static)
+    ensures { Appends page.old (fields_shown (static_fields message)) page.new }
 {
     let naturals = [
         message.icao,
@@ -70,19 +68,19 @@ fn put_static(text: &mut TextRoom, at: usize, message: Static) -> usize
     ];
     let callsign = message.callsign;
     put_named(
-        text,
-        at,
+        page,
         b" address %x6. integrity %x2. stall speed %v2. callsign @ capability %x2. emitter %n0. \
         size %n0. lateral %n0. longitudinal %n0.",
-        &naturals,
-        &[],
-        &[],
+        Values {
+            naturals: &naturals,
+            ..Values::default()
+        },
         callsign,
-    )
+    );
 }
 
-fn put_dynamic(text: &mut TextRoom, at: usize, message: Dynamic) -> usize
-    ensures { Clips text.old at (fields_shown (dynamic_fields message)) result text.new }
+fn put_dynamic(page: &mut Page, message: Dynamic)
+    ensures { Appends page.old (fields_shown (dynamic_fields message)) page.new }
 {
     let naturals = [
         message.utc_time,
@@ -104,53 +102,51 @@ fn put_dynamic(text: &mut TextRoom, at: usize, message: Dynamic) -> usize
         message.alt_gnss,
     ];
     put_fields(
-        text,
-        at,
+        page,
         b" utc time %s0m latitude $d7m longitude $d7m pressure altitude $m3m gnss altitude $m3m \
         horizontal accuracy %m3m vertical accuracy %m2w velocity accuracy %v3w vertical speed &v2m \
         north velocity &v2m east velocity &v2m state %x4. squawk %q4. fix %n0. satellites %c0b \
         emergency %n0. control %x2.",
-        &naturals,
-        &shorts,
-        &longs,
-        &[],
-    )
+        Values {
+            naturals: &naturals,
+            shorts: &shorts,
+            longs: &longs,
+            ..Values::default()
+        },
+    );
 }
 
-fn put_status(text: &mut TextRoom, at: usize, message: Status, failures: Failures) -> usize
-    ensures { Clips text.old at (fields_shown (status_fields message (failure_answer failures))) result text.new }
+fn put_status(page: &mut Page, message: Status, failures: Failures)
+    ensures { Appends page.old (fields_shown (status_fields message (failure_answer failures))) page.new }
 {
-    let lowest = failures.lowest;
-    match lowest {
-        Lowest::Bit(bit) => {
+    match failures.lowest {
+        Some(bit) => {
             let naturals = [message.status as u32, failures.count, bit];
             put_fields(
-                text,
-                at,
+                page,
                 b" status %x2. failures %c0. lowest %c0.",
-                &naturals,
-                &[],
-                &[],
-                &[],
-            )
+                Values {
+                    naturals: &naturals,
+                    ..Values::default()
+                },
+            );
         }
-        Lowest::None => {
+        None => {
             let naturals = [message.status as u32, failures.count];
             put_fields(
-                text,
-                at,
+                page,
                 b" status %x2. failures %c0. lowest none",
-                &naturals,
-                &[],
-                &[],
-                &[],
-            )
+                Values {
+                    naturals: &naturals,
+                    ..Values::default()
+                },
+            );
         }
     }
 }
 
-fn put_traffic(text: &mut TextRoom, at: usize, message: Traffic) -> usize
-    ensures { Clips text.old at (fields_shown (traffic_fields message)) result text.new }
+fn put_traffic(page: &mut Page, message: Traffic)
+    ensures { Appends page.old (fields_shown (traffic_fields message)) page.new }
 {
     let naturals = [
         message.icao_address,
@@ -177,48 +173,44 @@ fn put_traffic(text: &mut TextRoom, at: usize, message: Traffic) -> usize
         message.callsign_ninth,
     ];
     put_fields(
-        text,
-        at,
+        page,
         b" address %x8. latitude $d7. longitude $d7. altitude $m3. heading %d2. \
         horizontal velocity %v2. vertical velocity &v2. valid %x4. squawk %q4w altitude type %n0. \
         callsign @ emitter %n0. age %s0.",
-        &naturals,
-        &shorts,
-        &longs,
-        &callsign,
-    )
+        Values {
+            naturals: &naturals,
+            shorts: &shorts,
+            longs: &longs,
+            octets: &callsign,
+        },
+    );
 }
 
 // A message behind the octets that its frame has.
-pub fn put_message(
-    text: &mut TextRoom,
-    at: usize,
-    header: Header,
-    message: Message,
-    failures: Failures,
-) -> usize
-    ensures { Clips text.old at (mavlink_shown header message (failure_answer failures)) result text.new }
+pub fn put_message(page: &mut Page, framed: Framed)
+    ensures { Appends page.old (mavlink_shown framed.header framed.message (failure_answer framed.failures)) page.new }
 {
-    match message {
+    let header = framed.header;
+    match framed.message {
         Message::DataStream(data_stream) => {
-            let at = put_heading(text, at, b" data stream request", header);
-            put_data_stream(text, at, data_stream)
+            put_heading(page, b" data stream request", header);
+            put_data_stream(page, data_stream);
         }
         Message::Static(static_data) => {
-            let at = put_heading(text, at, b" static", header);
-            put_static(text, at, static_data)
+            put_heading(page, b" static", header);
+            put_static(page, static_data);
         }
         Message::Dynamic(dynamic_data) => {
-            let at = put_heading(text, at, b" dynamic", header);
-            put_dynamic(text, at, dynamic_data)
+            put_heading(page, b" dynamic", header);
+            put_dynamic(page, dynamic_data);
         }
         Message::Status(status) => {
-            let at = put_heading(text, at, b" status", header);
-            put_status(text, at, status, failures)
+            put_heading(page, b" status", header);
+            put_status(page, status, framed.failures);
         }
         Message::Traffic(report) => {
-            let at = put_heading(text, at, b" traffic report", header);
-            put_traffic(text, at, report)
+            put_heading(page, b" traffic report", header);
+            put_traffic(page, report);
         }
     }
 }

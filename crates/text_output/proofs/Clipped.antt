@@ -34,6 +34,10 @@ pub pasted : (l : List ℕ) (at : ℕ) (vs : List ℕ) → at + length vs ≤ le
 pasted l at vs h =
     ap (λ (xs : List ℕ). take at l ++ xs ++ drop (at + length vs) l) (take_all (length vs) vs (omega arith)) ∙ sym (sets-eq vs l at h)
 
+-- no octets are put
+pub none_put : (room : List ℕ) (end : ℕ) → length room ≡ text_room → end ≤ text_room → Clips room end [] end room
+none_put room end long within = record { room = long; ends = omega (arith, within); leaves = refl }
+
 module _ {before : List ℕ} {at : ℕ} {us : List ℕ} {next : ℕ} {after : List ℕ} (p : Clips before at us next after) where
   pub clips_long : length after ≡ length before
   clips_long = ap length p.leaves ∙ length-sets before at us

@@ -1,2 +1,3 @@
 pub mod Clips
 pub mod Text
+pub mod Pages

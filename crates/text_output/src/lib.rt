@@ -1,16 +1,15 @@
-// Text put into a lent text of 1536 octets. What would stand past its end is left out, so that no function here asks for room:
-// `Clips` says so, and where all fits it says that all is there.
-#![tactic(auto)]
+// Text put into a lent page of 1536 octets. What would stand past its end is left out, so that no function here asks for room:
+// `Appends` says so, and where all fits it says that all is there.
+#![tactic(auto, using(crate::proofs::Clipped::then))]
 
-ghost use Rattle.std.specs.Prelude.{◌≡◌, [], ◌∷◌, ◌+◌, ◌/◌, ◌%◌, ◌<◌, ◌≤◌, ◌^◌, length, drop, nat_abs};
+pub mod page;
+
+ghost use Rattle.std.specs.Prelude.{◌≡◌, [], ◌∷◌, ◌+◌, ◌/◌, ◌%◌, ◌<◌, ◌≤◌, ◌^◌, length};
 ghost use Rattle.field_words.specs.Words.{octets_up};
-ghost use Rattle.text_output.specs.Clips.{text_room, Clips};
+ghost use Rattle.text_output.specs.Pages.{Appends, Clears, Restarts};
 ghost use Rattle.text_output.specs.Text.{hex_digit, hex_pair, is_plain, backslashed, printed_octet, printed, numeral, natural, radix, padded, minus, places, fraction, fixed_point};
 
-// The room of a text, which is lent.
-pub const TEXT_ROOM: usize = 1536;
-
-pub type TextRoom = [u8; TEXT_ROOM];
+use page::{Page, TEXT_ROOM};
 
 // How octets are written: as they are; in a text, escaped where they have to be; in hexadecimal, a space before each.
 #[derive(Clone, Copy)]
@@ -36,44 +35,182 @@ pub enum Scale {
     TenMillionths,
 }
 
-// As a slice, since its length is known here.
-fn set_octet(text: &mut [u8], at: usize, octet: u8) -> usize
-    requires { length text.old ≡ text_room }
-    ensures { Clips text.old at (octet ∷ []) result text.new }
-{
-    let end = text.len();
-    if at < end {
-        text[at] = octet;
-        return at + 1;
+impl Page {
+    // Of zeros, and with no text.
+    pub fn new() -> Page
+        ensures { Clears result }
+    {
+        Page {
+            room: [0; TEXT_ROOM],
+            end: 0,
+        }
     }
-    end
-}
 
-fn set_nothing(text: &mut [u8], at: usize) -> usize
-    requires { length text.old ≡ text_room }
-    ensures { Clips text.old at [] result text.new }
-{
-    let end = text.len();
-    if at < end {
-        return at;
+    // The text begins anew; the octets of the one before stay until they are put over.
+    pub fn clear(&mut self)
+        ensures { Restarts self.old self.new }
+    {
+        self.end = 0;
     }
-    end
+
+    pub fn put_octet(&mut self, octet: u8)
+        ensures { Appends self.old (octet ∷ []) self.new }
+    {
+        if self.end < TEXT_ROOM {
+            self.room[self.end] = octet;
+            self.end += 1;
+        } else {
+            self.end = TEXT_ROOM;
+        }
+    }
+
+    // No text, from an end that may lie past the room's.
+    pub fn put_nothing(&mut self)
+        ensures { Appends self.old [] self.new }
+    {
+        self.end = self.end.min(TEXT_ROOM);
+    }
+
+    // In one piece where all of it fits.
+    pub fn put_word(&mut self, word: &[u8])
+        ensures { Appends self.old word.now self.new }
+    {
+        if self.end < TEXT_ROOM && word.len() <= TEXT_ROOM - self.end {
+            field_words::copies::copy(word, &mut self.room, self.end);
+            self.end += word.len();
+        } else {
+            self.put_printed(Printing::Plain, word);
+        }
+    }
+
+    pub fn put_printed(&mut self, printing: Printing, octets: &[u8])
+        ensures { Appends self.old (printed printing octets.now) self.new }
+    {
+        self.put_nothing();
+        for octet in octets {
+            self.put_printed_octet(printing, *octet);
+        }
+    }
+
+    fn put_printed_octet(&mut self, printing: Printing, octet: u8)
+        ensures { Appends self.old (printed_octet printing octet) self.new }
+    {
+        match printing {
+            Printing::Plain => self.put_octet(octet),
+            Printing::Escaped => self.put_escaped(octet),
+            Printing::Hex => self.put_hex(octet),
+        }
+    }
+
+    fn put_escaped(&mut self, octet: u8)
+        ensures { Appends self.old (backslashed octet) self.new }
+    {
+        if is_plain(octet) {
+            self.put_octet(octet);
+        } else {
+            self.put_octet(b'\\');
+            self.put_octet(b'x');
+            self.put_pair(octet);
+        }
+    }
+
+    fn put_hex(&mut self, octet: u8)
+        ensures { Appends self.old (printed_octet Printing.Hex octet) self.new }
+    {
+        self.put_octet(b' ');
+        self.put_pair(octet);
+    }
+
+    fn put_pair(&mut self, octet: u8)
+        ensures { Appends self.old (hex_pair octet) self.new }
+    {
+        let n = octet as u64;
+        self.put_octet(digit(n / 16));
+        self.put_octet(digit(n % 16));
+    }
+
+    pub fn put_natural(&mut self, n: u64)
+        ensures { Appends self.old (natural n) self.new }
+    {
+        self.put_numeral(false, 10, 20, n);
+    }
+
+    // So many digits, the low ones of the number.
+    pub fn put_padded(&mut self, base: Base, digits: u8, n: u64)
+        ensures { Appends self.old (padded base digits n) self.new }
+    {
+        self.put_numeral(true, radix_of(base), digits, n);
+    }
+
+    // Two digits a step: a number of many digits calls itself half as often.
+    fn put_numeral(&mut self, padded: bool, base: u64, most: u8, n: u64)
+        requires { (0 < base) × (base ≤ 16) }
+        ensures { Appends self.old (numeral padded base most n) self.new }
+    {
+        if most == 0 {
+            return self.put_nothing();
+        }
+        if !padded & (n < base) {
+            return self.put_octet(digit(n));
+        }
+        let more = quotient(n, base);
+        let last = digit(remainder(n, base));
+        if most == 1 {
+            return self.put_octet(last);
+        }
+        if !padded & (more < base) {
+            return self.put_two(digit(more), last);
+        }
+        self.put_numeral(padded, base, most - 2, quotient(more, base));
+        self.put_two(digit(remainder(more, base)), last);
+    }
+
+    fn put_two(&mut self, first: u8, second: u8)
+        ensures { Appends self.old (first ∷ second ∷ []) self.new }
+    {
+        self.put_octet(first);
+        self.put_octet(second);
+    }
+
+    // So many small units, in wholes.
+    pub fn put_fixed(&mut self, scale: Scale, n: i64)
+        ensures { Appends self.old (fixed_point scale n) self.new }
+    {
+        let small = n.unsigned_abs();
+        let whole = whole_of(scale);
+        self.put_minus(n);
+        self.put_natural(small / whole);
+        self.put_fraction(places_of(scale), small % whole);
+    }
+
+    fn put_minus(&mut self, n: i64)
+        ensures { Appends self.old (minus n) self.new }
+    {
+        if n < 0 {
+            self.put_octet(b'-');
+        } else {
+            self.put_nothing();
+        }
+    }
+
+    // Seven places, as angles have, go in one store where there is room.
+    fn put_fraction(&mut self, places: u8, n: u64)
+        ensures { Appends self.old (fraction places n) self.new }
+    {
+        if places == 0 {
+            return self.put_nothing();
+        }
+        if places == 7 && self.end < TEXT_ROOM - 7 {
+            field_words::put_64(&mut self.room, self.end, seven_places(n));
+            self.end += 8;
+            return;
+        }
+        self.put_octet(b'.');
+        self.put_numeral(true, 10, places, n);
+    }
 }
 
-pub fn put_octet(text: &mut TextRoom, at: usize, octet: u8) -> usize
-    ensures { Clips text.old at (octet ∷ []) result text.new }
-{
-    set_octet(text, at, octet)
-}
-
-// No text, from a place that may lie past the end.
-pub fn put_nothing(text: &mut TextRoom, at: usize) -> usize
-    ensures { Clips text.old at [] result text.new }
-{
-    set_nothing(text, at)
-}
-
-// ---- octets
+// ---- digits
 
 fn digit(d: u64) -> u8
     requires { d < 16 }
@@ -82,181 +219,33 @@ fn digit(d: u64) -> u8
     (d + 48 + (d + 6) / 16 * 39) as u8
 }
 
-fn put_pair(text: &mut TextRoom, at: usize, octet: u8) -> usize
-    ensures { Clips text.old at (hex_pair octet) result text.new }
-{
-    let n = octet as u64;
-    let at = put_octet(text, at, digit(n / 16));
-    put_octet(text, at, digit(n % 16))
-}
-
 fn is_plain(x: u8) -> bool
     ensures { result ≡ is_plain x }
 {
     (0x20 <= x) & (x <= 0x7E) & !(x == 0x22) & !(x == 0x5C)
 }
 
-fn put_escaped(text: &mut TextRoom, at: usize, octet: u8) -> usize
-    ensures { Clips text.old at (backslashed octet) result text.new }
-{
-    if is_plain(octet) {
-        return put_octet(text, at, octet);
-    }
-    let at = put_octet(text, at, b'\\');
-    let at = put_octet(text, at, b'x');
-    put_pair(text, at, octet)
-}
-
-fn put_hex(text: &mut TextRoom, at: usize, octet: u8) -> usize
-    ensures { Clips text.old at (printed_octet Printing.Hex octet) result text.new }
-{
-    let at = put_octet(text, at, b' ');
-    put_pair(text, at, octet)
-}
-
-fn put_printed_octet(text: &mut TextRoom, at: usize, printing: Printing, octet: u8) -> usize
-    ensures { Clips text.old at (printed_octet printing octet) result text.new }
-{
-    match printing {
-        Printing::Plain => put_octet(text, at, octet),
-        Printing::Escaped => put_escaped(text, at, octet),
-        Printing::Hex => put_hex(text, at, octet),
-    }
-}
-
-// The octets of a slice from a place on.
-pub fn put_printed(
-    text: &mut TextRoom,
-    at: usize,
-    printing: Printing,
-    octets: &[u8],
-    from: usize,
-) -> usize
-    ensures { Clips text.old at (printed printing (drop from octets.now)) result text.new }
-{
-    let mut at = put_nothing(text, at);
-    let mut i = from;
-    while i < octets.len() {
-        at = put_printed_octet(text, at, printing, octets[i]);
-        i += 1;
-    }
-    at
-}
-
-fn set_word(text: &mut [u8], at: usize, word: &[u8]) -> usize
-    requires { (length text.old ≡ text_room) × (at + length word.now ≤ text_room) }
-    ensures { Clips text.old at word.now result text.new }
-{
-    field_words::copies::copy(word, text, at);
-    at + word.len()
-}
-
-// Eight octets a step where all of it fits.
-pub fn put_word(text: &mut TextRoom, at: usize, word: &[u8]) -> usize
-    ensures { Clips text.old at word.now result text.new }
-{
-    if at < TEXT_ROOM {
-        if word.len() <= TEXT_ROOM - at {
-            return set_word(text, at, word);
-        }
-    }
-    put_printed(text, at, Printing::Plain, word, 0)
-}
-
-// ---- numbers
-
 // By a constant where the base is one of ours: a division by a variable takes many times as long.
 fn quotient(n: u64, base: u64) -> u64
     requires { 0 < base }
     ensures { result ≡ n / base }
 {
-    if base == 10 {
-        return n / 10;
+    match base {
+        10 => n / 10,
+        16 => n / 16,
+        _ => n / base,
     }
-    if base == 16 {
-        return n / 16;
-    }
-    n / base
 }
 
 fn remainder(n: u64, base: u64) -> u64
     requires { 0 < base }
     ensures { result ≡ n % base }
 {
-    if base == 10 {
-        return n % 10;
+    match base {
+        10 => n % 10,
+        16 => n % 16,
+        _ => n % base,
     }
-    if base == 16 {
-        return n % 16;
-    }
-    n % base
-}
-
-fn set_two(text: &mut [u8], at: usize, first: u8, second: u8) -> usize
-    requires { length text.old ≡ text_room }
-    ensures { Clips text.old at (first ∷ second ∷ []) result text.new }
-{
-    if at < text.len() - 1 {
-        text[at] = first;
-        text[at + 1] = second;
-        return at + 2;
-    }
-    let at = set_octet(text, at, first);
-    set_octet(text, at, second)
-}
-
-fn put_two(text: &mut TextRoom, at: usize, first: u8, second: u8) -> usize
-    ensures { Clips text.old at (first ∷ second ∷ []) result text.new }
-{
-    set_two(text, at, first, second)
-}
-
-// Two digits a step: a number of many digits calls itself half as often.
-fn put_numeral(text: &mut TextRoom, at: usize, padded: bool, base: u64, most: u8, n: u64) -> usize
-    requires { (0 < base) × (base ≤ 16) }
-    ensures { Clips text.old at (numeral padded base most n) result text.new }
-{
-    if most == 0 {
-        return put_nothing(text, at);
-    }
-    if !padded & (n < base) {
-        return put_octet(text, at, digit(n));
-    }
-    let more = quotient(n, base);
-    let last = digit(remainder(n, base));
-    if most == 1 {
-        return put_octet(text, at, last);
-    }
-    if !padded & (more < base) {
-        return put_two(text, at, digit(more), last);
-    }
-    let at = put_numeral(text, at, padded, base, most - 2, quotient(more, base));
-    put_two(text, at, digit(remainder(more, base)), last)
-}
-
-pub fn put_natural(text: &mut TextRoom, at: usize, n: u64) -> usize
-    ensures { Clips text.old at (natural n) result text.new }
-{
-    put_numeral(text, at, false, 10, 20, n)
-}
-
-// A number without its sign.
-fn size(n: i64) -> u64
-    ensures { result ≡ nat_abs n }
-{
-    if n < 0 {
-        return (-1 - n) as u64 + 1;
-    }
-    n as u64
-}
-
-fn put_minus(text: &mut TextRoom, at: usize, n: i64) -> usize
-    ensures { Clips text.old at (minus n) result text.new }
-{
-    if n < 0 {
-        return put_octet(text, at, b'-');
-    }
-    put_nothing(text, at)
 }
 
 fn radix_of(base: Base) -> u64
@@ -266,13 +255,6 @@ fn radix_of(base: Base) -> u64
         Base::Decimal => 10,
         Base::Hexadecimal => 16,
     }
-}
-
-// So many digits, the low ones of the number.
-pub fn put_padded(text: &mut TextRoom, at: usize, base: Base, digits: u8, n: u64) -> usize
-    ensures { Clips text.old at (padded base digits n) result text.new }
-{
-    put_numeral(text, at, true, radix_of(base), digits, n)
 }
 
 // ---- numbers of small units
@@ -322,39 +304,4 @@ fn seven_places(n: u64) -> u64
                 + (decimal(from_3) * 4294967296
                     + (decimal(from_2) * 1099511627776
                         + (decimal(from_1) * 281474976710656 + decimal(n) * 72057594037927936))))))
-}
-
-fn set_eight(text: &mut [u8], at: usize, word: u64) -> usize
-    requires { (length text.old ≡ text_room) × (at + 8 ≤ text_room) }
-    ensures { Clips text.old at (octets_up 8 word) result text.new }
-{
-    field_words::put_64(text, at, word);
-    at + 8
-}
-
-// Seven places, as angles have, go in one store where there is room.
-fn put_fraction(text: &mut TextRoom, at: usize, places: u8, n: u64) -> usize
-    ensures { Clips text.old at (fraction places n) result text.new }
-{
-    if places == 0 {
-        return put_nothing(text, at);
-    }
-    if places == 7 {
-        if at < TEXT_ROOM - 7 {
-            return set_eight(text, at, seven_places(n));
-        }
-    }
-    let at = put_octet(text, at, b'.');
-    put_numeral(text, at, true, 10, places, n)
-}
-
-// So many small units, in wholes.
-pub fn put_fixed(text: &mut TextRoom, at: usize, scale: Scale, n: i64) -> usize
-    ensures { Clips text.old at (fixed_point scale n) result text.new }
-{
-    let small = size(n);
-    let whole = whole_of(scale);
-    let at = put_minus(text, at, n);
-    let at = put_natural(text, at, small / whole);
-    put_fraction(text, at, places_of(scale), small % whole)
 }

@@ -1,40 +1,53 @@
 // A refusal by its number and in words.
-#![tactic(auto)]
+#![tactic(auto, unfolding(crate::specs::Refusals::reason))]
 
-ghost use Rattle.text_output.specs.Clips.{Clips};
+ghost use Rattle.std.specs.Prelude.{◌≡◌};
+ghost use Rattle.refusals.specs.Refusals.{refusal_number};
+ghost use Rattle.text_output.specs.Pages.{Appends};
 ghost use Rattle.text_refusals.specs.Refusals.{reason, refusal};
 
-use text_output::{TextRoom, put_word};
+use refusals::Refusal;
+use text_output::page::Page;
 
-// The rows of `rows` (specs/Refusals), in its order, and the words for a number that has none.
-fn put_reason(text: &mut TextRoom, at: usize, number: u8) -> usize
-    ensures { Clips text.old at (reason number) result text.new }
+// The words of the row of `rows` (specs/Refusals) that a refusal has. A writer's refusals are never read from a line, and have no row.
+fn words_of(refusal: Refusal) -> &'static [u8]
+    ensures { result.now ≡ reason (refusal_number refusal) }
 {
-    match number {
-        refusals::BAD_ESCAPE => put_word(text, at, b" bad escape"),
-        refusals::ESCAPE_BEFORE_FLAG => put_word(text, at, b" escape before the flag"),
-        refusals::TOO_LONG => put_word(text, at, b" too long"),
-        refusals::TOO_SHORT => put_word(text, at, b" too short"),
-        refusals::WRONG_CHECK => put_word(text, at, b" check wrong"),
-        refusals::ROOM => put_word(text, at, b" no room for the body"),
-        refusals::UNKNOWN_ID => put_word(text, at, b" unknown message"),
-        refusals::MESSAGE_LENGTH => put_word(text, at, b" wrong length"),
-        refusals::FIXED => put_word(text, at, b" wrong version, signature or subtype"),
-        refusals::FIELD => put_word(text, at, b" field outside its range"),
-        refusals::MAVLINK_SHORT => put_word(text, at, b" too few bytes"),
-        refusals::MAVLINK_START => put_word(text, at, b" first byte not fe"),
-        refusals::MAVLINK_UNKNOWN_ID => put_word(text, at, b" unknown message"),
-        refusals::MAVLINK_LENGTH => put_word(text, at, b" wrong length"),
-        refusals::MAVLINK_WRONG_CHECK => put_word(text, at, b" check wrong"),
-        refusals::MAVLINK_FIELD => put_word(text, at, b" field outside its range"),
-        _ => put_word(text, at, b" refused"),
+    match refusal {
+        Refusal::BadEscape => b" bad escape",
+        Refusal::EscapeBeforeFlag => b" escape before the flag",
+        Refusal::TooLong => b" too long",
+        Refusal::TooShort => b" too short",
+        Refusal::WrongCheck => b" check wrong",
+        Refusal::Room => b" no room for the body",
+        Refusal::UnknownId => b" unknown message",
+        Refusal::MessageLength => b" wrong length",
+        Refusal::Fixed => b" wrong version, signature or subtype",
+        Refusal::Field => b" field outside its range",
+        Refusal::MavlinkShort => b" too few bytes",
+        Refusal::MavlinkStart => b" first byte not fe",
+        Refusal::MavlinkUnknownId => b" unknown message",
+        Refusal::MavlinkLength => b" wrong length",
+        Refusal::MavlinkWrongCheck => b" check wrong",
+        Refusal::MavlinkField => b" field outside its range",
+        Refusal::BodyLength | Refusal::OutputLength => b" refused",
     }
 }
 
-pub fn put_refusal(text: &mut TextRoom, at: usize, number: u8) -> usize
-    ensures { Clips text.old at (refusal number) result text.new }
+fn put_reason(page: &mut Page, number: u8)
+    ensures { Appends page.old (reason number) page.new }
 {
-    let at = put_word(text, at, b"no ");
-    let at = text_output::put_natural(text, at, number as u64);
-    put_reason(text, at, number)
+    match Refusal::try_from(number) {
+        Ok(refusal) => page.put_word(words_of(refusal)),
+        Err(_) => page.put_word(b" refused"),
+    }
+}
+
+// Stays: a number, since `refusal` of specs/Refusals.antt has words for any, and this says so of each.
+pub fn put_refusal(page: &mut Page, number: u8)
+    ensures { Appends page.old (refusal number) page.new }
+{
+    page.put_word(b"no ");
+    page.put_natural(number as u64);
+    put_reason(page, number);
 }

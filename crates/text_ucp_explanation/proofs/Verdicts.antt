@@ -8,10 +8,8 @@ use lib.Seq.{take-append_seam}
 use Rattle.ucp_frame.specs.Stretch.{Verdict, silent, refused, delivered}
 use Rattle.ucp_receiver.specs.declared.Record.{Record}
 use Rattle.ucp_receiver.specs.declared.Taken.{Taken}
-use Rattle.ucp_receiver.specs.declared.Answer.{Answer}
-use Rattle.ucp_receiver.specs.declared.Answer.TheVariants.{Nothing, Delivered, Refused}
-use Rattle.ucp_receiver.specs.Answers.{verdict_of}
-use Rattle.ucp_receiver.specs.Answers.{ReceiverAnswer, nothing, refusal, body, receiver_answer, answer_for, output_at_flag}
+use Rattle.std.proofs.Common.{None, Some, Ok, Err}
+use Rattle.ucp_receiver.specs.Answers.{Answer, verdict_of, ReceiverAnswer, nothing, refusal, body, receiver_answer, answer_for, output_at_flag}
 use Rattle.ucp_receiver.specs.Octet.{state_of}
 use Rattle.ucp_receiver.specs.Slice.{Takes, SliceRun, slice_run}
 use Rattle.text_ucp_listing.specs.Listing.{body_room}
@@ -23,9 +21,9 @@ verdict_answered (refusal number) room = refused number
 verdict_answered (body octets) room = delivered (take octets room)
 
 of_answer : (a : Answer) (room : List ℕ) → verdict_of a room ≡ verdict_answered (receiver_answer a) room
-of_answer Nothing room = refl
-of_answer (Refused number) room = refl
-of_answer (Delivered octets) room = refl
+of_answer None room = refl
+of_answer (Some (Err why)) room = refl
+of_answer (Some (Ok octets)) room = refl
 
 answer_back : (v : Verdict) (before : List ℕ) {after : List ℕ} → after ≡ output_at_flag v before → verdict_answered (answer_for v) after ≡ v
 answer_back silent before f = refl

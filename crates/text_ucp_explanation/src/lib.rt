@@ -7,85 +7,78 @@ ghost use Rattle.text_ucp_listing.specs.Listing.{body_room};
 ghost use Rattle.text_ucp_listing.specs.Steps.{BodyWithin};
 ghost use Rattle.ucp_frame.specs.Stretch.{refused};
 ghost use Rattle.ucp_messages.specs.Messages.{message_due, means, refused as unread};
-ghost use Rattle.text_output.specs.Clips.{Clips};
+ghost use Rattle.refusals.specs.Refusals.{refusal_number};
+ghost use Rattle.text_output.specs.Pages.{Appends};
 ghost use Rattle.text_ucp_explanation.specs.Explanation.{read_line, explanation};
 ghost use Rattle.text_ucp_explanation.specs.Calls.{ExplainsAnswer};
 
-use text_output::{Printing, TextRoom};
+use refusals::Refusal;
+use text_output::Printing;
+use text_output::page::Page;
 use ucp_frame::BodyRoom;
-use ucp_messages::{Message, Read};
+use ucp_messages::Message;
 use ucp_receiver::{Answer, Record, Store, Taken};
 
-fn put_refused(text: &mut TextRoom, number: u8) -> usize
-    ensures { Clips text.old 0 (explanation (refused number)) result text.new }
+fn put_refused(page: &mut Page, why: Refusal)
+    ensures { Appends page.old (explanation (refused (refusal_number why))) page.new }
 {
-    let at = text_refusals::put_refusal(text, 0, number);
-    text_output::put_octet(text, at, b'\n')
+    text_refusals::put_refusal(page, why.number());
+    page.put_octet(b'\n');
 }
 
-fn put_unread(text: &mut TextRoom, number: u8, body: &[u8]) -> usize
-    ensures { Clips text.old 0 (read_line (unread number) body.now) result text.new }
+fn put_unread(page: &mut Page, why: Refusal, body: &[u8])
+    ensures { Appends page.old (read_line (unread (refusal_number why)) body.now) page.new }
 {
-    let at = text_refusals::put_refusal(text, 0, number);
-    let at = text_output::put_word(text, at, b" body ");
-    let at = text_output::put_natural(text, at, body.len() as u64);
-    let at = text_output::put_printed(text, at, Printing::Hex, body, 0);
-    text_output::put_octet(text, at, b'\n')
+    text_refusals::put_refusal(page, why.number());
+    page.put_word(b" body ");
+    page.put_natural(body.len() as u64);
+    page.put_printed(Printing::Hex, body);
+    page.put_octet(b'\n');
 }
 
-fn put_read(text: &mut TextRoom, message: Message, body: &[u8]) -> usize
-    ensures { Clips text.old 0 (read_line (means message) body.now) result text.new }
+fn put_read(page: &mut Page, message: Message, body: &[u8])
+    ensures { Appends page.old (read_line (means message) body.now) page.new }
 {
-    let at = text_output::put_word(text, 0, b"ok ");
-    let at = text_output::put_natural(text, at, body.len() as u64);
-    let at = text_ucp_messages::put_message(text, at, message, body);
-    text_output::put_octet(text, at, b'\n')
+    page.put_word(b"ok ");
+    page.put_natural(body.len() as u64);
+    text_ucp_messages::put_message(page, message, body);
+    page.put_octet(b'\n');
 }
 
-fn put_body(text: &mut TextRoom, body: &[u8]) -> usize
-    ensures { Clips text.old 0 (read_line (message_due body.now) body.now) result text.new }
+fn put_body(page: &mut Page, body: &[u8])
+    ensures { Appends page.old (read_line (message_due body.now) body.now) page.new }
 {
-    let read = ucp_messages::read_message(body);
-    match read {
-        Read::Message(message) => put_read(text, message, body),
-        Read::Refused(number) => put_unread(text, number, body),
+    match ucp_messages::read_message(body) {
+        Ok(message) => put_read(page, message, body),
+        Err(why) => put_unread(page, why, body),
     }
 }
 
 // The line of an answer, where there is one. A body stands at the start of room.
-fn put_answer(text: &mut TextRoom, answer: Answer, room: &[u8]) -> usize
+fn put_answer(page: &mut Page, answer: Answer, room: &[u8])
     requires { (length room.now ≡ body_room) × BodyWithin answer body_room }
-    ensures { Clips text.old 0 (explanation (verdict_of answer room.now)) result text.new }
+    ensures { Appends page.old (explanation (verdict_of answer room.now)) page.new }
 {
     match answer {
-        Answer::Nothing => text_output::put_nothing(text, 0),
-        Answer::Delivered(n) => put_body(text, &room[..n]),
-        Answer::Refused(number) => put_refused(text, number),
+        None => page.put_nothing(),
+        Some(Ok(n)) => put_body(page, &room[..n]),
+        Some(Err(why)) => put_refused(page, why),
     }
 }
 
-// What a call of explain_next gives back: what the receiver gave, and `written` octets of text are at its start.
-#[derive(Clone, Copy)]
-pub struct Explained {
-    pub taken: Taken,
-    pub written: usize,
-}
-
-// Takes line octets up to the next answer, or all of them, and puts the line of the answer at the start of text.
+// Takes line octets up to the next answer, or all of them, and puts the line of the answer at the start of the page: what the receiver
+// gave.
 pub fn explain_next(
     receiver: Record,
     store: &mut Store,
     room: &mut BodyRoom,
     line: &[u8],
-    text: &mut TextRoom,
-) -> Explained
-    ensures { ExplainsAnswer receiver store.old room.old line.now text.old result store.new room.new text.new }
+    page: &mut Page,
+) -> Taken
+    ensures { ExplainsAnswer receiver store.old room.old line.now page.old result store.new room.new page.new }
 {
     let taken = ucp_receiver::slice::receive_slice(receiver, store, line, room);
-    let answer = taken.answer;
-    let written = put_answer(text, answer, room);
-    Explained {
-        taken: taken,
-        written: written,
-    }
+    page.clear();
+    put_answer(page, taken.answer, room);
+    taken
 }

@@ -1,9 +1,8 @@
 -- The fields of each kind of message as they are shown, in the order of its definition. Assumes nothing.
-use Rattle.std.specs.Prelude.{List, [], ◌∷◌, ◌++◌, ℕ, ◌+◌, ◌*◌, ◌/◌, pos, drop}
+use Rattle.std.specs.Prelude.{List, [], ◌∷◌, ◌++◌, ℕ, ◌+◌, ◌*◌, ◌/◌, pos, drop, Some}
 use Rattle.text_output.specs.declared.Printing.TheVariants.{Hex}
 use Rattle.text_output.specs.declared.Scale.TheVariants.{Ones, Thousandths}
 use Rattle.text_output.specs.Text.{codes, printed}
-use Rattle.text_fields.specs.declared.Reading.TheVariants.{Known}
 use Rattle.text_fields.specs.declared.Unit.TheVariants.{Seconds, Metres}
 use Rattle.text_fields.specs.Fields.{unless, number, reading, squawk, hexadecimal, quoted_text, truth, Labelled, ◌is◌, fields_shown}
 use Rattle.text_ucp_messages.specs.Reports.{knots, report_fields, geometric_fields}
@@ -22,7 +21,7 @@ abbrev pub heartbeat_fields : Heartbeat → List Labelled
 heartbeat_fields h =
     "first status" is hexadecimal 2 h.status_1
     ∷ "second status" is hexadecimal 2 h.status_2
-    ∷ "time" is reading Ones Seconds (Known (pos (seconds h)))
+    ∷ "time" is reading Ones Seconds (Some (pos (seconds h)))
     ∷ "counts" is hexadecimal 4 h.counts
     ∷ []
 

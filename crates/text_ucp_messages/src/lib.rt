@@ -1,21 +1,23 @@
 // The kinds of message on the UCP line, each by its template: its name, and its fields in users' units.
 #![tactic(auto)]
 
-ghost use Rattle.std.specs.Prelude.{[], ◌++◌};
+ghost use Rattle.std.specs.Prelude.{◌≡◌, [], ◌++◌, drop};
 ghost use Rattle.ucp_messages.specs.declared.Message.TheVariants.{Heartbeat as HeartbeatMessage, Uplink as UplinkMessage, GeometricAltitude as GeometricMessage, Request as RequestMessage, Control as ControlMessage, Initialization as InitializationMessage};
-ghost use Rattle.text_output.specs.Clips.{Clips};
+ghost use Rattle.text_output.specs.Pages.{Appends};
 ghost use Rattle.text_fields.specs.Fields.{fields_shown};
 ghost use Rattle.text_ucp_messages.specs.Reports.{report_fields};
 ghost use Rattle.text_ucp_messages.specs.Messages.{message_shown};
 
-use text_fields::{put_fields, put_named};
-use text_output::{Printing, TextRoom, put_word};
+use text_fields::{Values, put_fields, put_named};
+use text_output::Printing;
+use text_output::page::Page;
 use ucp_messages::{
     Control, GeometricAltitude, Heartbeat, Initialization, Message, Report, Request,
 };
 
-fn put_heartbeat(text: &mut TextRoom, at: usize, message: Heartbeat) -> usize
-    ensures { Clips text.old at (message_shown (HeartbeatMessage message) []) result text.new }
+#[tactic(auto, unfolding(crate::specs::Messages::message_shown, text_fields::specs::Fields::fields_shown, text_fields::specs::Templates::filled))]
+fn put_heartbeat(page: &mut Page, message: Heartbeat)
+    ensures { Appends page.old (message_shown (HeartbeatMessage message) []) page.new }
 {
     let naturals = [
         message.status_1 as u32,
@@ -24,26 +26,32 @@ fn put_heartbeat(text: &mut TextRoom, at: usize, message: Heartbeat) -> usize
         message.counts as u32,
     ];
     put_fields(
-        text,
-        at,
+        page,
         b" heartbeat first status %x2. second status %x2. time %s0. counts %x4.",
-        &naturals,
-        &[],
-        &[],
-        &[],
-    )
+        Values {
+            naturals: &naturals,
+            ..Values::default()
+        },
+    );
 }
 
-fn put_uplink(text: &mut TextRoom, at: usize, body: &[u8]) -> usize
-    ensures { Clips text.old at (message_shown UplinkMessage body.now) result text.new }
+// A body without its ID.
+fn behind_id(body: &[u8]) -> &[u8]
+    ensures { result.now ≡ drop 1 body.now }
 {
-    let at = put_word(text, at, b" uplink payload");
-    text_output::put_printed(text, at, Printing::Hex, body, 1)
+    body.get(1..).unwrap_or(&[])
+}
+
+fn put_uplink(page: &mut Page, body: &[u8])
+    ensures { Appends page.old (message_shown UplinkMessage body.now) page.new }
+{
+    page.put_word(b" uplink payload");
+    page.put_printed(Printing::Hex, behind_id(body));
 }
 
 // Ownship and traffic are told apart by the name. A track's step is 65536 of an angle's.
-fn put_report(text: &mut TextRoom, at: usize, name: &[u8], message: Report) -> usize
-    ensures { Clips text.old at (name.now ++ fields_shown (report_fields message)) result text.new }
+fn put_report(page: &mut Page, name: &[u8], message: Report)
+    ensures { Appends page.old (name.now ++ fields_shown (report_fields message)) page.new }
 {
     let naturals = [
         message.alert as u32,
@@ -62,53 +70,55 @@ fn put_report(text: &mut TextRoom, at: usize, name: &[u8], message: Report) -> u
     let longs = [message.latitude, message.longitude, steps as i32];
     let shorts = [message.vertical_rate];
     let callsign = message.callsign;
-    let at = put_word(text, at, name);
+    page.put_word(name);
     put_named(
-        text,
-        at,
+        page,
         b" alert %n0. address type %n0. address %x6. latitude $a7. longitude $a7. altitude %a0. \
         miscellaneous %n0. nic %n0. nacp %n0. speed %k0k vertical rate &r0. track $a7. emitter %n0. \
         callsign @ emergency %n0. spare %n0.",
-        &naturals,
-        &shorts,
-        &longs,
+        Values {
+            naturals: &naturals,
+            shorts: &shorts,
+            longs: &longs,
+            ..Values::default()
+        },
         callsign,
-    )
+    );
 }
 
-fn put_geometric(text: &mut TextRoom, at: usize, message: GeometricAltitude) -> usize
-    ensures { Clips text.old at (message_shown (GeometricMessage message) []) result text.new }
+fn put_geometric(page: &mut Page, message: GeometricAltitude)
+    ensures { Appends page.old (message_shown (GeometricMessage message) []) page.new }
 {
     let naturals = [message.metrics as u32];
     let shorts = [message.altitude];
     put_fields(
-        text,
-        at,
+        page,
         b" geometric altitude altitude &g0. metrics %x4.",
-        &naturals,
-        &shorts,
-        &[],
-        &[],
-    )
+        Values {
+            naturals: &naturals,
+            shorts: &shorts,
+            ..Values::default()
+        },
+    );
 }
 
-fn put_request(text: &mut TextRoom, at: usize, message: Request) -> usize
-    ensures { Clips text.old at (message_shown (RequestMessage message) []) result text.new }
+#[tactic(auto, unfolding(crate::specs::Messages::message_shown, text_fields::specs::Fields::fields_shown, text_fields::specs::Templates::filled))]
+fn put_request(page: &mut Page, message: Request)
+    ensures { Appends page.old (message_shown (RequestMessage message) []) page.new }
 {
     let naturals = [message.requested_id as u32];
     put_fields(
-        text,
-        at,
+        page,
         b" request requested %n0.",
-        &naturals,
-        &[],
-        &[],
-        &[],
-    )
+        Values {
+            naturals: &naturals,
+            ..Values::default()
+        },
+    );
 }
 
-fn put_control(text: &mut TextRoom, at: usize, message: Control) -> usize
-    ensures { Clips text.old at (message_shown (ControlMessage message) []) result text.new }
+fn put_control(page: &mut Page, message: Control)
+    ensures { Appends page.old (message_shown (ControlMessage message) []) page.new }
 {
     let naturals = [
         message.es_enabled as u32,
@@ -124,19 +134,21 @@ fn put_control(text: &mut TextRoom, at: usize, message: Control) -> usize
     let longs = [message.altitude];
     let identity = message.identity;
     put_named(
-        text,
-        at,
+        page,
         b" control 1090es %y0. mode s %y0. mode c %y0. mode a %y0. ident %y0. air ground %n0. \
         barometer checked %y0. altitude $m3m squawk %q4. emergency %n0. identity @",
-        &naturals,
-        &[],
-        &longs,
+        Values {
+            naturals: &naturals,
+            longs: &longs,
+            ..Values::default()
+        },
         identity,
-    )
+    );
 }
 
-fn put_initialization(text: &mut TextRoom, at: usize, message: Initialization) -> usize
-    ensures { Clips text.old at (message_shown (InitializationMessage message) []) result text.new }
+#[tactic(auto, unfolding(crate::specs::Messages::message_shown, text_fields::specs::Fields::fields_shown, text_fields::specs::Templates::filled))]
+fn put_initialization(page: &mut Page, message: Initialization)
+    ensures { Appends page.old (message_shown (InitializationMessage message) []) page.new }
 {
     let naturals = [
         message.version as u32,
@@ -149,29 +161,30 @@ fn put_initialization(text: &mut TextRoom, at: usize, message: Initialization) -
     ];
     let callsign = message.callsign;
     put_named(
-        text,
-        at,
+        page,
         b" initialization version %n0. address %x6. emitter %n0. callsign @ stall speed %k0k size %n0. \
         lateral %n0. longitudinal %n0.",
-        &naturals,
-        &[],
-        &[],
+        Values {
+            naturals: &naturals,
+            ..Values::default()
+        },
         callsign,
-    )
+    );
 }
 
 // A message by its kind's name and its fields. An uplink's payload stands in its body.
-pub fn put_message(text: &mut TextRoom, at: usize, message: Message, body: &[u8]) -> usize
-    ensures { Clips text.old at (message_shown message body.now) result text.new }
+#[tactic(auto, unfolding(crate::specs::Messages::message_shown))]
+pub fn put_message(page: &mut Page, message: Message, body: &[u8])
+    ensures { Appends page.old (message_shown message body.now) page.new }
 {
     match message {
-        Message::Heartbeat(heartbeat) => put_heartbeat(text, at, heartbeat),
-        Message::Uplink => put_uplink(text, at, body),
-        Message::Ownship(report) => put_report(text, at, b" ownship", report),
-        Message::GeometricAltitude(geometric) => put_geometric(text, at, geometric),
-        Message::Traffic(report) => put_report(text, at, b" traffic", report),
-        Message::Request(request) => put_request(text, at, request),
-        Message::Control(control) => put_control(text, at, control),
-        Message::Initialization(initialization) => put_initialization(text, at, initialization),
+        Message::Heartbeat(heartbeat) => put_heartbeat(page, heartbeat),
+        Message::Uplink => put_uplink(page, body),
+        Message::Ownship(report) => put_report(page, b" ownship", report),
+        Message::GeometricAltitude(geometric) => put_geometric(page, geometric),
+        Message::Traffic(report) => put_report(page, b" traffic", report),
+        Message::Request(request) => put_request(page, request),
+        Message::Control(control) => put_control(page, control),
+        Message::Initialization(initialization) => put_initialization(page, initialization),
     }
 }

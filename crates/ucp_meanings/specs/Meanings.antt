@@ -1,25 +1,16 @@
 -- What the raw numbers of messages 10, 11 and 20 mean (document 01, "Message kinds on the UCP line"). Assumes nothing.
-use Rattle.std.specs.Prelude.{Bool, false, cond, ℕ, ◌*◌, eqb, ℤ, pos, negsuc, ◌-ℤ◌, ◌*ℤ◌}
+use Rattle.std.specs.Prelude.{Bool, false, cond, ℕ, ◌*◌, eqb, ℤ, pos, negsuc, ◌-ℤ◌, ◌*ℤ◌, Option, Some, None}
 use Rattle.std.specs.Int.Signed.{quot_z}
-use Rattle.ucp_meanings.specs.declared.Altitude.{Altitude}
-use Rattle.ucp_meanings.specs.declared.Altitude.TheVariants.{NoData as NoAltitude, Feet}
-use Rattle.ucp_meanings.specs.declared.Rate.{Rate}
-use Rattle.ucp_meanings.specs.declared.Rate.TheVariants.{NoData as NoRate, FeetPerMinute}
 
 -- what a raw number means: nothing, or a value in the unit of its rule
 pub data Meaning : Type 0 where
   no_data : Meaning
   value : ℤ → Meaning
 
--- ---- what the answers say
-
-abbrev pub altitude_answer : Altitude → Meaning
-altitude_answer NoAltitude = no_data
-altitude_answer (Feet feet) = value feet
-
-abbrev pub rate_answer : Rate → Meaning
-rate_answer NoRate = no_data
-rate_answer (FeetPerMinute feet) = value feet
+-- what an answer says
+abbrev pub meaning_of : Option ℤ → Meaning
+meaning_of None = no_data
+meaning_of (Some n) = value n
 
 -- ---- the rules
 

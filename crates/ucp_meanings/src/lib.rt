@@ -2,41 +2,27 @@
 #![tactic(auto)]
 
 ghost use Rattle.std.specs.Prelude.{◌≡◌};
-ghost use Rattle.ucp_meanings.specs.Meanings.{altitude_answer, rate_answer, altitude_means, rate_means, geometric_means, degrees_e7};
+ghost use Rattle.ucp_meanings.specs.Meanings.{meaning_of, altitude_means, rate_means, geometric_means, degrees_e7};
 
-// A pressure altitude.
-#[derive(Clone, Copy)]
-pub enum Altitude {
-    NoData,
-    Feet(i32),
-}
-
-// A vertical rate.
-#[derive(Clone, Copy)]
-pub enum Rate {
-    NoData,
-    FeetPerMinute(i32),
-}
-
-// The pressure altitude that messages 10 and 20 carry as a number.
-pub fn altitude_in_feet(number: u16) -> Altitude
-    ensures { altitude_answer result ≡ altitude_means number }
+// The pressure altitude that messages 10 and 20 carry as a number; None where they have no data.
+pub fn altitude_in_feet(number: u16) -> Option<i32>
+    ensures { meaning_of result ≡ altitude_means number }
 {
     if number == 0xFFF {
-        return Altitude::NoData;
+        return None;
     }
     let scaled = number as u32 * 25;
-    Altitude::Feet(scaled as i32 - 1000)
+    Some(scaled as i32 - 1000)
 }
 
-// The vertical rate that messages 10 and 20 carry as a number.
-pub fn rate_in_feet_per_minute(number: i16) -> Rate
-    ensures { rate_answer result ≡ rate_means number }
+// The vertical rate that messages 10 and 20 carry as a number; None where they have no data.
+pub fn rate_in_feet_per_minute(number: i16) -> Option<i32>
+    ensures { meaning_of result ≡ rate_means number }
 {
     if number == -2048 {
-        return Rate::NoData;
+        return None;
     }
-    Rate::FeetPerMinute(number as i32 * 64)
+    Some(number as i32 * 64)
 }
 
 // The geometric altitude that message 11 carries as a number.

@@ -62,17 +62,11 @@ loop-turn-preserved c =
       t.auto.buffer ∙ l.invariant.1,
       omega (arith, o.within, t.auto.block),
       turns_none l.turn.left (length l.block) 0 t.result.turn w.input w.follows,
-      turn_passed every_explanation onto (state_of fresh_rest a.store.now) zero_counts l.receiver l.store l.block l.turn l.octets l.written c.loop-turn-test.true l.invariant.2 l.invariant.3 l.invariant.4 t.result _ _ _ w c.wrapping_add_usize-octets.ensures.value c.wrapping_add_usize-written.ensures.value,
+      turn_passed every_explanation onto (state_of fresh_rest a.store.now) zero_counts l.receiver l.store l.block l.turn l.octets l.written c.loop-turn-test.true l.invariant.2 l.invariant.3 l.invariant.4 t.result _ _ _ w refl refl,
     )
-
-pub shape_of-block : goal.shape_of-block
-shape_of-block c = c.loop-turn.invariant.0 ∙ c.first_turn-turn.auto.block
-
-pub shape_of-buffer : goal.shape_of-buffer
-shape_of-buffer c = c.loop-turn.invariant.1
 
 pub returns : goal.returns
 returns c =
     let a = c.args in
     let l = c.loop-turn in
-    run_ends every_explanation onto (state_of fresh_rest a.store.now) zero_counts l.turn.input l.octets l.written (record { state = state_of l.receiver.rest l.store; counts = l.receiver.counts }) c.write_ending-whole.result _ _ l.invariant.4 c.write_ending-whole.ensures
+    run_ends every_explanation onto (state_of fresh_rest a.store.now) zero_counts l.turn.input l.octets l.written (record { state = state_of l.receiver.rest l.store; counts = l.receiver.counts }) c.write_ending.result _ _ l.invariant.4 c.write_ending.ensures

@@ -1,7 +1,7 @@
 -- `mavlink_explainer::explain_block` meets its contract. The loop's invariant: walking what is left walks the whole block, behind
 -- the lines so far, of which as many octets went out or wait. Assumes nothing.
 use Rattle.mavlink_explainer.proofs.Turns.{SoFar}
-use Rattle.std.proofs.Common.{◌≡◌, ◌+◌, ◌-◌, ◌%◌, ◌^◌, ◌≤◌, length}
+use Rattle.std.proofs.Common.{◌≡◌, ◌+◌, ◌%◌, ◌^◌, ◌≤◌, length}
 use Rattle.mavlink_explainer.proofs.explain_block.Given as goal
 
 abbrev pub invariant-loop-left : goal.invariant-loop-left

@@ -5,10 +5,4 @@ use Rattle.text_mavlink_explanation.proofs.put_refused.Goals as goal
 
 pub returns : goal.returns
 unfolding frame_line
-returns c = then c.put_refusal-at.ensures c.put_octet.ensures
-
-pub put_refusal-at-requires : goal.put_refusal-at-requires
-put_refusal-at-requires c = tt
-
-pub put_octet-requires : goal.put_octet-requires
-put_octet-requires c = tt
+returns c = then (rw c.number.ensures at c.put_refusal.ensures) c.put_octet.ensures

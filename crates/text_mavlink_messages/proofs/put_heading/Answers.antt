@@ -6,4 +6,4 @@ use Rattle.text_mavlink_messages.proofs.put_heading.Goals as goal
 
 pub returns : goal.returns
 unfolding fields_shown filled
-returns c = then c.put_word-at.ensures c.put_fields.ensures
+returns c = then c.put_word.ensures c.put_fields.ensures

@@ -7,12 +7,12 @@ use Rattle.mavlink_messages.specs.Failures.{lowest_answer}
 use Rattle.text_mavlink_messages.specs.Messages.{status_fields}
 use Rattle.text_mavlink_messages.proofs.put_status.Goals as goal
 
-pub returns-in-Bit : goal.returns-in-Bit
+pub returns-in-Some : goal.returns-in-Some
 unfolding fields_shown filled
-returns-in-Bit c =
+returns-in-Some c =
     let m = c.args.message in
     let f = c.args.failures in
-    let e = c.in-Bit.is in
+    let e = c.in-Some.is in
     put_as c.put_fields.ensures (λ i. fields_shown (status_fields m (record { count = f.count; lowest = lowest_answer (sym e i) })))
 
 pub returns-in-None : goal.returns-in-None

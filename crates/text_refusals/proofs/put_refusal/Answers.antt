@@ -5,4 +5,4 @@ use Rattle.text_refusals.proofs.put_refusal.Goals as goal
 
 pub returns : goal.returns
 unfolding refusal
-returns c = then c.put_word-at.ensures (then c.put_natural-at.ensures c.put_reason.ensures)
+returns c = then c.put_word.ensures (then c.put_natural.ensures c.put_reason.ensures)

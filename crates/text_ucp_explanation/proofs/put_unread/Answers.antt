@@ -5,19 +5,6 @@ use Rattle.text_ucp_explanation.proofs.put_unread.Goals as goal
 
 pub returns : goal.returns
 unfolding read_line
-returns c = then c.put_refusal-at.ensures (then c.put_word-at.ensures (then c.put_natural-at.ensures (then c.put_printed-at.ensures c.put_octet.ensures)))
-
-pub put_refusal-at-requires : goal.put_refusal-at-requires
-put_refusal-at-requires c = tt
-
-pub put_word-at-requires : goal.put_word-at-requires
-put_word-at-requires c = tt
-
-pub put_natural-at-requires : goal.put_natural-at-requires
-put_natural-at-requires c = tt
-
-pub put_printed-at-requires : goal.put_printed-at-requires
-put_printed-at-requires c = tt
-
-pub put_octet-requires : goal.put_octet-requires
-put_octet-requires c = tt
+returns c =
+    rw (← c.number.ensures)
+    (then c.put_refusal.ensures (then c.put_word.ensures (then c.put_natural.ensures (then c.put_printed.ensures c.put_octet.ensures))))

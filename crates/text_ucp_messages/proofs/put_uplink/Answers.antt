@@ -5,10 +5,4 @@ use Rattle.text_ucp_messages.proofs.put_uplink.Goals as goal
 
 pub returns : goal.returns
 unfolding message_shown
-returns c = then c.put_word-at.ensures c.put_printed.ensures
-
-pub put_word-at-requires : goal.put_word-at-requires
-put_word-at-requires c = tt
-
-pub put_printed-requires : goal.put_printed-requires
-put_printed-requires c = tt
+returns c = then c.put_word.ensures (rw c.behind_id.ensures at c.put_printed.ensures)

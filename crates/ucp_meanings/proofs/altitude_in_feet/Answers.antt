@@ -14,20 +14,9 @@ pub returns-then-number-eq4095 : goal.returns-then-number-eq4095
 unfolding altitude_means
 returns-then-number-eq4095 c = rw (eq-eqb c.args.number 4095 c.if-number-eq4095.true)
 
-pub overflow_cast-result : goal.overflow_cast-result
-overflow_cast-result c = record { sfits = omega arith }
-
-pub overflow_sub-result : goal.overflow_sub-result
-overflow_sub-result c =
-    let n = c.args.number * 25 in
-    rw (to_z_pos w32 n (omega arith)) (less_fits n (omega arith))
-
 pub returns : goal.returns
 unfolding altitude_means
 returns c =
     let n = c.args.number * 25 in
     rw (to_z_pos w32 n (omega arith), ne_eqb c.args.number 4095 c.if-number-eq4095.false)
     (ap value (to_z-of_z w32 (pos n -ℤ pos 1000) (less_fits n (omega arith))))
-
-pub overflow_mul-scaled : goal.overflow_mul-scaled
-overflow_mul-scaled c = omega arith

@@ -8,24 +8,6 @@ use Rattle.ucp_meanings.specs.Meanings.{degrees_e7}
 use Rattle.ucp_meanings.proofs.Scaled.{wider, scaled_fits, steps_fit}
 use Rattle.ucp_meanings.proofs.degrees_e7.Goals as goal
 
-pub overflow_cast-result : goal.overflow_cast-result
-overflow_cast-result c =
-    let z = c.args.number in
-    rw (to_z-of_z w32 z c.ranges.number) (wider z c.ranges.number)
-
-pub overflow_mul-result : goal.overflow_mul-result
-overflow_mul-result c =
-    let z = c.args.number in
-    let f = c.ranges.number in
-    rw (to_z-of_z w32 z f, to_z-of_z w64 z (wider z f)) (scaled_fits z f)
-
-pub nonzero_div-result : goal.nonzero_div-result
-nonzero_div-result c =
-    let z = c.args.number in
-    let f = c.ranges.number in
-    rw (to_z-of_z w32 z f, to_z-of_z w64 z (wider z f), to_z-of_z w64 (z *ℤ pos 1800000000) (scaled_fits z f))
-    (omega arith, steps_fit (z *ℤ pos 1800000000) (scaled_fits z f))
-
 pub returns : goal.returns
 unfolding degrees_e7
 returns c =

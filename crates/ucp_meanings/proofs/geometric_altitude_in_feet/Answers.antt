@@ -8,14 +8,6 @@ use Rattle.ucp_meanings.specs.Meanings.{geometric_means}
 use Rattle.ucp_meanings.proofs.Scaled.{times_fits}
 use Rattle.ucp_meanings.proofs.geometric_altitude_in_feet.Goals as goal
 
-pub overflow_cast-result : goal.overflow_cast-result
-overflow_cast-result c = rw (to_z-of_z w16 c.args.number c.ranges.number) (wider c.args.number c.ranges.number)
-
-pub overflow_mul-result : goal.overflow_mul-result
-overflow_mul-result c =
-    let z = c.args.number in
-    rw (to_z-of_z w16 z c.ranges.number, to_z-of_z w32 z (wider z c.ranges.number)) (times_fits z 5 c.ranges.number (omega arith))
-
 pub returns : goal.returns
 unfolding geometric_means
 returns c =

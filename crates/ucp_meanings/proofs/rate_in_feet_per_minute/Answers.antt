@@ -13,17 +13,6 @@ pub returns-then-number-eqminus2048 : goal.returns-then-number-eqminus2048
 unfolding rate_means
 returns-then-number-eqminus2048 c = rw (no_rate c.args.number c.ranges.number c.if-number-eqminus2048.true)
 
-pub overflow_cast-result : goal.overflow_cast-result
-overflow_cast-result c =
-    let z = c.args.number in
-    rw (to_z-of_z w16 z c.ranges.number) (wider z c.ranges.number)
-
-pub overflow_mul-result : goal.overflow_mul-result
-overflow_mul-result c =
-    let z = c.args.number in
-    let f = c.ranges.number in
-    rw (to_z-of_z w16 z f, to_z-of_z w32 z (wider z f)) (times_fits z 64 f (omega arith))
-
 pub returns : goal.returns
 unfolding rate_means
 returns c =

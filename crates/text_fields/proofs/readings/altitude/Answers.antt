@@ -7,7 +7,7 @@ use mir.Syntax.{w64}
 use mir.ValLaws.{to_z_pos, to_z-of_z}
 use borrow.Author.Tests.{eq-eqb, ne_eqb}
 use Rattle.ucp_meanings.specs.Meanings.{altitude_means}
-use Rattle.text_fields.specs.declared.Reading.TheVariants.{Known}
+use Rattle.std.specs.Prelude.{Some}
 use Rattle.text_fields.proofs.Marks.{less_fits}
 use Rattle.text_fields.proofs.readings.altitude.Goals as goal
 
@@ -25,4 +25,4 @@ unfolding altitude_means
 returns c =
     let n = c.args.n * 25 in
     rw (to_z_pos w64 n (omega arith), ne_eqb c.args.n 4095 c.if-n-eq4095.false)
-    (ap Known (to_z-of_z w64 (pos n -ℤ pos 1000) (less_fits n (omega arith))))
+    (ap Some (to_z-of_z w64 (pos n -ℤ pos 1000) (less_fits n (omega arith))))

@@ -1,7 +1,0 @@
--- `text_fields::natural_at` meets its contract, with an element and without. Assumes nothing.
-use mathlib.Core.Path.{sym}
-use lib.ListN.{get_or-eq_default}
-use Rattle.text_fields.proofs.natural_at.Goals as goal
-
-pub returns : goal.returns
-returns c = sym (get_or-eq_default c.args.numbers.now 0 c.if-i-numbers.false)

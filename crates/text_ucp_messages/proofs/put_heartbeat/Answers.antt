@@ -1,9 +1,0 @@
--- `text_ucp_messages::put_heartbeat` meets its contract: its template over its numbers is its fields. Assumes nothing.
-use Rattle.text_fields.specs.Fields.{fields_shown}
-use Rattle.text_fields.specs.Templates.{filled}
-use Rattle.text_ucp_messages.specs.Messages.{message_shown}
-use Rattle.text_ucp_messages.proofs.put_heartbeat.Goals as goal
-
-pub returns : goal.returns
-unfolding message_shown fields_shown filled
-returns c = c.put_fields.ensures
