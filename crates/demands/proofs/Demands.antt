@@ -22,7 +22,8 @@ use Rattle.ucp_writer.specs.Room.{frame_due}
 use Rattle.ucp_writer.specs.Refusals.{FrameWriterRefuses}
 use Rattle.ucp_writer.specs.Sends.{send_due}
 use Rattle.refusals.specs.Numbers as because
-use Rattle.ucp_receiver.specs.declared.Answer.TheVariants.{Nothing}
+use Rattle.std.specs.Prelude.{None}
+use Rattle.c_ucp_receiver.proofs.Numbers.{refusal_told}
 use Rattle.c_ucp_receiver.specs.Numbers.{answer_in, answer_value, OwnNumbers}
 use Rattle.thm_mavlink_messages.proofs.Tabled.{tabled_mavlink}
 use Rattle.thm_mavlink_messages.proofs.Examples as packet-examples
@@ -112,9 +113,9 @@ linked_no_body : {line_after : List ℕ} {kind value : ℕ} {output output_then 
     → RefusalOrSilence (receiver_answer (answer_in kind value)) output output_then → LinkedRefusalOrSilence kind value output output_then
 linked_no_body {kind = kind} {value = value} own so =
     record {
-      refuses = λ e. so.refuses value (ap (λ (n : ℕ). receiver_answer (answer_in n value)) e);
+      refuses = λ e. so.refuses value (refusal_told own e);
       silent = λ e.
-          let told : answer_in kind value ≡ Nothing = ap (λ (n : ℕ). answer_in n value) e in
+          let told : answer_in kind value ≡ None = ap (λ (n : ℕ). answer_in n value) e in
           (own.value ∙ ap answer_value told, so.silent (ap receiver_answer told));
       no_other = λ not-2 not-0. other (eqb kind 1) refl not-2 not-0;
     }
@@ -174,6 +175,7 @@ demand1 =
           (refused_so body output number (sym e ∙ w.answers), w.leaves ∙ ap (output_after (frame body) output) e);
       linked_writer_refuses = linked_writer_refuses;
       refusal_writes_nothing = λ due octets output after r number w e. w.leaves ∙ ap (output_after octets output) e;
+      refusal_leaves_output = λ due octets output number e. ap (output_after octets output) e;
       message_reader_refuses = λ body r number d. along d (tabled_message (kind_in body) body number);
       message_reader_refuses10 = λ body r d. along d (messages.exactly_10 body);
       message_reader_refuses11 = λ body r d. along d (messages.exactly_11 body);

@@ -20,13 +20,12 @@ use Rattle.crc_x25.specs.Check.{x25}
 use Rattle.crc_x25.specs.CrcCode.{crc_calculate}
 use Rattle.refusals.specs.Numbers as because
 use Rattle.ucp_frame.specs.Frame.{frame, longest_body, longest_frame}
-use Rattle.output_writing.specs.declared.Written.{Written}
-use Rattle.output_writing.specs.Writing.{WriterAnswer, refused, wrote, writer_answer, Writing}
+use Rattle.output_writing.specs.Writing.{Written, WriterAnswer, refused, wrote, writer_answer, Writing, output_after}
 use Rattle.ucp_writer.specs.Writes.{WritesFrame}
 use Rattle.ucp_writer.specs.Refusals.{WrongBodyLength, NoRoomForFrame, RoomForFrame, FrameWriterRefuses}
 use Rattle.mavlink_frame.specs.declared.Header.{Header}
 use Rattle.mavlink_messages.specs.declared.Message as mavlink
-use Rattle.mavlink_messages.specs.declared.Read.{Read as MavlinkRead}
+use Rattle.mavlink_messages.specs.Messages.{MavlinkRead}
 use Rattle.mavlink_messages.specs.Messages as MavlinkReads
 use Rattle.mavlink_messages.specs.Messages.{read_due, write_due, message_frame, in_range, payload_of}
 use Rattle.mavlink_messages.specs.Refusals.{MavlinkShort, MavlinkWrongStart, MavlinkUnknownId, MavlinkWrongLength, MavlinkWrongCheck, MavlinkOutsideRange}
@@ -47,7 +46,6 @@ use Rattle.ucp_receiver.specs.Slice.{Takes}
 use Rattle.ucp_history.specs.History.{answer}
 use Rattle.crc_gdl90_strength.specs.Strength.{TwoBodies, AtMostThreeBits, Within16Bits, Strength}
 use Rattle.ucp_messages.specs.declared.Message as ucp
-use Rattle.ucp_messages.specs.declared.Read as ucp-read
 use Rattle.ucp_messages.specs.Messages.{message_fits, message_body}
 use Rattle.ucp_messages.specs.Kinds.{kind_in}
 use Rattle.ucp_messages.specs.Messages as Reads
@@ -125,22 +123,25 @@ pub record Demand1 : Type 0 where
   pub refusal_writes_nothing :
       (due : WriterAnswer) (octets output after : List ℕ) (r : Written) (number : ℕ) → Writing due octets output r after
       → writer_answer r ≡ refused number → after ≡ output
+  -- and whatever number a refusal has
+  pub refusal_leaves_output :
+      (due : WriterAnswer) (octets output : List ℕ) (number : ℕ) → due ≡ refused number → output_after octets output due ≡ output
   -- ---- messages of the UCP line: readers, 10 to 13; writers, 13, then 8; sends, 13, then as the frame writer
   pub message_reader_refuses :
-      (body : List ℕ) (r : ucp-read.Read) (number : ℕ) → Reads.Reads body r
+      (body : List ℕ) (r : Reads.Read) (number : ℕ) → Reads.Reads body r
       → (Reads.reader_answer r ≡ Reads.refused number)
       ↔ ((number ≡ Reads.refusal_in (kind_in body) body) × (10 ≤ number) × (number ≤ 13))
   pub message_reader_refuses10 :
-      (body : List ℕ) (r : ucp-read.Read) → Reads.Reads body r
+      (body : List ℕ) (r : Reads.Read) → Reads.Reads body r
       → (Reads.reader_answer r ≡ Reads.refused because.unknown_id) ↔ UnknownId body
   pub message_reader_refuses11 :
-      (body : List ℕ) (r : ucp-read.Read) → Reads.Reads body r
+      (body : List ℕ) (r : Reads.Read) → Reads.Reads body r
       → (Reads.reader_answer r ≡ Reads.refused because.message_length) ↔ WrongMessageLength body
   pub message_reader_refuses12 :
-      (body : List ℕ) (r : ucp-read.Read) → Reads.Reads body r
+      (body : List ℕ) (r : Reads.Read) → Reads.Reads body r
       → (Reads.reader_answer r ≡ Reads.refused because.fixed) ↔ WrongFixedOctet body
   pub message_reader_refuses13 :
-      (body : List ℕ) (r : ucp-read.Read) → Reads.Reads body r
+      (body : List ℕ) (r : Reads.Read) → Reads.Reads body r
       → (Reads.reader_answer r ≡ Reads.refused because.field) ↔ FieldOutsideRange body
   pub message_writer_refuses :
       (m : ucp.Message) (payload output after : List ℕ) (r : Written) (number : ℕ)

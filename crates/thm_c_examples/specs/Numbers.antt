@@ -1,12 +1,12 @@
 -- Worked examples of what C has as numbers: the receiver's line, phases and answers by the names and places of
 -- include/ostrogosz/ucp.h, what a raw number means, and the failures of a status. Two numbers exchanged, in the definition and in its
 -- inverse alike, make one of these fail. Assumes nothing.
-use Rattle.std.specs.Prelude.{◌≡◌, List, [], ◌∷◌, ℕ, pos, negsuc}
+use Rattle.std.specs.Prelude.{◌≡◌, List, [], ◌∷◌, ℕ, pos, negsuc, None, Some, Ok, Err}
 use Rattle.ucp_meanings.specs.Meanings.{no_data, value}
 use Rattle.ucp_receiver.specs.declared.Phase.{Phase}
 use Rattle.ucp_receiver.specs.declared.Phase.TheVariants.{Hunting, Reading, Escape, BadEscape, TooLong}
-use Rattle.ucp_receiver.specs.declared.Answer.{Answer}
-use Rattle.ucp_receiver.specs.declared.Answer.TheVariants.{Nothing, Delivered, Refused}
+use Rattle.refusals.specs.declared.Refusal.TheVariants.{WrongCheck}
+use Rattle.ucp_receiver.specs.Answers.{Answer}
 use Rattle.ucp_receiver.specs.declared.Record.{Record}
 use Rattle.mavlink_messages.specs.Failures.{failures_in}
 use Rattle.c_ucp_meanings.specs.Measures.{measure_of}
@@ -42,9 +42,9 @@ pub record NumberExamples : Type 0 where
   pub bad_escape : IsPhase 3 BadEscape
   pub too_long : IsPhase 4 TooLong
   pub greater : phase_of 5 ≡ TooLong
-  pub no_answer : IsAnswer 0 0 Nothing
-  pub delivered : IsAnswer 1 9 (Delivered 9)
-  pub refused : IsAnswer 2 5 (Refused 5)
+  pub no_answer : IsAnswer 0 0 None
+  pub delivered : IsAnswer 1 9 (Some (Ok 9))
+  pub refused : IsAnswer 2 5 (Some (Err WrongCheck))
   -- ---- what a raw number means: 0 and 0 for no data, 1 beside a value
   pub no_measure : measure_of no_data ≡ record { known = 0; value = pos 0 }
   pub measure : measure_of (value (negsuc 999)) ≡ record { known = 1; value = negsuc 999 }

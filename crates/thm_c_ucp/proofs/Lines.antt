@@ -12,7 +12,8 @@ use Rattle.c_ucp_receiver.proofs.Numbers.{receives, takes}
 use Rattle.thm_ucp_receiver.specs.Line.{Observed}
 use Rattle.thm_ucp_receiver.specs.Lines.{Handed, handed_to}
 use Rattle.thm_ucp_receiver.specs.Slice.{ObservedSlice}
-use Rattle.thm_ucp_receiver.proofs.Lines.{answer_given, answer_same, called, called_receives, every_line}
+use Rattle.thm_ucp_receiver.proofs.Answered.{run_told}
+use Rattle.thm_ucp_receiver.proofs.Lines.{called, called_receives, every_line}
 use Rattle.thm_c_ucp.specs.Receiver.{in_numbers}
 use Rattle.thm_c_ucp.specs.Slices.{LinkedTake, by_octet, by_slice, LinkedTakes, slice_in_numbers}
 use Rattle.thm_c_ucp.specs.Lines.{handed_to_linked, HandedTake, an_octet, a_slice, handed_take, AllOctets, EveryLinkedLine}
@@ -33,7 +34,7 @@ sliced s c xs output =
       output = output;
       given = record {
         receiver = record { rest = r.state.rest; counts = r.counts };
-        answer = answer_given r.verdict;
+        answer = (run_told s c xs (length output)).answer;
         taken = r.taken;
       };
       store_after = r.state.store;
@@ -69,7 +70,7 @@ takes_over store line (a_slice xs output ∷ ts) small =
     let o : ObservedSlice = sliced s (counts_in line) xs output in
     let rest = takes_over o.store_after (record_numbers o.given.receiver) ts small.1 in
     let taken : Takes (record_in line) store xs output o.given o.store_after o.output_then =
-    record { state = refl; account = refl; taken = refl; answers = answer_same (slice_run s (counts_in line) xs (length output)).verdict; puts = refl } in
+    record { state = refl; account = refl; taken = refl; answers = (run_told s (counts_in line) xs (length output)).tells; puts = refl } in
     record {
       calls = by_slice (slice_in_numbers o) ∷ rest.calls;
       met = (

@@ -8,10 +8,9 @@ use Rattle.refusals.specs.Numbers as because
 use Rattle.ucp_frame.specs.Frame.{frame}
 use Rattle.ucp_frame.specs.Stretch.{Verdict, silent, refused, delivered}
 use Rattle.ucp_history.specs.History.{Call, cut_at_flags, open_stretch, answer}
-use Rattle.ucp_receiver.specs.declared.Answer.{Answer}
 use Rattle.ucp_receiver.specs.declared.Record.{Record}
 use Rattle.ucp_receiver.specs.declared.Rest.{Rest}
-use Rattle.ucp_receiver.specs.Answers.{refusal, receiver_answer, answer_for}
+use Rattle.ucp_receiver.specs.Answers.{Answer, refusal, receiver_answer, answer_for}
 use Rattle.ucp_receiver.specs.Octet.{fresh_record, no_octets, Receives}
 use Rattle.crc_gdl90_strength.proofs.Caught.{strength}
 use Rattle.c_ucp_receiver.specs.Numbers.{phase_number, record_in, record_numbers, answer_in, kind_told, value_told, answer_kind, answer_value, OwnNumbers}

@@ -6,10 +6,13 @@ use Prim.Native.Nat.{ℕ, ◌≤◌}
 use native.Mathlib.Omega.{arith}
 use borrow.Author.Tests.{ne_eqb}
 use lib.ListN.{length}
-use Rattle.output_writing.specs.declared.Written.{Written}
-use Rattle.output_writing.specs.declared.Written.TheVariants.{Wrote, Refused}
+use mathlib.Core.Bool.{Bool, true, false, cond, ◌||◌}
+use lib.Dec.{eqb, ltb}
+use Rattle.std.specs.Prelude.{Ok, Err}
+use Rattle.refusals.specs.Refusals.{refusal_number}
+use Rattle.refusals.specs.declared.Refusal.TheVariants as why
 use Rattle.output_writing.specs.declared.OstrogoszWritten.{OstrogoszWritten}
-use Rattle.output_writing.specs.Writing.{WriterAnswer, refused, wrote, writer_answer, output_after, written_numbers, WritingNumbers}
+use Rattle.output_writing.specs.Writing.{Written, WriterAnswer, refused, wrote, writer_answer, output_after, written_numbers, WritingNumbers}
 use Rattle.ucp_frame.specs.Frame.{frame, frames_of, longest_body}
 use Rattle.ucp_writer.specs.Room.{frame_due}
 use Rattle.ucp_writer.specs.Writes.{WritesFrame}
@@ -22,13 +25,22 @@ use Rattle.thm_c_ucp.specs.Writer.{LinkedWrite, LinkedWrites, write_in_numbers, 
 
 -- ---- the calls that the numbers stand for
 
+-- a frame writer refuses with 7 and 8 alone
 abbrev written_as : WriterAnswer → Written
-written_as (refused number) = Refused number
-written_as (wrote octets) = Wrote octets
+written_as (refused number) = cond (eqb number 7) (Err why.BodyLength) (Err why.OutputLength)
+written_as (wrote octets) = Ok octets
 
-written_as_lem : (a : WriterAnswer) → writer_answer (written_as a) ≡ a
-written_as_lem (refused number) = refl
-written_as_lem (wrote octets) = refl
+abbrev Back : WriterAnswer → Type 0
+Back a = writer_answer (written_as a) ≡ a
+
+back_either : (t : Bool) (x y : WriterAnswer) → Back x → Back y → Back (cond t x y)
+back_either true x y p q = p
+back_either false x y p q = q
+
+written_back : (body output : List ℕ) → Back (frame_due body output)
+unfolding frame_due
+written_back body output =
+    back_either (eqb (length body) 0 || ltb longest_body (length body)) _ _ refl (back_either (ltb (length output) (length (frame body))) _ _ refl refl)
 
 module _ (w : LinkedWrite) (m : WritesFrameNumbers w.body w.output w.given w.after) where
   abbrev due : WriterAnswer
@@ -43,8 +55,8 @@ module _ (w : LinkedWrite) (m : WritesFrameNumbers w.body w.output w.given w.aft
         after = w.after;
         writes =
             record {
-              answers = written_as_lem due;
-              leaves = m.leaves ∙ ap (output_after (frame w.body) w.output) (sym (written_as_lem due));
+              answers = written_back w.body w.output;
+              leaves = m.leaves ∙ ap (output_after (frame w.body) w.output) (sym (written_back w.body w.output));
             };
       }
 
@@ -54,7 +66,7 @@ module _ (w : LinkedWrite) (m : WritesFrameNumbers w.body w.output w.given w.aft
       record {
         body = w.body;
         output = w.output;
-        given = (ap written_numbers (written_as_lem due) ∙ sym m.answers) i;
+        given = (ap written_numbers (written_back w.body w.output) ∙ sym m.answers) i;
         after = w.after;
       }
 
@@ -88,8 +100,9 @@ numbers_of r = written_numbers (writer_answer r)
 
 one_adds : (body output : List ℕ) (r : Written) (after : List ℕ) → WritesFrame body output r after
     → (linked_adds (numbers_of r) after ≡ adds r after) × (linked_accepts (numbers_of r) body ≡ accepts r body)
-one_adds body output (Wrote octets) after w = (refl, refl)
-one_adds body output (Refused number) after w =
+one_adds body output (Ok octets) after w = (refl, refl)
+one_adds body output (Err refusal) after w =
+    let number = refusal_number refusal in
     let n = ne_eqb number 0 (no_zero number (refused_so body output number w.answers)) in
     (rw n, rw n)
 

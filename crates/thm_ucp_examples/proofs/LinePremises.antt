@@ -11,8 +11,9 @@ use Rattle.ucp_frame.specs.Stretch.{unstuffed, at_flag, judged, verdict}
 use Rattle.ucp_history.specs.History.{cut_at_flags, open_stretch, answer}
 use Rattle.ucp_receiver.specs.Octet.{storing, state_after, verdict_due, counts_after}
 use Rattle.ucp_receiver.specs.Slice.{slice_run}
-use Rattle.output_writing.specs.declared.Written.{Written}
-use Rattle.output_writing.specs.declared.Written.TheVariants.{Wrote, Refused as NotWritten}
+use Rattle.std.specs.Prelude.{Ok, Err}
+use Rattle.refusals.specs.declared.Refusal.TheVariants as why
+use Rattle.output_writing.specs.Writing.{Written}
 use Rattle.ucp_writer.specs.Room.{frame_due}
 use Rattle.ucp_writer.specs.Writes.{WritesFrame}
 use Rattle.crc_gdl90_strength.proofs.Premises.{octets}
@@ -78,9 +79,9 @@ writer_call_met =
       no_body = record { answers = refl; leaves = refl };
       no_room = record { answers = refl; leaves = refl };
       not_unwritten = λ w. let z : ◌≡◌ {A = ℕ} 0xAA 0x7E = ap (λ (l : List ℕ). get_or l 0 0) w.leaves in omega arith;
-      calls = called short_body writer_output (Wrote 6) (short_frame ++ (0xAA ∷ [])) (record { answers = refl; leaves = refl })
-          ∷ called [] writer_output (NotWritten 7) writer_output (record { answers = refl; leaves = refl })
-          ∷ called short_body (replicate 5 0xAA) (NotWritten 8) (replicate 5 0xAA) (record { answers = refl; leaves = refl })
+      calls = called short_body writer_output (Ok 6) (short_frame ++ (0xAA ∷ [])) (record { answers = refl; leaves = refl })
+          ∷ called [] writer_output (Err why.BodyLength) writer_output (record { answers = refl; leaves = refl })
+          ∷ called short_body (replicate 5 0xAA) (Err why.OutputLength) (replicate 5 0xAA) (record { answers = refl; leaves = refl })
           ∷ [];
       bodies = refl;
       line = refl;

@@ -1,13 +1,12 @@
 -- Calls that meet the premises of what is said of lines, slices and writers, and calls beside them that don't: a premise that is read
 -- otherwise makes one of these fail. Assumes nothing.
-use Rattle.std.specs.Prelude.{◌≡◌, List, [], ◌∷◌, ◌++◌, map, ℕ, ◌-◌, length, take, replicate}
+use Rattle.std.specs.Prelude.{◌≡◌, List, [], ◌∷◌, ◌++◌, map, ℕ, ◌-◌, length, take, replicate, None, Some, Ok, Err}
 use Rattle.refusals.specs.Numbers as because
-use Rattle.output_writing.specs.declared.Written.TheVariants.{Wrote, Refused as NotWritten}
+use Rattle.refusals.specs.declared.Refusal.TheVariants as why
 use Rattle.ucp_frame.specs.Frame.{frame}
 use Rattle.ucp_frame.specs.Stretch.{delivered, refused, store_octets}
 use Rattle.ucp_history.specs.History.{cut_at_flags, open_stretch, answer}
-use Rattle.ucp_receiver.specs.declared.Answer.{Answer}
-use Rattle.ucp_receiver.specs.declared.Answer.TheVariants.{Nothing, Delivered}
+use Rattle.ucp_receiver.specs.Answers.{Answer}
 use Rattle.ucp_receiver.specs.declared.Counts.{Counts}
 use Rattle.ucp_receiver.specs.declared.Phase.TheVariants.{Reading}
 use Rattle.ucp_writer.specs.Writes.{WritesFrame}
@@ -77,12 +76,12 @@ slice_call line taken answer counts stored output_then =
 -- 55 7E 2C 01, which is taken whole and brings no answer
 abbrev pub first_slice : ObservedSlice
 first_slice =
-    slice_call (0x55 ∷ 0x7E ∷ 0x2C ∷ 0x01 ∷ []) 4 Nothing (record { flags = 1; delivered = 0; refused = 0; skipped = 1; unclosed = 2 }) short_body (0x00 ∷ 0x00 ∷ [])
+    slice_call (0x55 ∷ 0x7E ∷ 0x2C ∷ 0x01 ∷ []) 4 None (record { flags = 1; delivered = 0; refused = 0; skipped = 1; unclosed = 2 }) short_body (0x00 ∷ 0x00 ∷ [])
 
 -- 01 2C 7E 01, of which three are taken: the flag brings the body, and the octet behind it is left
 abbrev pub second_slice : ObservedSlice
 second_slice =
-    slice_call (0x01 ∷ 0x2C ∷ 0x7E ∷ 0x01 ∷ []) 3 (Delivered 2) (record { flags = 2; delivered = 4; refused = 0; skipped = 1; unclosed = 0 }) [] short_body
+    slice_call (0x01 ∷ 0x2C ∷ 0x7E ∷ 0x01 ∷ []) 3 (Some (Ok 2)) (record { flags = 2; delivered = 4; refused = 0; skipped = 1; unclosed = 0 }) [] short_body
 
 pub record SliceLineMet : Type 0 where
   pub line : SliceLine (first_slice ∷ second_slice ∷ [])
@@ -101,11 +100,11 @@ writer_output = 0xAA ∷ 0xAA ∷ 0xAA ∷ 0xAA ∷ 0xAA ∷ 0xAA ∷ 0xAA ∷ [
 
 pub record WriterCallMet : Type 0 where
   -- accepted with an octet to spare, refused with 7 for no body, refused with 8 for an output of 5
-  pub accepted : WritesFrame short_body writer_output (Wrote 6) (short_frame ++ (0xAA ∷ []))
-  pub no_body : WritesFrame [] writer_output (NotWritten 7) writer_output
-  pub no_room : WritesFrame short_body (replicate 5 0xAA) (NotWritten 8) (replicate 5 0xAA)
+  pub accepted : WritesFrame short_body writer_output (Ok 6) (short_frame ++ (0xAA ∷ []))
+  pub no_body : WritesFrame [] writer_output (Err why.BodyLength) writer_output
+  pub no_room : WritesFrame short_body (replicate 5 0xAA) (Err why.OutputLength) (replicate 5 0xAA)
   -- it is no call of the writer that says so and writes nothing
-  pub not_unwritten : WritesFrame short_body writer_output (Wrote 6) writer_output → ⊥
+  pub not_unwritten : WritesFrame short_body writer_output (Ok 6) writer_output → ⊥
   pub calls : List WriterCall
   pub bodies : map (λ (c : WriterCall). c.body) calls ≡ short_body ∷ [] ∷ short_body ∷ []
   pub line : line_octets calls ≡ short_frame
