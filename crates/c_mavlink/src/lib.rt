@@ -18,6 +18,7 @@ ghost use Rattle.c_mavlink.specs.Failures.{failure_numbers};
 use refusals::Refusal;
 
 // What kind of frame stands at the start of an input.
+// Stays: numbers side by side. It is the struct of the C header, and C has no `Result`.
 #[repr(C)]
 #[derive(Clone, Copy)]
 pub struct OstrogoszMavlinkId {
@@ -30,6 +31,7 @@ pub struct OstrogoszMavlinkId {
 }
 
 // The failures that a status reports.
+// Stays: 0 where no failure is set. It is the struct of the C header, and C has no `Option`.
 #[repr(C)]
 #[derive(Clone, Copy)]
 pub struct OstrogoszMavlinkFailures {

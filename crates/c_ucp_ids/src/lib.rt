@@ -6,6 +6,8 @@ ghost use Rattle.c_ucp_ids.specs.Ids.{id_due, ucp_id_numbers};
 
 use refusals::Refusal;
 
+// The ID of a body, or why it has none.
+// Stays: numbers side by side. It is the struct of the C header, and C has no `Result`.
 #[repr(C)]
 #[derive(Clone, Copy)]
 pub struct OstrogoszId {

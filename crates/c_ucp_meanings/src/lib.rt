@@ -6,6 +6,7 @@ ghost use Rattle.ucp_meanings.specs.Meanings.{altitude_means, rate_means, geomet
 ghost use Rattle.c_ucp_meanings.specs.Measures.{measure_of, IsMeasured};
 
 // A value, or no data.
+// Stays: a number that says whether there is a value. It is the struct of the C header, and C has no `Option`.
 #[repr(C)]
 #[derive(Clone, Copy)]
 pub struct OstrogoszMeasure {

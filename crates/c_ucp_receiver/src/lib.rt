@@ -14,6 +14,7 @@ pub type RecordNumbers = [u32; 7];
 const STORE_OCTETS: u32 = ucp_receiver::STORE_OCTETS as u32;
 
 // kind: 0 nothing, 1 delivered, 2 refused. value: how many octets were delivered, or the refusal's number.
+// Stays: numbers, as `OstrogoszTaken` below. They are structs of the C header, and C has no enum with values.
 #[repr(C)]
 #[derive(Clone, Copy, Debug, PartialEq, Eq)]
 pub struct OstrogoszAnswer {

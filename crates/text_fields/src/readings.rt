@@ -53,6 +53,7 @@ pub fn long_reading(mark: u8, n: i32) -> Option<i64>
 
 // ---- by what messages 10, 11 and 20 mean
 
+// Stays: apart from `ucp_meanings::altitude_in_feet`, which takes 16 bits. A template's natural has 32, and the rule is over any number.
 pub fn altitude(n: u32) -> Option<i64>
     ensures { result ≡ meant_reading (altitude_means n) }
 {
