@@ -74,8 +74,8 @@ pub fn no_text() -> Text
     }
 }
 
-// Stays: the new form is no plainer: these six differ in their integer's type, its octets and the library's method, which no const
-// parameter chooses.
+// Stays: the two orders apart, and 16 bits apart from 24 and 32: they differ in the library's method and in their integer's type,
+// which no const parameter chooses.
 
 // ---- most significant octet first
 pub fn big_16(octets: &[u8], at: u8) -> u16

@@ -75,7 +75,8 @@ fn to_bits(number: i32, half: u32) -> u32
 }
 
 // Stays: the new form is no plainer: of 12 and of 24 bits each function is one call of what both share, and a const parameter, as in
-// signed::<2048>(bits) as i16, would only move the half and the cast to each caller.
+// signed::<2048>(bits) as i16, would only move the half and the cast to each caller. Of 16 and of 32 bits
+// each is the library's method of its type.
 pub fn signed_12(bits: u16) -> i16
     ensures { result ≡ signed 2048 bits }
 {

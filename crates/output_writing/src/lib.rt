@@ -10,6 +10,7 @@ use refusals::Refusal;
 pub type Written = Result<usize, Refusal>;
 
 // The same as two numbers, for C.
+// Stays: a number for a refusal. It is the struct of the C header, and C has no `Result`.
 #[repr(C)]
 #[derive(Clone, Copy)]
 pub struct OstrogoszWritten {
