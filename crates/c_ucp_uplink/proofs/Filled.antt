@@ -1,32 +1,31 @@
--- What a payload's octets are once a body's are stored over all of them, and a loop that stores them. Assumes nothing.
-use mathlib.Core.Path.{◌≡◌, sym, ap, ◌∙◌}
+-- What a payload's octets are once a body's are stored over all of them. Assumes nothing.
+use mathlib.Core.Path.{◌≡◌, ap, ◌∙◌}
+use mathlib.Core.Bool.{Bool, cond}
 use mathlib.Core.List.{List, ◌++◌, append-nil}
-use Prim.Native.Nat.{ℕ, suc, ◌+◌, ◌-◌, ◌<◌}
-use native.Mathlib.Nat.{zero-add}
-use native.Mathlib.Numerals.{add-one}
+use Prim.Native.Nat.{ℕ, ◌-◌}
 use native.Mathlib.Omega.{arith}
-use lib.ListN.{length, get_or, take, drop, set, length-drop}
-use lib.Seq.{take_all, drop-length, paste-suc}
+use borrow.Author.Tests.{le-leb}
+use lib.Dec.{leb}
+use lib.ListN.{length, take, drop, length-drop}
+use lib.Seq.{take_all, drop-length}
 
 -- the part of a body that is lent
 behind_is : (body : List ℕ) → take (length body - 1) (drop 1 body) ≡ drop 1 body
 behind_is body = take_all (length body - 1) (drop 1 body) (simp length-drop (omega arith))
 
-pub all_stored : (body before : List ℕ) {after : List ℕ} → length body ≡ 436 → length before ≡ 435
-    → after ≡ take (length body - 1) (drop 1 body) ++ drop (length (take (length body - 1) (drop 1 body))) before → after ≡ drop 1 body
-all_stored body before n m is =
-    let size : length (take (length body - 1) (drop 1 body)) ≡ length before = ap length (behind_is body) ∙ simp length-drop (omega arith) in
-    is
-    ∙ ap (λ (k : ℕ). take (length body - 1) (drop 1 body) ++ drop k before) size
-    ∙ ap (λ (l : List ℕ). take (length body - 1) (drop 1 body) ++ l) (drop-length before)
-    ∙ append-nil (take (length body - 1) (drop 1 body))
-    ∙ behind_is body
+module _ (octets before : List ℕ) {r : Bool} {after : List ℕ} (n : length octets ≡ length before) where
+  over_all : r ≡ leb (length octets) (length before) → after ≡ cond r (octets ++ drop (length octets) before) before → after ≡ octets
+  over_all e is =
+      is
+      ∙ ap (λ (t : Bool). cond t (octets ++ drop (length octets) before) before) (e ∙ le-leb (length octets) (length before) (omega arith))
+      ∙ ap (λ (k : ℕ). octets ++ drop k before) n
+      ∙ ap (λ (l : List ℕ). octets ++ l) (drop-length before)
+      ∙ append-nil octets
 
--- one octet more, at the start of the list
-pub copied_more : (to «from» : List ℕ) (i : ℕ) → i < length to → i < length «from»
-    → set (take i «from» ++ drop i to) i (get_or «from» i 0) ≡ take (i + 1) «from» ++ drop (i + 1) to
-copied_more to «from» i ht hf =
-    ap (λ (k : ℕ). set (take i «from» ++ drop k to) k (get_or «from» i 0)) (sym (zero-add i))
-    ∙ paste-suc to 0 «from» i 0 (omega arith) hf
-    ∙ ap (λ (k : ℕ). take (suc i) «from» ++ drop k to) (zero-add (suc i))
-    ∙ ap (λ (k : ℕ). take k «from» ++ drop k to) (sym (add-one i))
+pub all_stored : (body before : List ℕ) {r : Bool} {after : List ℕ} → length body ≡ 436 → length before ≡ 435
+    → r ≡ leb (length (take (length body - 1) (drop 1 body))) (length before)
+    → after ≡ cond r (take (length body - 1) (drop 1 body) ++ drop (length (take (length body - 1) (drop 1 body))) before) before
+    → after ≡ drop 1 body
+all_stored body before n m e is =
+    let size : length (drop 1 body) ≡ length before = simp length-drop (omega arith) in
+    over_all (take (length body - 1) (drop 1 body)) before (ap length (behind_is body) ∙ size) e is ∙ behind_is body

@@ -1,8 +1,7 @@
 // Message 7, Uplink, for C: the payload lies in the caller's octets.
 #![tactic(auto)]
 
-ghost use Rattle.std.specs.Prelude.{◌≡◌, ◌++◌, ◌≤◌, length, drop};
-ghost use Rattle.ucp_answers.specs.Writes.{WritesBody};
+ghost use Rattle.std.specs.Prelude.{◌≡◌, length, drop};
 ghost use Rattle.ucp_messages.specs.Uplink7.{uplink_fits, uplink_body};
 ghost use Rattle.ucp_writer.specs.Sends.{SendsBody};
 ghost use Rattle.c_lent.specs.Steps.{number_in};
@@ -12,24 +11,12 @@ use output_writing::{OstrogoszWritten, Written};
 use refusals::Refusal;
 use ucp_frame::FrameBuffer;
 
-// Stores octets at the start of an output that has room for them.
-// Stays: a loop, and not `field_layout::store`, whose `copy_from_slice` calls C's memmove: the archive calls memcpy and memset at most,
-// and that is C's interface.
-fn store(octets: &[u8], output: &mut [u8])
-    requires { length octets.now ≤ length output.old }
-    ensures { output.new ≡ octets.now ++ drop (length octets.now) output.old }
-{
-    for i in 0..octets.len() {
-        output[i] = octets[i];
-    }
-}
-
 // All octets behind the first.
 fn fill(body: &[u8], payload: &mut [u8])
     requires { (length body.now ≡ 436) × (length payload.old ≡ 435) }
     ensures { payload.new ≡ drop 1 body.now }
 {
-    store(&body[1..], payload);
+    field_layout::store(&body[1..], payload);
 }
 
 fn read(body: &[u8], payload: &mut [u8; 435]) -> Result<(), Refusal>
@@ -47,32 +34,17 @@ pub fn ostrogosz_ucp_read_uplink(body: &[u8], payload: &mut [u8; 435]) -> u32
     c_lent::read_number(read(body, payload))
 }
 
-// Writes the body, as `ucp_messages::uplink_7::write` does.
-fn write(payload: &[u8], output: &mut [u8]) -> Written
-    ensures { WritesBody (uplink_fits payload.now) (uplink_body payload.now) output.old result output.new }
-{
-    if payload.len() != 435 {
-        return Err(Refusal::Field);
-    }
-    if output.len() < 436 {
-        return Err(Refusal::OutputLength);
-    }
-    output[0] = 7;
-    store(payload, &mut output[1..]);
-    Ok(436)
-}
-
 // Writes the body that carries a payload: 13 for another length than 435, then 8.
 pub fn ostrogosz_ucp_write_uplink(payload: &[u8], output: &mut [u8]) -> OstrogoszWritten
     ensures { WritesUplink payload.now output.old result output.new }
 {
-    OstrogoszWritten::from(write(payload, output))
+    OstrogoszWritten::from(ucp_messages::uplink_7::write(payload, output))
 }
 
 fn send(payload: &[u8], buffer: &mut FrameBuffer) -> Written
     ensures { SendsBody (uplink_fits payload.now) (uplink_body payload.now) buffer.old result buffer.new }
 {
-    let octets = write(payload, buffer)?;
+    let octets = ucp_messages::uplink_7::write(payload, buffer)?;
     ucp_writer::frame_in_place(buffer, octets)
 }
 

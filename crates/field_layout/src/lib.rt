@@ -151,12 +151,16 @@ pub fn bit(value: bool) -> u8
 }
 
 // Stores octets at the start of an output that has room for them, and says whether it had.
+// Stays: a loop, since `copy_from_slice` of any length calls C's memmove, and the archive, which stores uplinks by it, calls memcpy and
+// memset at most: that is C's interface.
 pub fn store(octets: &[u8], output: &mut [u8]) -> bool
     ensures { (result ≡ leb (length octets.now) (length output.old)) × (output.new ≡ cond result (octets.now ++ drop (length octets.now) output.old) output.old) }
 {
     if output.len() < octets.len() {
         return false;
     }
-    output[..octets.len()].copy_from_slice(octets);
+    for i in 0..octets.len() {
+        output[i] = octets[i];
+    }
     true
 }
