@@ -7,11 +7,12 @@ use Prim.Native.Nat.{ℕ, ◌<◌}
 use native.Mathlib.Omega.{arith}
 use borrow.Author.Tests.{eqb-true, eqb-false, ne_eqb}
 use lib.Dec.{eqb}
-use lib.ListN.{length, get_or}
-use Rattle.field_format.specs.Format.{Format, HasId}
+use lib.ListN.{length, get_or, drop}
+use Rattle.field_format.specs.Format.{Format, HasId, stand_at, body_size, value_in}
 use Rattle.std.specs.Prelude.{Result, Ok, Err, MatchResult, IsOkAnd}
 use Rattle.std.specs.Result.{result_and}
 use Rattle.refusals.specs.declared.Refusal.{Refusal}
+use Rattle.ucp_answers.specs.Refusals.{reads}
 use Rattle.ucp_answers.proofs.Answers as answers
 use Rattle.ucp_answers.proofs.Readers.{in_other_terms}
 use Rattle.ucp_messages.specs.Uplink7.{uplink_refusal}
@@ -133,11 +134,27 @@ module _ {A : Type 0} (message : A → Message) where
   mapped (Ok a) (Err e) h = absurd h
 
 module _ {A : Type 0} {k : Kind} {f : Format A} {message : A → Message} (l : LawfulFormat k f message) {body : List ℕ} (starts : StartsWith (get_or f.head 0 0) body) where
+  by_format : {answer : ReaderAnswer} → answer ≡ reads f refused (λ a. means (message a)) body → answer ≡ message_due body
+  by_format e = by_id k body (subst (λ (i : KindId). HasKindId i (get_or body 0 0)) (sym l.id_is) starts.first) starts.some (e ∙ sym (l.answer_is body))
+
   pub as_message : (value : Result A Refusal) (answer : Result Message Refusal) → ReadsValue f body value → Mapped message value answer → Reads body answer
   unfolding meaning
   as_message value answer e h =
-      by_id k body (subst (λ (i : KindId). HasKindId i (get_or body 0 0)) (sym l.id_is) starts.first) starts.some
-      (mapped message value answer h ∙ ap (meaning message) e ∙ answers.in-terms-of f (meaning message) Err Ok body ∙ sym (l.answer_is body))
+      by_format (mapped message value answer h ∙ ap (meaning message) e ∙ answers.in-terms-of f (meaning message) Err Ok body)
+
+  -- by the kind's tests
+  pub refused_11 : (length body ≡ body_size f → ⊥) → refused 11 ≡ message_due body
+  refused_11 n = by_format (answers.refused_11 f refused (λ a. means (message a)) body n)
+
+  pub refused_12 : length body ≡ body_size f → stand_at true 1 (drop 1 f.head) body ≡ false → refused 12 ≡ message_due body
+  refused_12 n h = by_format (answers.refused_12 f refused (λ a. means (message a)) body n h)
+
+  module _ (n : length body ≡ body_size f) (h : stand_at true 1 (drop 1 f.head) body ≡ true) {a : A} (e : a ≡ value_in f body) where
+    pub refused_13 : f.ranges a ≡ false → refused 13 ≡ message_due body
+    refused_13 r = by_format (answers.refused_13 f refused (λ x. means (message x)) body n h e r)
+
+    pub accepted : f.ranges a ≡ true → means (message a) ≡ message_due body
+    accepted r = by_format (answers.accepted f refused (λ x. means (message x)) body n h e r)
 
 -- an uplink has no value
 pub as_uplink : {body : List ℕ} → StartsWith 7 body → (answer : Result (Unit {0}) Refusal) → ReadsUplinkBody body answer → Reads body (result_and answer (Ok message.Uplink))
