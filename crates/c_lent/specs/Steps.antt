@@ -1,5 +1,6 @@
 -- What the calls of more than one kind do. Assumes nothing.
-use Rattle.std.specs.Prelude.{true, List, [], ◌∷◌, ℕ, ◌/◌, ◌%◌, eqb, length, Result, Ok, Err}
+use Rattle.std.specs.Prelude.{true, cond, List, [], ◌∷◌, ℕ, ◌/◌, ◌%◌, eqb, length, Result, Ok, Err}
+use Rattle.output_writing.specs.declared.OstrogoszWritten.{OstrogoszWritten}
 use Rattle.refusals.specs.Refusals.{refusal_number}
 use Rattle.refusals.specs.declared.Refusal.{Refusal}
 use Rattle.ucp_answers.specs.Refusals.{refusal_by}
@@ -17,3 +18,7 @@ two_of n = n % 256 ∷ n / 256 ∷ []
 abbrev pub number_in : Result (Unit {0}) Refusal → ℕ
 number_in (Ok done) = 0
 number_in (Err refusal) = refusal_number refusal
+
+-- what a writer answers, from a refusal's number, or from 0 and how many octets it wrote
+abbrev pub numbered_answer : ℕ → ℕ → OstrogoszWritten
+numbered_answer refusal length = record { refusal = refusal; length = cond (eqb refusal 0) length 0 }

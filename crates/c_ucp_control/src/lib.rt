@@ -160,7 +160,7 @@ fn write(message: &[u8], output: &mut [u8]) -> Result<(), Refusal>
 pub fn ostrogosz_ucp_write_control(message: &[u8; 24], output: &mut [u8]) -> OstrogoszWritten
     ensures { WritesStructBody control_format (held control_struct message.now) output.old result output.new }
 {
-    c_lent::numbered(write(message, output), 18)
+    c_lent::written_numbers(write(message, output), 18)
 }
 
 // ---- sending

@@ -73,7 +73,7 @@ pub fn ostrogosz_ucp_write_geometric_altitude(
 ) -> OstrogoszWritten
     ensures { WritesStructBody geometric_format (held geometric_struct message.now) output.old result output.new }
 {
-    c_lent::numbered(write(message, output), 5)
+    c_lent::written_numbers(write(message, output), 5)
 }
 
 // ---- sending
@@ -87,5 +87,5 @@ pub fn ostrogosz_ucp_send_geometric_altitude(
     ensures { SendsStruct geometric_format (held geometric_struct message.now) buffer.old result buffer.new }
 {
     let written = write(message, buffer);
-    OstrogoszWritten::from(c_lent::frame_written(written, 5, buffer))
+    OstrogoszWritten::from(c_lent::frame_if_written(written, 5, buffer))
 }

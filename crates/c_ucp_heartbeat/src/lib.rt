@@ -72,7 +72,7 @@ fn write(message: &[u8; 6], output: &mut [u8]) -> Result<(), Refusal>
 pub fn ostrogosz_ucp_write_heartbeat(message: &[u8; 6], output: &mut [u8]) -> OstrogoszWritten
     ensures { WritesStructBody heartbeat_format (held heartbeat_struct message.now) output.old result output.new }
 {
-    c_lent::numbered(write(message, output), 7)
+    c_lent::written_numbers(write(message, output), 7)
 }
 
 // ---- sending
@@ -83,5 +83,5 @@ pub fn ostrogosz_ucp_send_heartbeat(message: &[u8; 6], buffer: &mut FrameBuffer)
     ensures { SendsStruct heartbeat_format (held heartbeat_struct message.now) buffer.old result buffer.new }
 {
     let written = write(message, buffer);
-    OstrogoszWritten::from(c_lent::frame_written(written, 7, buffer))
+    OstrogoszWritten::from(c_lent::frame_if_written(written, 7, buffer))
 }

@@ -151,7 +151,7 @@ fn write_body(message: &[u8; 24], output: &mut [u8]) -> Result<(), Refusal>
 pub fn ostrogosz_ucp_write_initialization(message: &[u8; 24], output: &mut [u8]) -> OstrogoszWritten
     ensures { WritesStructBody initialization_format (held initialization_struct message.now) output.old result output.new }
 {
-    c_lent::numbered(write_body(message, output), 19)
+    c_lent::written_numbers(write_body(message, output), 19)
 }
 
 // ---- sending
@@ -165,5 +165,5 @@ pub fn ostrogosz_ucp_send_initialization(
     ensures { SendsStruct initialization_format (held initialization_struct message.now) buffer.old result buffer.new }
 {
     let written = write_body(message, buffer);
-    OstrogoszWritten::from(c_lent::frame_written(written, 19, buffer))
+    OstrogoszWritten::from(c_lent::frame_if_written(written, 19, buffer))
 }

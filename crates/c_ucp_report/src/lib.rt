@@ -339,13 +339,13 @@ fn write_body(id: u8, message: &[u8; 40], output: &mut [u8]) -> Result<(), Refus
 pub fn ostrogosz_ucp_write_ownship(message: &[u8; 40], output: &mut [u8]) -> OstrogoszWritten
     ensures { WritesStructBody (report_format 10) (held report_struct message.now) output.old result output.new }
 {
-    c_lent::numbered(write_body(10, message, output), 28)
+    c_lent::written_numbers(write_body(10, message, output), 28)
 }
 
 pub fn ostrogosz_ucp_write_traffic(message: &[u8; 40], output: &mut [u8]) -> OstrogoszWritten
     ensures { WritesStructBody (report_format 20) (held report_struct message.now) output.old result output.new }
 {
-    c_lent::numbered(write_body(20, message, output), 28)
+    c_lent::written_numbers(write_body(20, message, output), 28)
 }
 
 // ---- sending
@@ -356,7 +356,7 @@ fn send(id: u8, message: &[u8; 40], buffer: &mut FrameBuffer) -> OstrogoszWritte
     ensures { SendsStruct (report_format id) (held report_struct message.now) buffer.old result buffer.new }
 {
     let written = write_body(id, message, buffer);
-    OstrogoszWritten::from(c_lent::frame_written(written, 28, buffer))
+    OstrogoszWritten::from(c_lent::frame_if_written(written, 28, buffer))
 }
 
 // Writes the frame of the message that a struct holds at the start of buffer, and leaves what is behind it: 13.

@@ -70,7 +70,7 @@ fn write(message: &[u8; 1], output: &mut [u8]) -> Result<(), Refusal>
 pub fn ostrogosz_ucp_write_request(message: &[u8; 1], output: &mut [u8]) -> OstrogoszWritten
     ensures { WritesStructBody request_format (held request_struct message.now) output.old result output.new }
 {
-    c_lent::numbered(write(message, output), 3)
+    c_lent::written_numbers(write(message, output), 3)
 }
 
 // ---- sending
@@ -81,5 +81,5 @@ pub fn ostrogosz_ucp_send_request(message: &[u8; 1], buffer: &mut FrameBuffer) -
     ensures { SendsStruct request_format (held request_struct message.now) buffer.old result buffer.new }
 {
     let written = write(message, buffer);
-    OstrogoszWritten::from(c_lent::frame_written(written, 3, buffer))
+    OstrogoszWritten::from(c_lent::frame_if_written(written, 3, buffer))
 }

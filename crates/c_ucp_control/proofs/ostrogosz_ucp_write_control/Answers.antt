@@ -3,4 +3,4 @@ use Rattle.output_writing.proofs.Numbers.{as_numbers}
 use Rattle.c_ucp_control.proofs.ostrogosz_ucp_write_control.Goals as goal
 
 pub returns : goal.returns
-returns c = as_numbers c.numbered.ensures c.write.ensures
+returns c = as_numbers c.written_numbers.ensures c.write.ensures

@@ -13,4 +13,4 @@ returns c =
     let a = c.args in
     let m = held initialization_struct a.message.now in
     as_numbers c.from.ensures (struct_sends initialization_format m a.buffer.now _ 19 _ (search rules) (omega (arith, body_length m)) (omega (arith, body_length m))
-    c.write_body-written.ensures c.frame_written.ensures)
+    c.write_body-written.ensures c.frame_if_written.ensures)

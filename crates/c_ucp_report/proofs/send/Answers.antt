@@ -14,4 +14,4 @@ returns c =
     let report = held report_struct a.message.now in
     let size = body_length a.id report in
     as_numbers c.from.ensures (struct_sends (report_format a.id) report a.buffer.now _ 28 _ (search rules) (omega (arith, size)) (omega (arith, size))
-    c.write_body-written.ensures c.frame_written.ensures)
+    c.write_body-written.ensures c.frame_if_written.ensures)

@@ -13,4 +13,4 @@ returns c =
     let a = c.args in
     let m = held request_struct a.message.now in
     as_numbers c.from.ensures (struct_sends request_format m a.buffer.now _ 3 _ (search rules) (omega (arith, body_length m)) (omega (arith, body_length m))
-    c.write-written.ensures c.frame_written.ensures)
+    c.write-written.ensures c.frame_if_written.ensures)
