@@ -9,21 +9,13 @@ use borrow.Author.Tests.{eqb-true, eqb-false, ne_eqb}
 use lib.Dec.{eqb}
 use lib.ListN.{length, get_or, drop}
 use Rattle.field_format.specs.Format.{Format, HasId, stand_at, body_size, value_in}
-use Rattle.std.specs.Prelude.{Result, Ok, Err, MatchResult, IsOkAnd}
-use Rattle.std.specs.Result.{result_and}
-use Rattle.refusals.specs.declared.Refusal.{Refusal}
 use Rattle.ucp_answers.specs.Refusals.{reads}
 use Rattle.ucp_answers.proofs.Answers as answers
-use Rattle.ucp_answers.proofs.Readers.{in_other_terms}
-use Rattle.ucp_messages.specs.Uplink7.{uplink_refusal}
 use Rattle.ucp_messages.specs.declared.Kind.{Kind}
 use Rattle.ucp_messages.specs.declared.Kind.TheVariants.{Unknown}
-use Rattle.ucp_messages.specs.declared.Kind.TheVariants as kind
 use Rattle.ucp_messages.specs.Kinds.{KindId, its, none, kind_row, known_kinds, listed, ids_of, AndNoneOf, NoneOf, HasKindId, NamedBy, known_ids, is_kind_id, first_named, kind_of, kind_in, StartsWith}
 use Rattle.ucp_messages.specs.declared.Message.{Message}
-use Rattle.ucp_messages.specs.declared.Message.TheVariants as message
-use Rattle.ucp_messages.specs.Messages.{ReaderAnswer, refused, means, reader_answer, answer_as, message_due, Reads}
-use Rattle.ucp_messages.specs.Steps.{number_or_zero, ReadsValue, ReadsUplinkBody}
+use Rattle.ucp_messages.specs.Messages.{ReaderAnswer, refused, means, answer_as, message_due}
 use Rattle.ucp_messages.proofs.Formats.{LawfulFormat, Lawful, formatted, uplink, unknown, lawful}
 
 -- ---- a number that is none of a list's, one by one
@@ -117,32 +109,11 @@ unfolding answer_as
 no_kind [] h = refl
 no_kind (x ∷ xs) h = by_id Unknown (x ∷ xs) h (omega arith) refl
 
--- ---- the answer to a body, by what its kind's reader gives
-module _ {A : Type 0} (message : A → Message) where
-  meaning : Result A ℕ → ReaderAnswer
-  meaning (Err number) = refused number
-  meaning (Ok a) = means (message a)
-
-  -- the value is mapped to its message
-  abbrev pub Mapped : Result A Refusal → Result Message Refusal → Type 0
-  Mapped value answer = MatchResult value (λ a. IsOkAnd answer (λ m. m ≡ message a)) (λ e. answer ≡ Err e)
-
-  mapped : (value : Result A Refusal) (answer : Result Message Refusal) → Mapped value answer → reader_answer answer ≡ meaning (number_or_zero value)
-  unfolding meaning
-  mapped (Err e) answer h = ap reader_answer h
-  mapped (Ok a) (Ok m) h = ap means h
-  mapped (Ok a) (Err e) h = absurd h
-
+-- ---- the answers to a body of a kind that has a format, by the kind's tests
 module _ {A : Type 0} {k : Kind} {f : Format A} {message : A → Message} (l : LawfulFormat k f message) {body : List ℕ} (starts : StartsWith (get_or f.head 0 0) body) where
   by_format : {answer : ReaderAnswer} → answer ≡ reads f refused (λ a. means (message a)) body → answer ≡ message_due body
   by_format e = by_id k body (subst (λ (i : KindId). HasKindId i (get_or body 0 0)) (sym l.id_is) starts.first) starts.some (e ∙ sym (l.answer_is body))
 
-  pub as_message : (value : Result A Refusal) (answer : Result Message Refusal) → ReadsValue f body value → Mapped message value answer → Reads body answer
-  unfolding meaning
-  as_message value answer e h =
-      by_format (mapped message value answer h ∙ ap (meaning message) e ∙ answers.in-terms-of f (meaning message) Err Ok body)
-
-  -- by the kind's tests
   pub refused_11 : (length body ≡ body_size f → ⊥) → refused 11 ≡ message_due body
   refused_11 n = by_format (answers.refused_11 f refused (λ a. means (message a)) body n)
 
@@ -155,17 +126,3 @@ module _ {A : Type 0} {k : Kind} {f : Format A} {message : A → Message} (l : L
 
     pub accepted : f.ranges a ≡ true → means (message a) ≡ message_due body
     accepted r = by_format (answers.accepted f refused (λ x. means (message x)) body n h e r)
-
--- an uplink has no value
-pub as_uplink : {body : List ℕ} → StartsWith 7 body → (answer : Result (Unit {0}) Refusal) → ReadsUplinkBody body answer → Reads body (result_and answer (Ok message.Uplink))
-unfolding answer_as
-as_uplink {body} starts answer e =
-    by_id kind.Uplink body starts.first starts.some (uplink_means answer ∙ ap uplink_meaning e ∙ in_other_terms uplink_meaning Err (uplink_refusal body) (Ok tt))
-  where
-    uplink_meaning : Result (Unit {0}) ℕ → ReaderAnswer
-    uplink_meaning (Err number) = refused number
-    uplink_meaning (Ok nothing) = means message.Uplink
-
-    uplink_means : (r : Result (Unit {0}) Refusal) → reader_answer (result_and r (Ok message.Uplink)) ≡ uplink_meaning (number_or_zero r)
-    uplink_means (Err e) = refl
-    uplink_means (Ok nothing) = refl

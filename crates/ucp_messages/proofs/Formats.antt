@@ -1,13 +1,17 @@
 -- The formats of the kinds are right, and agree with the kinds' rows. A kind more has a line in each list here; every other law about all
 -- kinds goes over `lawful` or `made_of`. Assumes nothing.
-use mathlib.Core.Path.{◌≡◌, refl, ap}
+use mathlib.Core.Path.{◌≡◌, refl, sym, ap, ◌∙◌}
 use mathlib.Core.List.{List, [], ◌∷◌}
-use Prim.Native.Nat.{ℕ, ◌≤◌}
+use Prim.Native.Nat.{ℕ, ◌<◌, ◌≤◌}
 use native.Mathlib.Omega.{arith}
 use lib.ListN.{length, get_or, drop}
 use Rattle.field_format.specs.Format.{Format, Right, HasId, offsets, body_size, fits, body_of, value_in}
-use Rattle.ucp_answers.specs.Refusals.{refusal_of, reads}
+use Rattle.std.specs.Prelude.{Result, Ok, Err}
+use Rattle.ucp_answers.specs.Refusals.{unless_refused, refusal_of, reads}
+use Rattle.ucp_answers.proofs.Answers.{in-terms-of}
+use Rattle.ucp_answers.proofs.Readers.{in_other_terms}
 use Rattle.ucp_messages.specs.Heartbeat0.{heartbeat_format}
+use Rattle.ucp_messages.specs.Uplink7.{uplink_refusal}
 use Rattle.ucp_messages.specs.Report10.{report_format}
 use Rattle.ucp_messages.specs.GeometricAltitude11.{geometric_format}
 use Rattle.ucp_messages.specs.Request44.{request_format}
@@ -18,7 +22,7 @@ use Rattle.ucp_messages.specs.declared.Kind.TheVariants as kind
 use Rattle.ucp_messages.specs.declared.Message.{Message}
 use Rattle.ucp_messages.specs.declared.Message.TheVariants.{Heartbeat, Uplink, Ownship, GeometricAltitude, Traffic, Request, Control, Initialization}
 use Rattle.ucp_messages.specs.Kinds.{its, kind_row, Carried, value, carried_by, kind_length, fixed_octets, kind_of, kind_in}
-use Rattle.ucp_messages.specs.Messages.{refused, means, refusal_in, answer_as, carried_fits, carried_body, message_fits, message_body}
+use Rattle.ucp_messages.specs.Messages.{ReaderAnswer, refused, means, refusal_in, answer_as, message_due, carried_fits, carried_body, message_fits, message_body}
 use Rattle.ucp_messages.specs.Refusals.{fields_in_range}
 
 pub heartbeat_right : Right heartbeat_format
@@ -233,3 +237,54 @@ made_of (Request a) = of_format kind.Request request_format Request a request_la
 made_of (Control a) = of_format kind.Control control_format Control a control_lawful refl
 made_of (Initialization a) = of_format kind.Initialization initialization_format Initialization a initialization_lawful refl
 made_of Uplink = of_uplink
+
+-- ---- what a body means, by its ID and what its kind's reader gives: what `read_message` needs of each kind
+abbrev pub meaning : {A : Type 0} → (A → Message) → Result A ℕ → ReaderAnswer
+meaning message (Err number) = refused number
+meaning message (Ok a) = means (message a)
+
+-- the kind of a body, by its ID
+kind_due : {k : Kind} (id : ℕ) → kind_of id ≡ k → (body : List ℕ) → 0 < length body → get_or body 0 0 ≡ id → message_due body ≡ answer_as k body
+kind_due id known [] some is = absurd (omega arith)
+kind_due id known (x ∷ xs) some is =
+    ap (λ (n : ℕ). answer_as (kind_of n) (x ∷ xs)) is ∙ ap (λ (j : Kind). answer_as j (x ∷ xs)) known
+
+due : {A : Type 0} {k : Kind} {f : Format A} {message : A → Message} → LawfulFormat k f message → (body : List ℕ) → 0 < length body
+    → get_or body 0 0 ≡ get_or f.head 0 0 → message_due body ≡ meaning message (reads f Err Ok body)
+due {f = f} {message = message} l body some is =
+    kind_due (get_or f.head 0 0) l.first body some is ∙ l.answer_is body ∙ sym (in-terms-of f (meaning message) Err Ok body)
+
+pub heartbeat_due : (body : List ℕ) → 0 < length body → get_or body 0 0 ≡ 0 → message_due body ≡ meaning Heartbeat (reads heartbeat_format Err Ok body)
+heartbeat_due = due heartbeat_lawful
+
+-- an uplink has no value
+pub uplink_due : (body : List ℕ) → 0 < length body → get_or body 0 0 ≡ 7
+    → message_due body ≡ meaning (λ (nothing : Unit {0}). Uplink) (unless_refused Err (uplink_refusal body) (Ok tt))
+unfolding kind_of answer_as
+uplink_due body some is =
+    kind_due 7 refl body some is
+    ∙ sym (in_other_terms (meaning (λ (nothing : Unit {0}). Uplink)) Err (uplink_refusal body) (Ok tt))
+
+pub ownship_due : (body : List ℕ) → 0 < length body → get_or body 0 0 ≡ 10 → message_due body ≡ meaning Ownship (reads (report_format 10) Err Ok body)
+ownship_due = due ownship_lawful
+
+pub geometric_due : (body : List ℕ) → 0 < length body → get_or body 0 0 ≡ 11
+    → message_due body ≡ meaning GeometricAltitude (reads geometric_format Err Ok body)
+geometric_due = due geometric_lawful
+
+-- the two reports have one reader: their formats differ in the ID alone, which it does not look at
+pub traffic_due : (body : List ℕ) → 0 < length body → get_or body 0 0 ≡ 20 → message_due body ≡ meaning Traffic (reads (report_format 10) Err Ok body)
+unfolding value_in refusal_of reads
+traffic_due = due traffic_lawful
+
+pub request_due : (body : List ℕ) → 0 < length body → get_or body 0 0 ≡ 44 → message_due body ≡ meaning Request (reads request_format Err Ok body)
+request_due = due request_lawful
+
+pub control_due : (body : List ℕ) → 0 < length body → get_or body 0 0 ≡ 45 → message_due body ≡ meaning Control (reads control_format Err Ok body)
+control_due = due control_lawful
+
+pub initialization_due : (body : List ℕ) → 0 < length body → get_or body 0 0 ≡ 117
+    → message_due body ≡ meaning Initialization (reads initialization_format Err Ok body)
+initialization_due = due initialization_lawful
+
+pub ruleset kinds_due = (heartbeat_due, uplink_due, ownship_due, geometric_due, traffic_due, request_due, control_due, initialization_due)

@@ -175,7 +175,9 @@ pub fn is_known(kind: Kind) -> bool
 
 // What a body means: the message, of an uplink without its payload, which is the body behind its first octet. Refusals: 10, an
 // unknown ID or no octet; 11, another length than the kind's; 12, a wrong version, signature or subtype; 13, a field outside its
-// range.
+// range. The choice is by the number, as in `kind_of`: so each arm is found by its kind's law in proofs/Formats.antt, and needs no
+// proof of its own.
+#[tactic(auto, using(crate::proofs::Formats::kinds_due, crate::proofs::BodyKind::no_octet, crate::proofs::BodyKind::no_kind))]
 pub fn read_message(body: &[u8]) -> Result<Message, Refusal>
     ensures { Reads body.now result }
 {
