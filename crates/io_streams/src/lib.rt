@@ -22,7 +22,7 @@ pub struct Streams {
     pub errors: Stderr,
 }
 
-// A read or a write failed. It is said on standard error by then.
+// A read or a write failed. It is said on standard error by then, but where the output is a pipe that is closed behind the program.
 #[derive(Clone, Copy, Debug, PartialEq, Eq)]
 pub struct StreamError;
 

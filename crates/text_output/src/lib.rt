@@ -9,7 +9,8 @@ ghost use Rattle.field_words.specs.Words.{octets_up};
 ghost use Rattle.text_output.specs.Pages.{Appends, Clears, Restarts};
 ghost use Rattle.text_output.specs.Text.{hex_digit, hex_pair, is_plain, backslashed, printed_octet, printed, numeral, natural, radix, padded, minus, places, fraction, fixed_point};
 
-use page::{Page, TEXT_ROOM};
+use page::Page;
+pub use page::{TEXT_ROOM, TextRoom};
 
 // How octets are written: as they are; in a text, escaped where they have to be; in hexadecimal, a space before each.
 #[derive(Clone, Copy)]
