@@ -146,6 +146,8 @@ fn received_by(store: &mut Store, line: &RecordNumbers, octet: u8, output: &mut 
     ucp_receiver::octet::receive(record_in(line), store, octet, output)
 }
 
+// Not inlined, so that the call with any other octet doesn't carry it.
+#[inline(never)]
 fn receive_flag(store: &mut Store, line: &mut RecordNumbers, output: &mut [u8]) -> OstrogoszAnswer
     ensures { ReceivesNumbers store.old line.old 0x7E output.old result.kind result.value store.new line.new output.new }
 {

@@ -94,9 +94,7 @@ pub(crate) fn count_octets(counts: Counts, phase: Phase, n: usize) -> Counts
 
 // ---- one octet
 
-// The flag: the answer is due, the store is cleared, and the next stretch begins. A function of its own in the compiled code too, so
-// that no caller carries it for every octet.
-#[inline(never)]
+// The flag: the answer is due, the store is cleared, and the next stretch begins.
 fn receive_flag(receiver: Record, store: &mut Store, output: &mut [u8]) -> Received
     ensures { Receives receiver store.old 0x7E output.old result store.new output.new }
 {
