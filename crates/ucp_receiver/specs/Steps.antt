@@ -1,8 +1,9 @@
 -- What the steps of the receiver ensure: of a stretch that is closed, of an octet that is not taken for a flag, and of a call with a
 -- slice. Assumes nothing.
 use Rattle.std.specs.Prelude.{◌≡◌, ℕ, ◌+◌, ◌<◌, ◌≤◌, List, length, take, drop, ◌≢◌, slice_index, Result, Ok, Err, None, Some}
+use Rattle.std.proofs.lemmas.List.Edits.{sets}
 use Rattle.refusals.specs.declared.Refusal.{Refusal}
-use Rattle.ucp_frame.specs.Stretch.{Verdict}
+use Rattle.ucp_frame.specs.Stretch.{Verdict, store_octets}
 use Rattle.ucp_receiver.specs.Answers.{verdict_of, receiver_answer, answer_for, output_at_flag}
 use Rattle.ucp_frame.specs.Frame.{flag, stuffed}
 use Rattle.ucp_receiver.specs.declared.Phase.{Phase}
@@ -42,6 +43,12 @@ later_by n r = record { state = r.state; counts = r.counts; taken = r.taken + n;
 pub record Plain (line : List ℕ) (n : ℕ) : Type 0 where
   pub within : n ≤ length line
   pub plain : stuffed (take n line) ≡ take n line
+
+-- and they stand in the store behind those that were stored
+pub record StoresPlain (store : List ℕ) (stored : ℕ) (line : List ℕ) (n : ℕ) (store_after : List ℕ) : Type 0 where
+  pub fits : stored + n ≤ store_octets
+  pub plain : Plain line n
+  pub puts : store_after ≡ sets store stored (take n line)
 
 -- none of the first n octets of the line is a flag
 pub record NoFlag (line : List ℕ) (n : ℕ) : Type 0 where

@@ -1,8 +1,8 @@
 // The receiver by the slice: what `receive` does octet by octet, up to and including the octet that brings the next answer.
-ghost use Rattle.std.specs.Prelude.{◌≡◌, ◌≢◌, ℕ, ◌*◌, ◌<◌, ◌≤◌, List, length, take, drop, slice_index, true};
-ghost use Rattle.ucp_frame.specs.Frame.{flag, escape, stuffed};
+ghost use Rattle.std.specs.Prelude.{◌≡◌, ℕ, ◌+◌, ◌<◌, ◌≤◌, List, length};
+ghost use Rattle.ucp_frame.specs.Stretch.{store_octets};
 ghost use Rattle.ucp_receiver.specs.Slice.{Takes};
-ghost use Rattle.ucp_receiver.specs.Steps.{Plain, NoFlag, Ignores, Passes, Turns};
+ghost use Rattle.ucp_receiver.specs.Steps.{StoresPlain, NoFlag, Ignores, Passes, Turns};
 
 use super::{Phase, Record, Rest, Store, Taken};
 
@@ -13,41 +13,36 @@ struct Passed {
     taken: usize,
 }
 
-// None of eight octets is a flag or an escape where it says so.
-fn is_plain(octets: &[u8]) -> bool
-    requires { length octets.now ≡ 8 }
-    ensures { result ≡ true → stuffed octets.now ≡ octets.now }
+// The octets that are stored as they are, eight at a time, up to eight of which one may be a flag or an escape: how many.
+fn put_words(store: &mut Store, stored: usize, line: &[u8]) -> usize
+    requires { stored + length line.now ≤ store_octets }
+    ensures { StoresPlain store.old stored line.now result store.new }
 {
-    ucp_stuffing::is_plain(field_words::little_64(octets, 0))
+    for i in 0..line.len() / 8 {
+        let word = field_words::little_64(line, i * 8);
+        if !ucp_stuffing::is_plain(word) {
+            return i * 8;
+        }
+        field_words::put_64(store, stored + i * 8, word);
+    }
+    line.len() / 8 * 8
 }
 
-// How many times eight octets there are before eight of which one may be a flag or an escape.
-fn plain_words(line: &[u8]) -> usize
-    ensures within { result * 8 ≤ length line.now }
-    ensures plain { (i : ℕ) → i < result → stuffed (take 8 (drop (i * 8) line.now)) ≡ take 8 (drop (i * 8) line.now) }
+// The same, up to the next flag or escape, or as far as the store has room.
+fn put_plain(store: &mut Store, stored: usize, line: &[u8]) -> usize
+    requires { stored ≤ store_octets }
+    ensures { StoresPlain store.old stored line.now result store.new }
 {
-    line.chunks_exact(8)
-        .take_while(|octets| is_plain(octets))
-        .count()
-}
-
-// How many octets there are before the next flag or escape, or the end.
-fn plain_octets(line: &[u8]) -> usize
-    ensures within { result ≤ length line.now }
-    ensures not_flag { (i : ℕ) → i < result → slice_index line.now i ≢ flag }
-    ensures not_escape { (i : ℕ) → i < result → slice_index line.now i ≢ escape }
-{
-    line.iter()
-        .take_while(|octet| !ucp_stuffing::is_escaped(**octet))
-        .count()
-}
-
-// The same, eight at a time as far as that goes.
-fn plain(line: &[u8]) -> usize
-    ensures { Plain line.now result }
-{
-    let n = plain_words(line) * 8;
-    n + plain_octets(&line[n..])
+    let part = &line[..line.len().min(super::STORE_OCTETS - stored)];
+    let words = put_words(store, stored, part);
+    for i in words..part.len() {
+        let octet = part[i];
+        if ucp_stuffing::is_escaped(octet) {
+            return i;
+        }
+        store[stored + i] = octet;
+    }
+    part.len()
 }
 
 // How many octets there are before the next flag, or the end.
@@ -81,9 +76,7 @@ fn pass_plain(receiver: Record, store: &mut Store, line: &[u8]) -> Passed
     if super::STORE_OCTETS < rest.stored {
         return Passed { receiver, taken: 0 };
     }
-    let room = super::STORE_OCTETS - rest.stored;
-    let n = plain(&line[..line.len().min(room)]);
-    super::closing::copy(&line[..n], &mut store[rest.stored..rest.stored + n]);
+    let n = put_plain(store, rest.stored, line);
     Passed {
         receiver: Record {
             rest: Rest {

@@ -1,6 +1,6 @@
 -- A run over a slice of the line, from some place of it on. Assumes nothing.
-use Rattle.std.proofs.Common.{◌≡◌, ℕ, zero, suc, ◌+◌, ◌<◌, ◌≤◌, List, [], ◌∷◌, ◌++◌, length, length-take-le, get_or, take, drop, take-append-drop, take-take, set, sym, refl, ap, ◌∙◌, add-zero, zero-add, add-one, arith, drop-cons, lt-ltb, ne_eqb}
-use lib.Seq.{sets, sets-eq, paste}
+use Rattle.std.proofs.Common.{◌≡◌, ℕ, zero, suc, ◌+◌, ◌<◌, ◌≤◌, List, [], ◌∷◌, ◌++◌, length, length-take-le, get_or, take, drop, take-append-drop, set, sym, refl, ap, ◌∙◌, add-zero, zero-add, add-one, arith, drop-cons, lt-ltb, ne_eqb}
+use lib.Seq.{sets}
 use Rattle.ucp_frame.specs.Frame.{flag, escape, stuffed}
 use Rattle.ucp_frame.specs.Stretch.{Verdict, silent, refused, delivered, store_octets}
 use Rattle.ucp_frame.proofs.Stuffing.{plain_first}
@@ -13,7 +13,7 @@ use Rattle.ucp_receiver.specs.declared.Taken.{Taken}
 use Rattle.ucp_receiver.specs.Answers.{receiver_answer, answer_for, output_at_flag}
 use Rattle.ucp_receiver.specs.Octet.{State, state_after, verdict_due, counts_after, advanced_in, storing, counted_octet, counted_by, state_of}
 use Rattle.ucp_receiver.specs.Slice.{SliceRun, slice_run, later, end_at, Takes}
-use Rattle.ucp_receiver.specs.Steps.{later_by, Plain, Ignores}
+use Rattle.ucp_receiver.specs.Steps.{later_by, StoresPlain, Ignores}
 
 abbrev taken_by : SliceRun → ℕ → SliceRun
 taken_by r n = record { state = r.state; counts = r.counts; taken = n; verdict = r.verdict }
@@ -88,18 +88,14 @@ plain_run (x ∷ xs) store stored left counts room e h =
     ∙ ap (λ (k : ℕ). later_by (suc n) (slice_run (s k) (counted_by Reading (suc n) counts) left room)) place
 
 -- so many of the line, put behind those that are stored
-pub stored_run : (receiver : Record) (store line store_after : List ℕ) (n : ℕ) (counts : Counts) → receiver.rest.phase ≡ Reading → length store ≡ store_octets
-    → receiver.rest.stored + n ≤ store_octets → Plain line n → store_after ≡ paste store receiver.rest.stored (take n line) n
-    → counts ≡ counted_by Reading n receiver.counts → (room : ℕ)
+pub stored_run : (receiver : Record) (store line store_after : List ℕ) (n : ℕ) (counts : Counts) → receiver.rest.phase ≡ Reading
+    → StoresPlain store receiver.rest.stored line n store_after → counts ≡ counted_by Reading n receiver.counts → (room : ℕ)
     → slice_run (state_of receiver.rest store) receiver.counts line room
     ≡ later_by n (slice_run (state_of (record { phase = receiver.rest.phase; stored = receiver.rest.stored + n }) store_after) counts (drop n line) room)
-stored_run receiver store line store_after n counts p long fits plain e c room =
-    let stored = receiver.rest.stored in
-    let most : length (take n line) ≡ n = length-take-le n line plain.within in
-    let put : sets store stored (take n line) ≡ paste store stored (take n line) n =
-    rw (take-take n n line (omega arith)) (rw most at (sets-eq (take n line) store stored (omega arith))) in
-    let run = plain_run (take n line) store stored (drop n line) receiver.counts room plain.plain (omega arith) in
-    rw (p, e, c, ← put) (rw (take-append-drop, most) at run)
+stored_run receiver store line store_after n counts p s c room =
+    let most : length (take n line) ≡ n = length-take-le n line s.plain.within in
+    let run = plain_run (take n line) store receiver.rest.stored (drop n line) receiver.counts room s.plain.plain (omega (arith, s.fits)) in
+    rw (p, s.puts, c) (rw (take-append-drop, most) at run)
 
 -- ---- the octet that may bring an answer
 
