@@ -1,19 +1,40 @@
--- The two rules of a text by the library's words: each octet passes, and those behind the last that is no space. Assumes nothing.
+-- The two rules of a text: each octet passes; and by the library's words those behind the last that is no space. Assumes nothing.
 use mathlib.Core.Path.{◌≡◌, refl, sym, ap, ap₂, ◌∙◌}
 use mathlib.Core.Bool.{Bool, true, false, cond, ◌&&◌, ◌||◌}
 use mathlib.Core.List.{List, [], ◌∷◌, ◌++◌, reverse}
-use Prim.Native.Nat.{ℕ, suc, ◌+◌}
+use Prim.Native.Nat.{ℕ, suc, ◌+◌, ◌<◌, ◌≤◌}
 use native.Mathlib.Omega.{arith}
-use lib.ListN.{drop}
+use lib.ListN.{length, get_or, drop, drop_of_length-le}
+use lib.Seq.{drop-cons}
 use Rattle.std.specs.List.{list_all, prefix_len}
 use Rattle.std.proofs.lemmas.List.{reverse-append}
 use Rattle.std.proofs.lemmas.List.Folds.{list_all-append}
-use Rattle.std.proofs.lemmas.List.Recursion.{same_from_clauses}
 use Rattle.field_texts.specs.Text.{is_letter_or_digit, is_space, all_spaces, is_padded, is_spaced}
 
-pub spaced : (xs : List ℕ) → list_all (λ c. is_letter_or_digit c || is_space c) xs ≡ is_spaced xs
+-- ---- each octet, from the first to the last
+pub spaced_next : (xs : List ℕ) (i : ℕ) (so_far : Bool) {octet : Bool} → i < length xs → octet ≡ (is_letter_or_digit (get_or xs i 0) || is_space (get_or xs i 0))
+    → (so_far && is_spaced (drop i xs)) ≡ is_spaced xs → (so_far && octet && is_spaced (drop (i + 1) xs)) ≡ is_spaced xs
 unfolding is_spaced
-spaced = same_from_clauses (list_all (λ c. is_letter_or_digit c || is_space c)) is_spaced (λ c b. (is_letter_or_digit c || is_space c) && b) refl (λ c cs. refl) (λ c cs. refl)
+spaced_next xs i so_far {octet} within o e =
+    let next : suc i ≡ i + 1 = omega arith in
+    let first : drop i xs ≡ get_or xs i 0 ∷ drop (i + 1) xs = drop-cons xs i 0 within ∙ ap (λ (n : ℕ). get_or xs i 0 ∷ drop n xs) next in
+    joined so_far octet (is_spaced (drop (i + 1) xs))
+    ∙ ap (λ (b : Bool). so_far && (b && is_spaced (drop (i + 1) xs))) o
+    ∙ ap (λ (l : List ℕ). so_far && is_spaced l) (sym first)
+    ∙ e
+  where
+    joined : (a b c : Bool) → ((a && b) && c) ≡ (a && (b && c))
+    joined true b c = refl
+    joined false b c = refl
+
+pub spaced_end : (xs : List ℕ) (i : ℕ) (so_far : Bool) → length xs ≤ i → (so_far && is_spaced (drop i xs)) ≡ is_spaced xs → so_far ≡ is_spaced xs
+unfolding is_spaced
+spaced_end xs i so_far past e =
+    sym (same so_far) ∙ ap (λ (l : List ℕ). so_far && is_spaced l) (sym (drop_of_length-le xs past)) ∙ e
+  where
+    same : (a : Bool) → (a && true) ≡ a
+    same true = refl
+    same false = refl
 
 -- ---- what is behind spaces
 trimmed : List ℕ → Bool
