@@ -115,11 +115,21 @@ impl Page {
         }
     }
 
+    // Three at once where there is room: the page's end lies in memory, and by the octet each waits for the one before.
     fn put_hex(&mut self, octet: u8)
         ensures { Appends self.old (printed_octet Printing.Hex octet) self.new }
     {
-        self.put_octet(b' ');
-        self.put_pair(octet);
+        let at = self.end;
+        if at < TEXT_ROOM - 2 {
+            let n = octet as u64;
+            self.room[at] = b' ';
+            self.room[at + 1] = digit(n / 16);
+            self.room[at + 2] = digit(n % 16);
+            self.end = at + 3;
+        } else {
+            self.put_octet(b' ');
+            self.put_pair(octet);
+        }
     }
 
     fn put_pair(&mut self, octet: u8)
