@@ -81,14 +81,17 @@ fn close(rest: Rest, store: &Store, output: &mut [u8]) -> Answer
 
 // ---- the byte account
 
-// n octets other than the flag, by the phase that they meet.
+// n octets other than the flag, by the phase that they meet. An arm for each, so that compiled the phase is told apart once, here and in
+// `advance`.
 pub(crate) fn count_octets(counts: Counts, phase: Phase, n: usize) -> Counts
     ensures { result ≡ counted_by phase n counts }
 {
     match phase {
         Phase::Hunting => super::account::count_skipped(counts, n),
-        Phase::Reading | Phase::Escape | Phase::BadEscape | Phase::TooLong =>
-            super::account::count_open(counts, n),
+        Phase::Reading => super::account::count_open(counts, n),
+        Phase::Escape => super::account::count_open(counts, n),
+        Phase::BadEscape => super::account::count_open(counts, n),
+        Phase::TooLong => super::account::count_open(counts, n),
     }
 }
 
