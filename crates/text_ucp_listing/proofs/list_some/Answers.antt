@@ -1,12 +1,19 @@
 -- `text_ucp_listing::list_some` meets its contract. The loop's invariant: the lines so far, with those of the octets that are left,
 -- make up the whole. Assumes nothing.
-use Rattle.std.proofs.Common.{◌<◌, length, refl, arith, length-take, length-drop, rules, tests}
+use mathlib.Core.Path.{subst}
+use mathlib.Core.List.{List}
+use Rattle.std.proofs.Common.{◌≡◌, ℕ, ◌<◌, length, refl, arith, length-take, length-drop, rules, tests}
 use Rattle.std.proofs.lemmas.Slice.{between_to_end}
 use Rattle.ucp_receiver.specs.Octet.{state_of}
+use Rattle.text_ucp_listing.specs.Steps.{PutsLine}
 use Rattle.text_ucp_listing.proofs.Whole.{same_long}
 use Rattle.text_ucp_listing.proofs.Runs.{more_so_far, takes_within, slice_ends, text_full, all_so_far}
 use Rattle.text_ucp_listing.proofs.list_some.Goals as goal
 use Rattle.text_ucp_listing.proofs.list_some.Goals.{then-loop-store-test+else-text-at-ge1317, else-loop-store-test}
+
+-- a line at the same place, however that is counted
+placed : {before line after : List ℕ} {place at next : ℕ} → place ≡ at → PutsLine before place line next after → PutsLine before at line next after
+placed {before} {line} {after} {next = next} e put = subst (λ (n : ℕ). PutsLine before n line next after) e put
 
 pub slice_bounds-rest-count : goal.slice_bounds-rest-count
 slice_bounds-rest-count c = (takes_within c.receive_slice-t.ensures).0
@@ -25,7 +32,7 @@ loop-store-preserved c =
     let l = c.loop-store in
     let t = c.receive_slice-t in
     more_so_far l.receiver l.store l.room l.at t.result _ _
-    l.invariant (omega (arith, l.invariant.ends, same_long l.invariant.puts)) t.ensures (search rules) t.auto.output c.put_answer-at.ensures
+    l.invariant (omega (arith, l.invariant.ends, same_long l.invariant.puts)) t.ensures (search rules) t.auto.output (placed (omega arith) c.put_answer-at.ensures)
     (between_to_end l.rest.now t.result.taken (length l.rest.now) (omega arith))
 
 pub returns : goal.returns
