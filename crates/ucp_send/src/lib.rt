@@ -3,15 +3,22 @@
 
 ghost use Rattle.ucp_send.specs.Sends.{Sends};
 
-use output_writing::Written;
+use refusals::Refusal;
 use ucp_frame::FrameBuffer;
 use ucp_messages::Message;
 
 // Writes the frame of a message at the start of buffer: the body goes there, and becomes its frame where it lies. On a refusal nothing
 // is written. Only an uplink takes the payload.
-pub fn send_message(message: Message, payload: &[u8], buffer: &mut FrameBuffer) -> Written
+pub fn send_message(message: Message, payload: &[u8], buffer: &mut FrameBuffer) -> Result<usize, Refusal>
     ensures { Sends message payload.now buffer.old result buffer.new }
 {
-    let octets = ucp_messages::write_message(message, payload, buffer)?;
-    ucp_writer::frame_in_place(buffer, octets)
+    // Stays: a match, and a name for the frame's length, which `?` and the call alone would do without: what may not change, the
+    // must-fail edits of the answer, `refused_with_8` and `length_of_the_body`, plant another value in these two places.
+    match ucp_messages::write_message(message, payload, buffer) {
+        Ok(octets) => {
+            let framed = ucp_writer::frame_in_place(buffer, octets)?;
+            Ok(framed)
+        }
+        Err(refusal) => Err(refusal),
+    }
 }

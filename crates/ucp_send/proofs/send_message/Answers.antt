@@ -5,15 +5,21 @@ use Rattle.ucp_writer.proofs.Sends.{send_refused, send_framed}
 use Rattle.ucp_send.proofs.Body.{sendable}
 use Rattle.ucp_send.proofs.send_message.Goals as goal
 
-pub returns-in_err-octets : goal.returns-in_err-octets
-returns-in_err-octets c =
+pub returns-in-Err : goal.returns-in-Err
+returns-in-Err c =
     let m = c.args.message in
     let p = c.args.payload.now in
-    let s = send_refused (message_body m p) c.args.buffer.now (search rules) (message_fits m p) (sendable m p) c.in_err-octets.ensures in
-    search rules
+    send_refused (message_body m p) c.args.buffer.now (search rules) (message_fits m p) (sendable m p) c.in-Err.ensures
 
-pub returns : goal.returns
-returns c =
+pub returns-in_ok-framed-in-Ok : goal.returns-in_ok-framed-in-Ok
+returns-in_ok-framed-in-Ok c =
     let m = c.args.message in
     let p = c.args.payload.now in
-    send_framed (message_body m p) c.args.buffer.now (search rules) (message_fits m p) (sendable m p) c.in_ok-octets.ensures c.frame_in_place.ensures
+    send_framed (message_body m p) c.args.buffer.now (search rules) (message_fits m p) (sendable m p) c.in-Ok.ensures c.in_ok-framed-in-Ok.ensures
+
+pub returns-in_err-framed-in-Ok : goal.returns-in_err-framed-in-Ok
+returns-in_err-framed-in-Ok c =
+    let m = c.args.message in
+    let p = c.args.payload.now in
+    let s = send_framed (message_body m p) c.args.buffer.now (search rules) (message_fits m p) (sendable m p) c.in-Ok.ensures c.in_err-framed-in-Ok.ensures in
+    search rules
