@@ -9,7 +9,11 @@ use ucp_messages::Message;
 
 // Writes the frame of a message at the start of buffer: the body goes there, and becomes its frame where it lies. On a refusal nothing
 // is written. Only an uplink takes the payload.
-pub fn send_message(message: Message, payload: &[u8], buffer: &mut FrameBuffer) -> Result<usize, Refusal>
+pub fn send_message(
+    message: Message,
+    payload: &[u8],
+    buffer: &mut FrameBuffer,
+) -> Result<usize, Refusal>
     ensures { Sends message payload.now buffer.old result buffer.new }
 {
     // Stays: a match, and a name for the frame's length, which `?` and the call alone would do without: what may not change, the
