@@ -16,8 +16,8 @@ pub fn send_message(
 ) -> Result<usize, Refusal>
     ensures { Sends message payload.now buffer.old result buffer.new }
 {
-    // Stays: a match, and a name for the frame's length, which `?` and the call alone would do without: what may not change, the
-    // must-fail edits of the answer, `refused_with_8` and `length_of_the_body`, plant another value in these two places.
+    // Stays: a match and a name for the frame's length, where `?` and the call alone would do: the must-fail edits `refused_with_8` and
+    // `length_of_the_body`, whose wrong meaning may not change, plant another value in these two places.
     match ucp_messages::write_message(message, payload, buffer) {
         Ok(octets) => {
             let framed = ucp_writer::frame_in_place(buffer, octets)?;
