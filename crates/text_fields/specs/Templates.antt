@@ -2,10 +2,11 @@
 --
 -- A code is four octets. The first says which numbers its own is the next of: '%' natural ones, '&' signed ones of 16 bits, '$'
 -- signed ones of 32. The second says what is shown; the third the scale, by its places behind the point, or how many
--- hexadecimal digits; the fourth the mark for no data, '.' where there is none. '@' alone is for the octets that go with the
--- numbers, quoted.
+-- hexadecimal digits; the fourth the mark for no data, '.' where there is none. '@' is a code of one octet, for the octets that
+-- go with the numbers, quoted.
 use Prim.Native.String.{String}
-use Rattle.std.specs.Prelude.{Bool, cond, ◌&&◌, List, [], ◌∷◌, ◌++◌, ℕ, zero, suc, ◌%◌, eqb, ℤ, pos, get_or, drop, Option, Some}
+use Rattle.std.specs.List.{position_or_len}
+use Rattle.std.specs.Prelude.{Bool, cond, ◌&&◌, ◌||◌, List, [], ◌∷◌, ◌++◌, ℕ, zero, suc, ◌%◌, eqb, ℤ, pos, get_or, take, drop, Option, Some}
 use Rattle.text_output.specs.declared.Scale.{Scale}
 use Rattle.text_output.specs.declared.Scale.TheVariants.{Ones, Hundredths, Thousandths, TenMillionths}
 use Rattle.text_output.specs.Text.{codes}
@@ -107,3 +108,19 @@ filled (suc skip) (x ∷ xs) ns ss ls octets = filled skip xs ns ss ls octets
 filled zero (x ∷ xs) ns ss ls octets =
     piece (x ∷ xs) (get_or ns 0 0) (get_or ss 0 (pos 0)) (get_or ls 0 (pos 0)) octets
     ++ filled (code_tail x) xs (after_natural (is "%" x) ns) (after_integer (is "&" x) ss) (after_integer (is "$" x) ls) octets
+
+-- ---- a template in pieces: a label, which stands for itself, then a code, and so on
+
+-- whether a code begins with an octet
+abbrev pub is_code : ℕ → Bool
+is_code x = is "%" x || is "&" x || is "$" x || is "@" x
+
+-- how many octets stand before the next code, or are left
+abbrev pub label_length : List ℕ → ℕ
+label_length xs = position_or_len is_code xs
+
+abbrev pub label : List ℕ → List ℕ
+label xs = take (label_length xs) xs
+
+abbrev pub from_code : List ℕ → List ℕ
+from_code xs = drop (label_length xs) xs

@@ -3,12 +3,12 @@
 
 mod readings;
 
-ghost use Rattle.std.specs.Prelude.{◌≡◌, get_or, drop};
+ghost use Rattle.std.specs.Prelude.{◌≡◌, ◌≤◌, get_or, drop, length};
 ghost use Rattle.std.specs.Slice.Iter.{iter_rest};
 ghost use Rattle.field_layout.specs.Layout.{text_octets};
 ghost use Rattle.text_output.specs.Pages.{Appends};
 ghost use Rattle.text_fields.specs.Fields.{unit_shown, reading_shown, quoted, truth, shown};
-ghost use Rattle.text_fields.specs.Templates.{scale_of, unit_of, squawk_value, natural_value, short_value, long_value, filled};
+ghost use Rattle.text_fields.specs.Templates.{scale_of, unit_of, squawk_value, natural_value, short_value, long_value, is_code, label_length, label, from_code, filled};
 
 use field_layout::Text;
 use readings::{long_reading, natural_reading, short_reading};
@@ -201,7 +201,33 @@ pub struct Values<'a> {
     pub octets: &'a [u8],
 }
 
-// A template filled in.
+fn is_code(octet: u8) -> bool
+    ensures { result ≡ is_code octet }
+{
+    (octet == b'%') | (octet == b'&') | (octet == b'$') | (octet == b'@')
+}
+
+// How many octets stand before the next code, or are left.
+fn label_length(template: &[u8]) -> usize
+    ensures { (result ≡ label_length template.now) × (result ≤ length template.now) }
+{
+    template
+        .iter()
+        .position(|octet| is_code(*octet))
+        .unwrap_or(template.len())
+}
+
+// Puts what stands before the next code, and tells what is left from there on.
+fn put_label<'a>(page: &mut Page, template: &'a [u8]) -> &'a [u8]
+    ensures shows { Appends page.old (label template.now) page.new }
+    ensures leaves { result.now ≡ from_code template.now }
+{
+    let (label, rest) = template.split_at(label_length(template));
+    page.put_word(label);
+    rest
+}
+
+// A template filled in: a label, then a code, and so on.
 pub fn put_fields(page: &mut Page, template: &[u8], values: Values<'_>)
     ensures { Appends page.old (filled 0 template.now values.entry.naturals.now values.entry.shorts.now values.entry.longs.now values.entry.octets.now) page.new }
 {
@@ -209,10 +235,8 @@ pub fn put_fields(page: &mut Page, template: &[u8], values: Values<'_>)
     let mut shorts = values.shorts.iter();
     let mut longs = values.longs.iter();
     let mut rest = template;
-    page.put_nothing();
-    while let Some((octet, behind)) = rest.split_first() {
-        rest = behind;
-        match *octet {
+    while let Some((code, behind)) = put_label(page, rest).split_first() {
+        match *code {
             b'%' => {
                 put_natural(page, code_at(behind), next_or(&mut naturals, 0));
                 rest = past_code(behind);
@@ -225,8 +249,11 @@ pub fn put_fields(page: &mut Page, template: &[u8], values: Values<'_>)
                 put_long(page, code_at(behind), next_or(&mut longs, 0));
                 rest = past_code(behind);
             }
-            b'@' => put_quoted(page, values.octets),
-            label => page.put_octet(label),
+            // '@', the last of the codes.
+            _ => {
+                put_quoted(page, values.octets);
+                rest = behind;
+            }
         }
     }
 }

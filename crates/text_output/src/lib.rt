@@ -65,11 +65,13 @@ impl Page {
         }
     }
 
-    // No text, from an end that may lie past the room's.
+    // No text, from an end that may lie past the room's. It is tested and not stored, since what comes behind would wait for the store.
     pub fn put_nothing(&mut self)
         ensures { Appends self.old [] self.new }
     {
-        self.end = self.end.min(TEXT_ROOM);
+        if TEXT_ROOM < self.end {
+            self.end = TEXT_ROOM;
+        }
     }
 
     // In one piece where all of it fits.
@@ -115,7 +117,7 @@ impl Page {
         }
     }
 
-    // Three at once where there is room: the page's end lies in memory, and by the octet each waits for the one before.
+    // Three at once where there is room, so that the end is stored once.
     fn put_hex(&mut self, octet: u8)
         ensures { Appends self.old (printed_octet Printing.Hex octet) self.new }
     {
@@ -179,8 +181,15 @@ impl Page {
     fn put_two(&mut self, first: u8, second: u8)
         ensures { Appends self.old (first ∷ second ∷ []) self.new }
     {
-        self.put_octet(first);
-        self.put_octet(second);
+        let at = self.end;
+        if at < TEXT_ROOM - 1 {
+            self.room[at] = first;
+            self.room[at + 1] = second;
+            self.end = at + 2;
+        } else {
+            self.put_octet(first);
+            self.put_octet(second);
+        }
     }
 
     // So many small units, in wholes.
