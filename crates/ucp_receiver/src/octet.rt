@@ -97,7 +97,9 @@ pub(crate) fn count_octets(counts: Counts, phase: Phase, n: usize) -> Counts
 
 // ---- one octet
 
-// The flag: the answer is due, the store is cleared, and the next stretch begins.
+// The flag: the answer is due, the store is cleared, and the next stretch begins. Inlined, since the record would go to a call and
+// back by way of memory, and what comes behind would wait for it.
+#[inline(always)]
 fn receive_flag(receiver: Record, store: &mut Store, output: &mut [u8]) -> Received
     ensures { Receives receiver store.old 0x7E output.old result store.new output.new }
 {
