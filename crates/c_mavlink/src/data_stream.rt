@@ -34,6 +34,7 @@ fn read(input: &[u8], header: &mut [u8; 3], message: &mut [u8; 6]) -> Result<(),
 
 // Reads the message in the frame at the start of input into both structs: 0, or the refusal that is due, and then both are as
 // they were.
+#[inline(never)]
 pub fn ostrogosz_mavlink_read_data_stream(
     input: &[u8],
     header: &mut [u8; 3],
@@ -41,6 +42,8 @@ pub fn ostrogosz_mavlink_read_data_stream(
 ) -> u32
     ensures { ReadsMavlink (read_as 66 input.now) header.old message.old result header.new message.new }
 {
+    // Not inlined in the call for C, which tests its pointer first: in one function that test took a register that the check had
+    // written last, and a call right behind another waited for the other's check.
     c_lent::read_number(read(input, header, message))
 }
 
