@@ -83,7 +83,7 @@ label_ended x xs h = rw h refl
 label_goes_on : (x : ℕ) (xs : List ℕ) → is_code x ≡ false → label_length (x ∷ xs) ≡ suc (label_length xs)
 label_goes_on x xs h = rw h (omega arith)
 
--- what a label leaves begins with a code, if at all
+-- what a label leaves begins with a code; where nothing is left, 37 stands for one
 pub code_first : (xs : List ℕ) → is_code (get_or (from_code xs) 0 37) ≡ true
 code_first [] = refl
 code_first (x ∷ xs) = go (is_code x) refl (code_first xs)
