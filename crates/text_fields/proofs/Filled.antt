@@ -127,8 +127,7 @@ pub code_put : (rest ns : List ℕ) (ss ls : List ℤ) (octets : List ℕ)
     → {first : List ℕ} {start : ℕ} {whole text between after : List ℕ} {at mid next : ℕ} {piece more : List ℕ}
     → length text ≡ text_room → Left first start whole text at (filled 0 rest ns ss ls octets) → Clips text at (label rest) mid between
     → filled 0 (from_code rest) ns ss ls octets ≡ piece ++ more → Clips between mid piece next after
-    → (length after ≡ text_room) × Left first start whole after next more
+    → (next ≤ text_room) × (length after ≡ text_room) × Left first start whole after next more
 code_put rest ns ss ls octets long left p e q =
     let labelled = piece_put long left (filled_from_code rest ns ss ls octets) p in
-    let put = piece_put labelled.1 labelled.2 e q in
-    (put.1, put.2)
+    piece_put labelled.1 labelled.2 e q
